@@ -1,0 +1,4 @@
+-- Theorems about the definitions of specs/, each once over the width W and the fraction bits m.
+pub mod Number
+pub mod Signed
+pub mod Lossless

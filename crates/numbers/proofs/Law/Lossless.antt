@@ -1,0 +1,301 @@
+-- The laws of the lossless code, once over W and m with m + 2 ≤ W: every pattern is restored, and every code below 2 ^ W has exactly one pattern.
+-- With H = 2 ^ (W - 1) and F = 2 ^ (m + 1) as plain numbers, the exponent step is three linear pieces, and so is its inverse.
+use mathlib.Core.Path.{_≡_, refl, sym, ap, ap₂, _∙_}
+use mathlib.Core.Logic.{_⊎_, inl, inr}
+use mathlib.Core.Bool.{Bool, true, false, _||_, cond}
+use Prim.Native.Nat.{ℕ, suc, _+_, _-_, _*_, _/_, _%_, _^_, _≤_, _<_, zero-le}
+use native.Mathlib.Nat.{le-trans, le-of-suc-le-suc, mul-le-mul-right, mod-eq-of-lt, mod-lt, add-comm, div-lt-iff-lt-mul, mod-add-div', two-pow-succ, div-eq-of-lt, le-div-iff-mul-le, one-mul, zero-mul, add-zero, sub-zero, add-mul, div-eq-of-lt-le}
+use native.Mathlib.Omega.{arith}
+use borrow.Author.Tests.{lt-ltb, le-ltb, le-leb, lt-leb, eq-eqb, ne-eqb}
+use lib.Dec.{leb, ltb, eqb}
+use lib.Arith.{digits-div, digits-mod}
+use lib.Pow.{pow-pos, pow-mono, pow-add}
+use Rattle.numbers.specs.Signed.{signedView, folded, unfolded, bitsOf}
+use Rattle.numbers.specs.Lossless.{rotated, field, minus, lowered, stepped, losslessCode, plus, raised, unstepped, unrotated, losslessRestored}
+use Rattle.numbers.proofs.Law.Signed.{unfolded-folded, folded-unfolded, bits-of-view, view-of-bits, bits-below, folded-below}
+use Rattle.numbers.proofs.Law.Number.{le-or-lt, mod-once, minus-plain, minus-wraps, quotient-zero, quotient-some, twice-half}
+
+module _ (W : ℕ) (some : 0 < W) where
+  -- ---- the rotation
+
+  top-bit : (p : ℕ) → p < 2 ^ W → p / 2 ^ (W - 1) < 2
+  top-bit p h = div-lt-iff-lt-mul (pow-pos (W - 1)) .1 (omega (arith, twice-half W some))
+
+  pub unrotated-rotated : (p : ℕ) → p < 2 ^ W → unrotated W (rotated W p) ≡ p
+  unfolding unrotated rotated
+  unrotated-rotated p h =
+      rw (digits-div (p % 2 ^ (W - 1)) (top-bit p h), digits-mod (p % 2 ^ (W - 1)) (top-bit p h)) (mod-add-div' p (2 ^ (W - 1)))
+
+  half-below : (r : ℕ) → r < 2 ^ W → r / 2 < 2 ^ (W - 1)
+  half-below r h = omega (arith, twice-half W some)
+
+  pub rotated-unrotated : (r : ℕ) → r < 2 ^ W → rotated W (unrotated W r) ≡ r
+  unfolding unrotated rotated
+  rotated-unrotated r h =
+      rw (add-comm (r / 2) (r % 2 * 2 ^ (W - 1)), digits-mod (r % 2) (half-below r h), digits-div (r % 2) (half-below r h)) (omega arith)
+
+  pub rotated-below : (p : ℕ) → p < 2 ^ W → rotated W p < 2 ^ W
+  unfolding rotated
+  rotated-below p h =
+      let b : p % 2 ^ (W - 1) < 2 ^ (W - 1) = mod-lt p (pow-pos (W - 1)) in
+      omega (arith, twice-half W some, top-bit p h)
+
+  pub unrotated-below : (r : ℕ) → r < 2 ^ W → unrotated W r < 2 ^ W
+  unfolding unrotated
+  unrotated-below r h = go (le-or-lt (r % 2) 0)
+    where
+      go : (r % 2 ≤ 0) ⊎ (0 < r % 2) → r / 2 + r % 2 * 2 ^ (W - 1) < 2 ^ W
+      go (inl g) = rw (let e : r % 2 ≡ 0 = omega arith in e) (omega (arith, half-below r h, twice-half W some))
+      go (inr g) = rw (let e : r % 2 ≡ 1 = omega arith in e) (omega (arith, half-below r h, twice-half W some))
+
+module _ (W m : ℕ) (room : m + 2 ≤ W) where
+  H-twice : 2 ^ W ≡ 2 ^ (W - 1) + 2 ^ (W - 1)
+  H-twice = twice-half W (omega arith)
+
+  F≤H : 2 ^ (m + 1) ≤ 2 ^ (W - 1)
+  F≤H = pow-mono (omega arith)
+
+  -- ---- the exponent step: zero stays, up to the middle goes below zero, above it comes down by H
+
+  pub stepped-zero : (r : ℕ) → r < 2 ^ (m + 1) → stepped W m r ≡ r
+  unfolding stepped field
+  stepped-zero r h = rw (quotient-zero r (2 ^ (m + 1)) h)
+
+  not-zero : (r : ℕ) → 2 ^ (m + 1) ≤ r → stepped W m r ≡ lowered W m (minus W r (2 ^ (W - 1)))
+  unfolding stepped field
+  not-zero r h = rw (quotient-some r (2 ^ (m + 1)) (pow-pos (m + 1)) h)
+
+  -- the first difference, from the upper half and from the lower
+  minus-half : (r : ℕ) → 2 ^ (W - 1) ≤ r → r < 2 ^ W → minus W r (2 ^ (W - 1)) ≡ r - 2 ^ (W - 1)
+  unfolding minus
+  minus-half r h l = minus-plain (2 ^ W) r (2 ^ (W - 1)) h l
+
+  plus-half : (r : ℕ) → r < 2 ^ (W - 1) → minus W r (2 ^ (W - 1)) ≡ r + 2 ^ (W - 1)
+  unfolding minus
+  plus-half r h = minus-wraps (2 ^ W) r (2 ^ (W - 1)) h (omega (arith, H-twice)) ∙ (let e : r + (2 ^ W - 2 ^ (W - 1)) ≡ r + 2 ^ (W - 1) = omega (arith, H-twice) in e)
+
+  lowers : (r : ℕ) → 2 ^ (m + 1) ≤ r → r < 2 ^ (W - 1) + 2 ^ (m + 1)
+      → lowered W m (minus W r (2 ^ (W - 1))) ≡ minus W (minus W r (2 ^ (W - 1))) (2 ^ (m + 1))
+  unfolding lowered field
+  lowers r h l = go (le-or-lt (2 ^ (W - 1)) r)
+    where
+      go : (2 ^ (W - 1) ≤ r) ⊎ (r < 2 ^ (W - 1)) → lowered W m (minus W r (2 ^ (W - 1))) ≡ minus W (minus W r (2 ^ (W - 1))) (2 ^ (m + 1))
+      go (inl g) = rw (minus-half r g (omega (arith, H-twice, F≤H))) (rw (quotient-zero (r - 2 ^ (W - 1)) (2 ^ (m + 1)) (omega arith)))
+      go (inr g) =
+          rw (plus-half r g)
+          (rw (quotient-some (r + 2 ^ (W - 1)) (2 ^ (m + 1)) (pow-pos (m + 1)) (omega arith), le-leb (2 ^ (W - 1)) (r + 2 ^ (W - 1)) (omega arith)))
+
+  lowered-is : (r : ℕ) → 2 ^ (m + 1) ≤ r → r < 2 ^ (W - 1) + 2 ^ (m + 1)
+      → minus W (minus W r (2 ^ (W - 1))) (2 ^ (m + 1)) ≡ r + 2 ^ (W - 1) - 2 ^ (m + 1)
+  unfolding minus
+  lowered-is r h l = go (le-or-lt (2 ^ (W - 1)) r)
+    where
+      go : (2 ^ (W - 1) ≤ r) ⊎ (r < 2 ^ (W - 1)) → minus W (minus W r (2 ^ (W - 1))) (2 ^ (m + 1)) ≡ r + 2 ^ (W - 1) - 2 ^ (m + 1)
+      go (inl g) =
+          ap (λ (x : ℕ). minus W x (2 ^ (m + 1))) (minus-half r g (omega (arith, H-twice, F≤H)))
+          ∙ minus-wraps (2 ^ W) (r - 2 ^ (W - 1)) (2 ^ (m + 1)) (omega arith) (omega (arith, H-twice, F≤H))
+          ∙ (let e : r - 2 ^ (W - 1) + (2 ^ W - 2 ^ (m + 1)) ≡ r + 2 ^ (W - 1) - 2 ^ (m + 1) = omega (arith, H-twice, F≤H) in e)
+      go (inr g) =
+          ap (λ (x : ℕ). minus W x (2 ^ (m + 1))) (plus-half r g)
+          ∙ minus-plain (2 ^ W) (r + 2 ^ (W - 1)) (2 ^ (m + 1)) (omega arith) (omega (arith, H-twice))
+
+  pub stepped-low : (r : ℕ) → 2 ^ (m + 1) ≤ r → r < 2 ^ (W - 1) + 2 ^ (m + 1) → stepped W m r ≡ r + 2 ^ (W - 1) - 2 ^ (m + 1)
+  stepped-low r h l = not-zero r h ∙ lowers r h l ∙ lowered-is r h l
+
+  keeps : (r : ℕ) → 2 ^ (W - 1) + 2 ^ (m + 1) ≤ r → r < 2 ^ W → lowered W m (minus W r (2 ^ (W - 1))) ≡ minus W r (2 ^ (W - 1))
+  unfolding lowered field
+  keeps r h l =
+      rw (minus-half r (omega arith) l)
+      (rw (quotient-some (r - 2 ^ (W - 1)) (2 ^ (m + 1)) (pow-pos (m + 1)) (omega arith), lt-leb (2 ^ (W - 1)) (r - 2 ^ (W - 1)) (omega (arith, H-twice))))
+
+  pub stepped-high : (r : ℕ) → 2 ^ (W - 1) + 2 ^ (m + 1) ≤ r → r < 2 ^ W → stepped W m r ≡ r - 2 ^ (W - 1)
+  stepped-high r h l = not-zero r (omega arith) ∙ keeps r h l ∙ minus-half r (omega arith) l
+
+  pub unstepped-zero : (s : ℕ) → s < 2 ^ (m + 1) → unstepped W m s ≡ s
+  unfolding unstepped field
+  unstepped-zero s h = rw (quotient-zero s (2 ^ (m + 1)) h)
+
+  pub unstepped-low : (s : ℕ) → 2 ^ (W - 1) ≤ s → s < 2 ^ W → unstepped W m s ≡ s + 2 ^ (m + 1) - 2 ^ (W - 1)
+  unfolding unstepped field raised plus
+  unstepped-low s h l =
+      rw (quotient-some s (2 ^ (m + 1)) (pow-pos (m + 1)) (omega (arith, F≤H)), le-leb (2 ^ (W - 1)) s h) (go (le-or-lt (2 ^ W) (s + 2 ^ (m + 1))))
+    where
+      go : (2 ^ W ≤ s + 2 ^ (m + 1)) ⊎ (s + 2 ^ (m + 1) < 2 ^ W)
+          → ((s + 2 ^ (m + 1)) % 2 ^ W + 2 ^ (W - 1)) % 2 ^ W ≡ s + 2 ^ (m + 1) - 2 ^ (W - 1)
+      go (inl g) =
+          rw (mod-once (s + 2 ^ (m + 1)) (2 ^ W) g (omega (arith, F≤H, H-twice)))
+          (mod-eq-of-lt (omega (arith, F≤H, H-twice)) ∙ (let e : s + 2 ^ (m + 1) - 2 ^ W + 2 ^ (W - 1) ≡ s + 2 ^ (m + 1) - 2 ^ (W - 1) = omega (arith, H-twice) in e))
+      go (inr g) =
+          rw (mod-eq-of-lt g)
+          (mod-once (s + 2 ^ (m + 1) + 2 ^ (W - 1)) (2 ^ W) (omega (arith, H-twice)) (omega (arith, H-twice))
+          ∙ (let e : s + 2 ^ (m + 1) + 2 ^ (W - 1) - 2 ^ W ≡ s + 2 ^ (m + 1) - 2 ^ (W - 1) = omega (arith, H-twice) in e))
+
+  pub unstepped-high : (s : ℕ) → 2 ^ (m + 1) ≤ s → s < 2 ^ (W - 1) → unstepped W m s ≡ s + 2 ^ (W - 1)
+  unfolding unstepped field raised plus
+  unstepped-high s h l =
+      rw (quotient-some s (2 ^ (m + 1)) (pow-pos (m + 1)) h, lt-leb (2 ^ (W - 1)) s l) (mod-eq-of-lt (omega (arith, H-twice)))
+
+  -- ---- there and back
+
+  pub stepped-below : (r : ℕ) → r < 2 ^ W → stepped W m r < 2 ^ W
+  stepped-below r h = go (le-or-lt (2 ^ (m + 1)) r) (le-or-lt (2 ^ (W - 1) + 2 ^ (m + 1)) r)
+    where
+      go : (2 ^ (m + 1) ≤ r) ⊎ (r < 2 ^ (m + 1)) → (2 ^ (W - 1) + 2 ^ (m + 1) ≤ r) ⊎ (r < 2 ^ (W - 1) + 2 ^ (m + 1)) → stepped W m r < 2 ^ W
+      go (inr z) g = rw (stepped-zero r z) h
+      go (inl a) (inl g) = rw (stepped-high r g h) (omega arith)
+      go (inl a) (inr g) = rw (stepped-low r a g) (omega (arith, H-twice))
+
+  pub unstepped-stepped : (r : ℕ) → r < 2 ^ W → unstepped W m (stepped W m r) ≡ r
+  unstepped-stepped r h = go (le-or-lt (2 ^ (m + 1)) r) (le-or-lt (2 ^ (W - 1) + 2 ^ (m + 1)) r)
+    where
+      go : (2 ^ (m + 1) ≤ r) ⊎ (r < 2 ^ (m + 1)) → (2 ^ (W - 1) + 2 ^ (m + 1) ≤ r) ⊎ (r < 2 ^ (W - 1) + 2 ^ (m + 1)) → unstepped W m (stepped W m r) ≡ r
+      go (inr z) g = rw (stepped-zero r z) (unstepped-zero r z)
+      go (inl a) (inl g) = rw (stepped-high r g h) (unstepped-high (r - 2 ^ (W - 1)) (omega arith) (omega (arith, H-twice)) ∙ (let e : r - 2 ^ (W - 1) + 2 ^ (W - 1) ≡ r = omega arith in e))
+      go (inl a) (inr g) =
+          rw (stepped-low r a g)
+          (unstepped-low (r + 2 ^ (W - 1) - 2 ^ (m + 1)) (omega arith) (omega (arith, H-twice)) ∙ (let e : r + 2 ^ (W - 1) - 2 ^ (m + 1) + 2 ^ (m + 1) - 2 ^ (W - 1) ≡ r = omega arith in e))
+
+  pub unstepped-below : (s : ℕ) → s < 2 ^ W → unstepped W m s < 2 ^ W
+  unstepped-below s h = go (le-or-lt (2 ^ (m + 1)) s) (le-or-lt (2 ^ (W - 1)) s)
+    where
+      go : (2 ^ (m + 1) ≤ s) ⊎ (s < 2 ^ (m + 1)) → (2 ^ (W - 1) ≤ s) ⊎ (s < 2 ^ (W - 1)) → unstepped W m s < 2 ^ W
+      go (inr z) g = rw (unstepped-zero s z) h
+      go (inl a) (inl g) = rw (unstepped-low s g h) (omega (arith, F≤H))
+      go (inl a) (inr g) = rw (unstepped-high s a g) (omega (arith, H-twice))
+
+  pub stepped-unstepped : (s : ℕ) → s < 2 ^ W → stepped W m (unstepped W m s) ≡ s
+  stepped-unstepped s h = go (le-or-lt (2 ^ (m + 1)) s) (le-or-lt (2 ^ (W - 1)) s)
+    where
+      go : (2 ^ (m + 1) ≤ s) ⊎ (s < 2 ^ (m + 1)) → (2 ^ (W - 1) ≤ s) ⊎ (s < 2 ^ (W - 1)) → stepped W m (unstepped W m s) ≡ s
+      go (inr z) g = rw (unstepped-zero s z) (stepped-zero s z)
+      go (inl a) (inl g) =
+          rw (unstepped-low s g h)
+          (stepped-low (s + 2 ^ (m + 1) - 2 ^ (W - 1)) (omega arith) (omega (arith, H-twice)) ∙ (let e : s + 2 ^ (m + 1) - 2 ^ (W - 1) + 2 ^ (W - 1) - 2 ^ (m + 1) ≡ s = omega arith in e))
+      go (inl a) (inr g) =
+          rw (unstepped-high s a g)
+          (stepped-high (s + 2 ^ (W - 1)) (omega arith) (omega (arith, H-twice)) ∙ (let e : s + 2 ^ (W - 1) - 2 ^ (W - 1) ≡ s = omega arith in e))
+
+  -- ---- the steps without a branch: what is subtracted is a product with 0 or 1
+
+  some : 0 < W
+  some = omega arith
+
+  exponents-twice : 2 ^ (W - 1 - m) ≡ 2 ^ (W - 2 - m) + 2 ^ (W - 2 - m)
+  exponents-twice = ap (λ (n : ℕ). 2 ^ n) (let e : W - 1 - m ≡ suc (W - 2 - m) = omega arith in e) ∙ two-pow-succ (W - 2 - m)
+
+  halves : 2 ^ (W - 1) ≡ 2 ^ (W - 2 - m) * 2 ^ (m + 1)
+  halves = ap (λ (n : ℕ). 2 ^ n) (let e : W - 1 ≡ W - 2 - m + (m + 1) = omega arith in e) ∙ pow-add 2 (W - 2 - m) (m + 1)
+
+  -- 1 unless the exponent field of r is zero
+  abbrev pub someUnit : ℕ → ℕ
+  someUnit r = (r / 2 ^ (m + 1) + (2 ^ (W - 1 - m) - 1)) / 2 ^ (W - 1 - m)
+
+  -- 1 where the exponent field of r is above the middle
+  abbrev pub highUnit : ℕ → ℕ
+  highUnit r = (r / 2 ^ (m + 1) + (2 ^ (W - 2 - m) - 1)) / 2 ^ (W - 1 - m)
+
+  field-below : (r : ℕ) → r < 2 ^ W → r / 2 ^ (m + 1) < 2 ^ (W - 1 - m)
+  field-below r h =
+      div-lt-iff-lt-mul (pow-pos (m + 1)) .1
+      (let e : 2 ^ W ≡ 2 ^ (W - 1 - m) * 2 ^ (m + 1) = ap (λ (n : ℕ). 2 ^ n) (let q : W ≡ W - 1 - m + (m + 1) = omega arith in q) ∙ pow-add 2 (W - 1 - m) (m + 1) in
+      omega arith)
+
+  some-zero : (r : ℕ) → r < 2 ^ (m + 1) → someUnit r ≡ 0
+  some-zero r h = rw (div-eq-of-lt h) (div-eq-of-lt (omega (arith, pow-pos (W - 1 - m))))
+
+  some-one : (r : ℕ) → 2 ^ (m + 1) ≤ r → r < 2 ^ W → someUnit r ≡ 1
+  some-one r h l =
+      let e : 1 ≤ r / 2 ^ (m + 1) = le-div-iff-mul-le (pow-pos (m + 1)) .1 (let q : 1 * 2 ^ (m + 1) ≡ 2 ^ (m + 1) = one-mul (2 ^ (m + 1)) in omega arith) in
+      div-eq-of-lt-le (2 ^ (W - 1 - m)) (omega arith) (omega (arith, field-below r l))
+
+  middle-next : (2 ^ (W - 2 - m) + 1) * 2 ^ (m + 1) ≡ 2 ^ (W - 1) + 2 ^ (m + 1)
+  middle-next = add-mul (2 ^ (W - 2 - m)) 1 (2 ^ (m + 1)) ∙ ap₂ _+_ (sym halves) (one-mul (2 ^ (m + 1)))
+
+  high-zero : (r : ℕ) → r < 2 ^ (W - 1) + 2 ^ (m + 1) → highUnit r ≡ 0
+  high-zero r h =
+      let e : r / 2 ^ (m + 1) < 2 ^ (W - 2 - m) + 1 = div-lt-iff-lt-mul (pow-pos (m + 1)) .1 (omega (arith, middle-next)) in
+      div-eq-of-lt (omega (arith, exponents-twice, pow-pos (W - 2 - m)))
+
+  high-one : (r : ℕ) → 2 ^ (W - 1) + 2 ^ (m + 1) ≤ r → r < 2 ^ W → highUnit r ≡ 1
+  high-one r h l =
+      let e : 2 ^ (W - 2 - m) + 1 ≤ r / 2 ^ (m + 1) = le-div-iff-mul-le (pow-pos (m + 1)) .1 (omega (arith, middle-next)) in
+      div-eq-of-lt-le (2 ^ (W - 1 - m)) (omega (arith, exponents-twice)) (omega (arith, exponents-twice, field-below r l))
+
+  minus-zero : (r : ℕ) → r < 2 ^ W → minus W r 0 ≡ r
+  unfolding minus
+  minus-zero r h = minus-plain (2 ^ W) r 0 zero-le h ∙ sub-zero r
+
+  pub stepped-units : (r : ℕ) → r < 2 ^ W
+      → minus W (minus W r (someUnit r * 2 ^ (W - 1))) ((someUnit r - highUnit r) * 2 ^ (m + 1)) ≡ stepped W m r
+  stepped-units r h = go (le-or-lt (2 ^ (m + 1)) r) (le-or-lt (2 ^ (W - 1) + 2 ^ (m + 1)) r)
+    where
+      go : (2 ^ (m + 1) ≤ r) ⊎ (r < 2 ^ (m + 1)) → (2 ^ (W - 1) + 2 ^ (m + 1) ≤ r) ⊎ (r < 2 ^ (W - 1) + 2 ^ (m + 1))
+          → minus W (minus W r (someUnit r * 2 ^ (W - 1))) ((someUnit r - highUnit r) * 2 ^ (m + 1)) ≡ stepped W m r
+      go (inr z) g =
+          rw (some-zero r z, high-zero r (omega arith), zero-mul (2 ^ (W - 1)), zero-mul (2 ^ (m + 1)), minus-zero r h, minus-zero r h) (sym (stepped-zero r z))
+      go (inl a) (inl g) =
+          rw (some-one r a h, high-one r g h, one-mul (2 ^ (W - 1)), zero-mul (2 ^ (m + 1)))
+          (rw (minus-half r (omega arith) h) (minus-zero (r - 2 ^ (W - 1)) (omega arith) ∙ sym (stepped-high r g h)))
+      go (inl a) (inr g) =
+          rw (some-one r a h, high-zero r g, one-mul (2 ^ (W - 1)), one-mul (2 ^ (m + 1))) (sym (not-zero r a ∙ lowers r a g))
+
+  some-small : (r : ℕ) → r < 2 ^ W → someUnit r ≤ 1
+  some-small r h = le-of-suc-le-suc (div-lt-iff-lt-mul (pow-pos (W - 1 - m)) .1 (let e = field-below r h in omega arith))
+
+  -- what is subtracted is no more than 2 ^ W
+  pub half-room : (r : ℕ) → r < 2 ^ W → someUnit r * 2 ^ (W - 1) ≤ 2 ^ W
+  half-room r h = le-trans (mul-le-mul-right (2 ^ (W - 1)) (some-small r h)) (omega (arith, one-mul (2 ^ (W - 1)), H-twice))
+
+  pub unit-room : (r : ℕ) → r < 2 ^ W → (someUnit r - highUnit r) * 2 ^ (m + 1) ≤ 2 ^ W
+  unit-room r h =
+      le-trans (mul-le-mul-right (2 ^ (m + 1)) (let e = some-small r h in let q : someUnit r - highUnit r ≤ 1 = omega arith in q))
+      (omega (arith, one-mul (2 ^ (m + 1)), H-twice, F≤H))
+
+  plus-zero : (s : ℕ) → s < 2 ^ W → plus W s 0 ≡ s
+  unfolding plus
+  plus-zero s h = ap (λ (x : ℕ). x % 2 ^ W) (add-zero s) ∙ mod-eq-of-lt h
+
+  pub unstepped-units : (s : ℕ) → s < 2 ^ W → plus W (plus W s (s / 2 ^ (W - 1) * 2 ^ (m + 1))) (someUnit s * 2 ^ (W - 1)) ≡ unstepped W m s
+  unfolding unstepped raised field
+  unstepped-units s h = go (le-or-lt (2 ^ (m + 1)) s) (le-or-lt (2 ^ (W - 1)) s)
+    where
+      no-half : s < 2 ^ (W - 1) → s / 2 ^ (W - 1) * 2 ^ (m + 1) ≡ 0
+      no-half g = ap (λ (q : ℕ). q * 2 ^ (m + 1)) (div-eq-of-lt g) ∙ zero-mul (2 ^ (m + 1))
+
+      half-once : 2 ^ (W - 1) ≤ s → s / 2 ^ (W - 1) ≡ 1
+      half-once g = div-eq-of-lt-le (2 ^ (W - 1)) (omega arith) (omega (arith, H-twice))
+
+      go : (2 ^ (m + 1) ≤ s) ⊎ (s < 2 ^ (m + 1)) → (2 ^ (W - 1) ≤ s) ⊎ (s < 2 ^ (W - 1))
+          → plus W (plus W s (s / 2 ^ (W - 1) * 2 ^ (m + 1))) (someUnit s * 2 ^ (W - 1)) ≡ unstepped W m s
+      go (inr z) g =
+          rw (no-half (omega (arith, F≤H)), plus-zero s h, some-zero s z, zero-mul (2 ^ (W - 1)), plus-zero s h) (sym (unstepped-zero s z))
+      go (inl a) (inl g) =
+          rw (half-once g, some-one s a h, one-mul (2 ^ (m + 1)), one-mul (2 ^ (W - 1)), quotient-some s (2 ^ (m + 1)) (pow-pos (m + 1)) a, le-leb (2 ^ (W - 1)) s g)
+      go (inl a) (inr g) =
+          rw (no-half g, plus-zero s h, some-one s a h, one-mul (2 ^ (W - 1)), quotient-some s (2 ^ (m + 1)) (pow-pos (m + 1)) a, lt-leb (2 ^ (W - 1)) s g)
+
+  pub code-below : (p : ℕ) → p < 2 ^ W → losslessCode W m p < 2 ^ W
+  unfolding losslessCode
+  code-below p h = folded-below W some (stepped W m (rotated W p)) (stepped-below (rotated W p) (rotated-below W some p h))
+
+  pub restored-below : (c : ℕ) → c < 2 ^ W → losslessRestored W m c < 2 ^ W
+  unfolding losslessRestored
+  restored-below c h = unrotated-below W some (unstepped W m (bitsOf W (unfolded c))) (unstepped-below (bitsOf W (unfolded c)) (bits-below W some c h))
+
+  -- every pattern is restored
+  pub restored-code : (p : ℕ) → p < 2 ^ W → losslessRestored W m (losslessCode W m p) ≡ p
+  unfolding losslessRestored losslessCode
+  restored-code p h =
+      let r = rotated W p in
+      let below : r < 2 ^ W = rotated-below W some p h in
+      rw (unfolded-folded (signedView W (stepped W m r)), bits-of-view W some (stepped W m r) (stepped-below r below), unstepped-stepped r below)
+      (unrotated-rotated W some p h)
+
+  -- every code below 2 ^ W is the code of what it restores, so it has a pattern, and by the law above only that one
+  pub code-restored : (c : ℕ) → c < 2 ^ W → losslessCode W m (losslessRestored W m c) ≡ c
+  unfolding losslessRestored losslessCode
+  code-restored c h =
+      let s = bitsOf W (unfolded c) in
+      let below : s < 2 ^ W = bits-below W some c h in
+      rw (rotated-unrotated W some (unstepped W m s) (unstepped-below s below), stepped-unstepped s below, view-of-bits W some c h)
+      (folded-unfolded c)

@@ -1,0 +1,22 @@
+-- `numbers::lossless::rotated64` meets its contract.
+use mathlib.Core.Path.{refl}
+use lib.Dec.{lit<}
+use Rattle.numbers.specs.Lossless.{rotated}
+use Rattle.numbers.proofs.Law.Lossless.{rotated-below}
+use borrow.Author.Needs.{needs}
+use Rattle.numbers.proofs.lossless.rotated64.Statement.{statement}
+use Rattle.numbers.proofs.lossless.rotated64.Tie as tie
+
+mul-result : tie.Need-mul-result
+mul-result c = search needs
+
+add-result : tie.Need-add-result
+unfolding rotated
+add-result c = record { fits = rotated-below 64 (lit< tt) (c .args .p) (c .fits .p .fits) }
+
+returns : tie.Need-returns
+unfolding rotated
+returns c = refl
+
+pub rotated64-spec : {M : Type 1} → statement M
+rotated64-spec = tie.close (tie.spec mul-result add-result returns)

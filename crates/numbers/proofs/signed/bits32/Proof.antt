@@ -1,0 +1,27 @@
+-- `numbers::signed::bits32` meets its contract, by the laws over the machine's width.
+use mir.Syntax.{w32}
+use Rattle.numbers.proofs.Law.Signed.{cast-fits, under-top, negative-fits, negative-cast, negative-bits, positive-cast, positive-bits}
+use Rattle.numbers.proofs.signed.bits32.Statement.{statement}
+use Rattle.numbers.proofs.signed.bits32.Tie as tie
+
+sub-result : tie.Need-sub-result
+sub-result c = negative-fits w32 (c .before .args .x) (c .before .fits .x) (c .if1 .taken)
+
+cast-result : tie.Need-cast-result
+cast-result c = cast-fits w32 _ _ (negative-cast w32 (c .before .args .x) (c .before .fits .x) (c .if1 .taken)) (c .before .fits .x .sfits)
+
+sub-result-2 : tie.Need-sub-result-2
+sub-result-2 c = under-top w32 _ _ (negative-cast w32 (c .before .args .x) (c .before .fits .x) (c .if1 .taken)) (c .before .fits .x .sfits)
+
+cast-result-2 : tie.Need-cast-result-2
+cast-result-2 c = cast-fits w32 _ _ (positive-cast w32 (c .before .args .x) (c .before .fits .x) (c .if1 .left)) (c .before .fits .x .sfits)
+
+returns : tie.Need-returns
+returns c = negative-bits w32 (c .before .args .x) (c .before .fits .x) (c .if1 .taken)
+
+returns-2 : tie.Need-returns-2
+returns-2 c = positive-bits w32 (c .before .args .x) (c .before .fits .x) (c .if1 .left)
+
+pub bits32-spec : {M : Type 1} → statement M
+bits32-spec =
+    tie.close (tie.spec sub-result cast-result sub-result-2 cast-result-2 returns returns-2)

@@ -1,0 +1,42 @@
+-- `numbers::signed::folded64` meets its contract, by the laws over the machine's width.
+use mir.Syntax.{w64}
+use Rattle.numbers.proofs.Law.Signed.{cast-fits, twice-fits, twice-one-fits, negative-fits, negative-cast, negative-folded, positive-cast, positive-folded}
+use Rattle.numbers.proofs.signed.folded64.Statement.{statement}
+use Rattle.numbers.proofs.signed.folded64.Tie as tie
+
+sub-result : tie.Need-sub-result
+sub-result c = negative-fits w64 (c .before .args .x) (c .before .fits .x) (c .if1 .taken)
+
+cast-result : tie.Need-cast-result
+cast-result c = cast-fits w64 _ _ (negative-cast w64 (c .before .args .x) (c .before .fits .x) (c .if1 .taken)) (c .before .fits .x .sfits)
+
+mul-result : tie.Need-mul-result
+mul-result c = twice-fits w64 _ _ (negative-cast w64 (c .before .args .x) (c .before .fits .x) (c .if1 .taken)) (c .before .fits .x .sfits)
+
+add-result : tie.Need-add-result
+add-result c = twice-one-fits w64 _ _ (negative-cast w64 (c .before .args .x) (c .before .fits .x) (c .if1 .taken)) (c .before .fits .x .sfits)
+
+cast-result-2 : tie.Need-cast-result-2
+cast-result-2 c = cast-fits w64 _ _ (positive-cast w64 (c .before .args .x) (c .before .fits .x) (c .if1 .left)) (c .before .fits .x .sfits)
+
+mul-result-2 : tie.Need-mul-result-2
+mul-result-2 c = twice-fits w64 _ _ (positive-cast w64 (c .before .args .x) (c .before .fits .x) (c .if1 .left)) (c .before .fits .x .sfits)
+
+returns : tie.Need-returns
+returns c = negative-folded w64 (c .before .args .x) (c .before .fits .x) (c .if1 .taken)
+
+returns-2 : tie.Need-returns-2
+returns-2 c = positive-folded w64 (c .before .args .x) (c .before .fits .x) (c .if1 .left)
+
+pub folded64-spec : {M : Type 1} → statement M
+folded64-spec =
+    tie.close
+    (tie.spec
+    sub-result
+    cast-result
+    mul-result
+    add-result
+    cast-result-2
+    mul-result-2
+    returns
+    returns-2)

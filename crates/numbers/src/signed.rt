@@ -1,0 +1,84 @@
+// The signed view of a word and its fold to an unsigned code: the last step of the lossless code, and the way back.
+// A cast of a large u32 to i32 is undefined in Rattle, so the upper half goes by -1 - (MAX - s), which is the same number.
+ghost use mathlib.Core.Path.{_≡_};
+ghost use Rattle.numbers.specs.Signed.{signedView, folded, unfolded, bitsOf};
+
+pub fn view32(s: u32) -> i32
+    ensures { λ x. ⌜ x ≡ signedView 32 s ⌝ }
+{
+    if s < 0x8000_0000 {
+        s as i32
+    } else {
+        -1 - ((u32::MAX - s) as i32)
+    }
+}
+
+pub fn view64(s: u64) -> i64
+    ensures { λ x. ⌜ x ≡ signedView 64 s ⌝ }
+{
+    if s < 0x8000_0000_0000_0000 {
+        s as i64
+    } else {
+        -1 - ((u64::MAX - s) as i64)
+    }
+}
+
+pub fn folded32(x: i32) -> u32
+    ensures { λ c. ⌜ c ≡ folded x ⌝ }
+{
+    if x < 0 {
+        ((-1 - x) as u32) * 2 + 1
+    } else {
+        (x as u32) * 2
+    }
+}
+
+pub fn folded64(x: i64) -> u64
+    ensures { λ c. ⌜ c ≡ folded x ⌝ }
+{
+    if x < 0 {
+        ((-1 - x) as u64) * 2 + 1
+    } else {
+        (x as u64) * 2
+    }
+}
+
+pub fn unfolded32(c: u32) -> i32
+    ensures { λ x. ⌜ x ≡ unfolded c ⌝ }
+{
+    if c % 2 == 0 {
+        (c / 2) as i32
+    } else {
+        -1 - ((c / 2) as i32)
+    }
+}
+
+pub fn unfolded64(c: u64) -> i64
+    ensures { λ x. ⌜ x ≡ unfolded c ⌝ }
+{
+    if c % 2 == 0 {
+        (c / 2) as i64
+    } else {
+        -1 - ((c / 2) as i64)
+    }
+}
+
+pub fn bits32(x: i32) -> u32
+    ensures { λ s. ⌜ s ≡ bitsOf 32 x ⌝ }
+{
+    if x < 0 {
+        u32::MAX - ((-1 - x) as u32)
+    } else {
+        x as u32
+    }
+}
+
+pub fn bits64(x: i64) -> u64
+    ensures { λ s. ⌜ s ≡ bitsOf 64 x ⌝ }
+{
+    if x < 0 {
+        u64::MAX - ((-1 - x) as u64)
+    } else {
+        x as u64
+    }
+}
