@@ -2,3 +2,7 @@
 pub mod Number
 pub mod Signed
 pub mod Lossless
+pub mod Tolerance
+pub mod Working
+pub mod Exponent
+pub mod Answers

@@ -2,3 +2,4 @@
 // It links nothing but std, so that a solver can link it alone.
 pub mod lossless;
 pub mod signed;
+pub mod tolerance;

@@ -1,0 +1,66 @@
+-- The tolerance exponent k, a signed number, against the smallest and the largest allowed: once over the two limits.
+-- The smallest is -(least + 1) and the largest is `last`.
+use mathlib.Core.Path.{_≡_, refl, sym, ap, _∙_}
+use mathlib.Core.Logic.{_⊎_, inl, inr}
+use mathlib.Core.Bool.{Bool, true, false, not}
+use Prim.Native.Nat.{ℕ, suc, _+_, _-_, _^_, _≤_, _<_}
+use native.Mathlib.Omega.{arith}
+use borrow.Author.Tests.{leb-true, le-ltb, lt-ltb, le-leb, lt-leb}
+use lib.Dec.{T, leb, ltb}
+use lib.IntN.{ℤ, pos, negsuc, natAbs, _+ℤ_}
+use lib.Signed.{leZ, ltZ, nonNeg}
+use mir.Syntax.{Width}
+use mir.Val.{hbits, Fits, SFits, toZ, ofZ}
+use mir.Facts.{toZ-ofZ}
+use Rattle.numbers.proofs.Law.Number.{le-or-lt}
+use Rattle.numbers.proofs.Law.Signed.{cast-fits}
+
+-- one test is the other, refused
+leb-not : (a b : ℕ) → leb b a ≡ not (ltb a b)
+leb-not a b = go (le-or-lt b a)
+  where
+    go : (b ≤ a) ⊎ (a < b) → leb b a ≡ not (ltb a b)
+    go (inl h) = le-leb b a h ∙ sym (ap not (le-ltb a b h))
+    go (inr h) = lt-leb b a h ∙ sym (ap not (lt-ltb a b h))
+
+leZ-not : (a b : ℤ) → leZ b a ≡ not (ltZ a b)
+leZ-not (pos a) (pos b) = leb-not a b
+leZ-not (pos a) (negsuc b) = refl
+leZ-not (negsuc a) (pos b) = refl
+leZ-not (negsuc a) (negsuc b) = leb-not b a
+
+module _ (w : Width) (k : ℤ) (f : SFits w k) (least last : ℕ) where
+  pub too-low : ltZ (toZ w (ofZ w k)) (negsuc least) ≡ true → leZ (negsuc least) k ≡ false
+  too-low t = leZ-not k (negsuc least) ∙ ap not (rw (toZ-ofZ f) at t)
+
+  pub low-enough : ltZ (toZ w (ofZ w k)) (negsuc least) ≡ false → leZ (negsuc least) k ≡ true
+  low-enough t = leZ-not k (negsuc least) ∙ ap not (rw (toZ-ofZ f) at t)
+
+  pub too-high : ltZ (pos last) (toZ w (ofZ w k)) ≡ true → leZ k (pos last) ≡ false
+  too-high t = leZ-not (pos last) k ∙ ap not (rw (toZ-ofZ f) at t)
+
+  pub high-enough : ltZ (pos last) (toZ w (ofZ w k)) ≡ false → leZ k (pos last) ≡ true
+  high-enough t = leZ-not (pos last) k ∙ ap not (rw (toZ-ofZ f) at t)
+
+-- between the limits k + least + 1 is natural
+pub lifted : (least last : ℕ) (k : ℤ) → leZ (negsuc least) k ≡ true → leZ k (pos last) ≡ true → (n : ℕ) × (k +ℤ pos (suc least) ≡ pos n) × (n ≤ last + suc least)
+lifted least last (pos n) l h = (n + suc least, refl, omega (arith, leb-true n last h))
+lifted least last (negsuc n) l h =
+    (suc least - suc n, rw (le-ltb (suc least) (suc n) (omega (arith, leb-true n least l))), omega arith)
+
+module _ (w : Width) (k : ℤ) (f : SFits w k) (least last : ℕ) (l : leZ (negsuc least) k ≡ true) (h : leZ k (pos last) ≡ true)
+    (room : last + suc least < 2 ^ hbits w) where
+  lift : (n : ℕ) × (k +ℤ pos (suc least) ≡ pos n) × (n ≤ last + suc least)
+  lift = lifted least last k l h
+
+  pub sum-fits : SFits w (toZ w (ofZ w k) +ℤ pos (suc least))
+  sum-fits = rw (toZ-ofZ f, lift .1) (record { sfits = omega (arith, lift .2) })
+
+  sum-is : toZ w (ofZ w (toZ w (ofZ w k) +ℤ pos (suc least))) ≡ k +ℤ pos (suc least)
+  sum-is = toZ-ofZ sum-fits ∙ ap (λ (z : ℤ). z +ℤ pos (suc least)) (toZ-ofZ f)
+
+  pub sum-cast : T (nonNeg (toZ w (ofZ w (toZ w (ofZ w k) +ℤ pos (suc least))))) × Fits w (natAbs (toZ w (ofZ w (toZ w (ofZ w k) +ℤ pos (suc least)))))
+  sum-cast = cast-fits w _ (lift .0) (sum-is ∙ lift .1) (omega (arith, lift .2))
+
+  pub sum-bin : natAbs (toZ w (ofZ w (toZ w (ofZ w k) +ℤ pos (suc least)))) ≡ natAbs (k +ℤ pos (suc least))
+  sum-bin = ap natAbs sum-is

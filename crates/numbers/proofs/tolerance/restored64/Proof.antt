@@ -1,0 +1,50 @@
+-- `numbers::tolerance::restored64` meets its contract.
+use mathlib.Core.Path.{_∙_, sym, ap}
+use Prim.Native.Nat.{ℕ}
+use native.Mathlib.Omega.{arith}
+use lib.Dec.{lit<, lit≤}
+use Rattle.numbers.specs.declared.tolerance.PatternAnswer.the-variants.{Pattern}
+use Rattle.numbers.specs.Tolerance.{leastK, lastBin, toleranceRestored, largestU}
+use Rattle.numbers.proofs.Law.Answers.{answered, pattern-is, above-is, no-pattern, unclipped}
+use borrow.Author.Needs.{needs}
+use Rattle.numbers.proofs.tolerance.restored64.Statement.{statement}
+use Rattle.numbers.proofs.tolerance.restored64.Tie as tie
+
+bin64-requires : tie.Need-bin64-requires
+bin64-requires c κs = search needs
+
+enum-known-b : tie.Need-enum-known-b
+enum-known-b c = search needs
+
+largest-u64-requires : tie.Need-largest-u64-requires
+largest-u64-requires c κs = search needs
+
+restored-at-bin64-requires : tie.Need-restored-at-bin64-requires
+restored-at-bin64-requires c κs = search needs
+
+enum-told : tie.Need-enum-told
+enum-told c = search needs
+
+returns : tie.Need-returns
+unfolding leastK lastBin
+returns c = let e = c .before .largest-u64 .ensures ∙ ap (largestU 64 52) (unclipped 64 52 (c .before .before .before .before .before .before .args .k) _ (answered 64 52 (c .before .before .before .before .before .before .args .k) (c .before .before .before .before .before .before .fits .k) (c .before .before .before .before .before .bin64 .result) _ (c .before .before .before .before .before .bin64 .ensures) (c .before .before .before .b .given .1)) (lit< tt) (lit≤ tt)) in sym (above-is 64 52 (c .before .before .before .before .before .before .args .k) _ (answered 64 52 (c .before .before .before .before .before .before .args .k) (c .before .before .before .before .before .before .fits .k) (c .before .before .before .before .before .bin64 .result) _ (c .before .before .before .before .before .bin64 .ensures) (c .before .before .before .b .given .1)) (c .before .before .before .before .before .before .args .c) (omega (arith, c .if1 .taken)))
+
+returns-2 : tie.Need-returns-2
+unfolding leastK lastBin
+returns-2 c = let e = c .before .before .largest-u64 .ensures ∙ ap (largestU 64 52) (unclipped 64 52 (c .before .before .before .before .before .before .before .args .k) _ (answered 64 52 (c .before .before .before .before .before .before .before .args .k) (c .before .before .before .before .before .before .before .fits .k) (c .before .before .before .before .before .before .bin64 .result) _ (c .before .before .before .before .before .before .bin64 .ensures) (c .before .before .before .before .b .given .1)) (lit< tt) (lit≤ tt)) in ap Pattern (c .restored-at-bin64 .ensures ∙ ap (λ (j : ℕ). toleranceRestored 64 52 j (c .before .before .before .before .before .before .before .args .c)) (unclipped 64 52 (c .before .before .before .before .before .before .before .args .k) _ (answered 64 52 (c .before .before .before .before .before .before .before .args .k) (c .before .before .before .before .before .before .before .fits .k) (c .before .before .before .before .before .before .bin64 .result) _ (c .before .before .before .before .before .before .bin64 .ensures) (c .before .before .before .before .b .given .1)) (lit< tt) (lit≤ tt))) ∙ sym (pattern-is 64 52 (c .before .before .before .before .before .before .before .args .k) _ (answered 64 52 (c .before .before .before .before .before .before .before .args .k) (c .before .before .before .before .before .before .before .fits .k) (c .before .before .before .before .before .before .bin64 .result) _ (c .before .before .before .before .before .before .bin64 .ensures) (c .before .before .before .before .b .given .1)) (c .before .before .before .before .before .before .before .args .c) (omega (arith, c .before .if1 .left)))
+
+returns-3 : tie.Need-returns-3
+returns-3 c = sym (no-pattern 64 52 (c .before .before .before .args .k) (answered 64 52 (c .before .before .before .args .k) (c .before .before .before .fits .k) (c .before .before .bin64 .result) _ (c .before .before .bin64 .ensures) (c .enum-told .given .1)) (c .before .before .before .args .c))
+
+pub restored64-spec : {M : Type 1} → statement M
+restored64-spec =
+    tie.close
+    (tie.spec
+    bin64-requires
+    enum-known-b
+    largest-u64-requires
+    restored-at-bin64-requires
+    enum-told
+    returns
+    returns-2
+    returns-3)

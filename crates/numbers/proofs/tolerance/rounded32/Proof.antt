@@ -1,0 +1,31 @@
+-- `numbers::tolerance::rounded32` meets its contract.
+use lib.Dec.{lit≤}
+use Rattle.numbers.proofs.Law.Working.{rounds-away, rounded-fits, rounded-is}
+use borrow.Author.Needs.{needs}
+use Rattle.numbers.proofs.tolerance.rounded32.Statement.{statement}
+use Rattle.numbers.proofs.tolerance.rounded32.Tie as tie
+
+returns : tie.Need-returns
+returns c = rounds-away 24 (c .before .args .s) (c .before .args .q) (c .before .pre) (c .if1 .taken)
+
+mul-result : tie.Need-mul-result
+mul-result c = search needs
+
+shl-result : tie.Need-shl-result
+shl-result c = search needs
+
+add-result : tie.Need-add-result
+add-result c = record { fits = rounded-fits 32 24 (c .before .args .s) (c .before .args .q) (c .before .pre) (c .if1 .left) (lit≤ tt) }
+
+add-result-2 : tie.Need-add-result-2
+add-result-2 c = search needs
+
+shr-result : tie.Need-shr-result
+shr-result c = search needs
+
+returns-2 : tie.Need-returns-2
+returns-2 c = rounded-is 32 24 (c .before .args .s) (c .before .args .q) (c .before .pre) (c .if1 .left) (lit≤ tt)
+
+pub rounded32-spec : {M : Type 1} → statement M
+rounded32-spec =
+    tie.close (tie.spec returns mul-result shl-result add-result add-result-2 shr-result returns-2)
