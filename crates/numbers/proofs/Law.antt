@@ -6,3 +6,4 @@ pub mod Tolerance
 pub mod Working
 pub mod Exponent
 pub mod Answers
+pub mod Bound

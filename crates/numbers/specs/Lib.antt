@@ -4,3 +4,4 @@ pub mod Signed
 pub mod Lossless
 pub mod Tolerance
 pub mod Answers
+pub mod Bound

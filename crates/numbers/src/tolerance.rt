@@ -50,13 +50,13 @@ pub fn bin64(k: i32) -> BinAnswer
 }
 
 // A bin past the last counts as the last.
-fn clipped32(bin: u32) -> u32
+pub(crate) fn clipped32(bin: u32) -> u32
     ensures { λ j. ⌜ j ≡ min bin (lastBin 32 23) ⌝ }
 {
     if bin < 253 { bin } else { 253 }
 }
 
-fn clipped64(bin: u32) -> u64
+pub(crate) fn clipped64(bin: u32) -> u64
     ensures { λ j. ⌜ j ≡ min bin (lastBin 64 52) ⌝ }
 {
     if bin < 2045 { bin as u64 } else { 2045 }

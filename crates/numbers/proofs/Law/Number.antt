@@ -3,10 +3,11 @@ use mathlib.Core.Path.{_≡_, _∙_, sym, ap}
 use mathlib.Core.Logic.{_⊎_, inl, inr}
 use mathlib.Core.Bool.{true, false}
 use Prim.Native.Nat.{ℕ, suc, _+_, _-_, _*_, _/_, _%_, _^_, _≤_, _<_}
-use native.Mathlib.Nat.{mod-eq-sub-mod, mod-eq-of-lt, div-eq-of-lt, le-div-iff-mul-le, two-pow-succ, one-mul, lt-of-not-le}
+use native.Mathlib.Nat.{le-trans, le-of-eq, lt-of-lt-of-le, div-lt-iff-lt-mul, mod-eq-sub-mod, mod-eq-of-lt, div-eq-of-lt, le-div-iff-mul-le, two-pow-succ, one-mul, lt-of-not-le}
 use native.Mathlib.Decide.{decLe}
 use native.Mathlib.Omega.{arith}
 use borrow.Author.Tests.{eq-eqb, ne-eqb}
+use lib.Pow.{pow-pos}
 use lib.Dec.{eqb}
 
 pub le-or-lt : (a b : ℕ) → (a ≤ b) ⊎ (b < a)
@@ -47,3 +48,10 @@ wraps-minus N a b r h l e = go (le-or-lt N (r + b))
     go (inr g) =
         let f : a ≡ r + b = sym e ∙ mod-eq-of-lt g in
         sym (mod-once (a + (N - b)) N (omega arith) (omega arith) ∙ (let q : a + (N - b) - N ≡ r = omega arith in q))
+
+-- an ordinal is below 2 ^ m exactly where its exponent is 0
+pub fraction-only : (m o : ℕ) → o / 2 ^ m ≡ 0 → o < 2 ^ m
+fraction-only m o e = lt-of-lt-of-le (div-lt-iff-lt-mul (pow-pos m) .0 (let q : o / 2 ^ m < 1 = omega arith in q)) (le-of-eq (one-mul (2 ^ m)))
+
+pub led-by-one : (m o : ℕ) → (o / 2 ^ m ≡ 0 → ⊥) → 2 ^ m ≤ o
+led-by-one m o s = le-trans (le-of-eq (sym (one-mul (2 ^ m)))) (le-div-iff-mul-le (pow-pos m) .0 (let q : 1 ≤ o / 2 ^ m = omega arith in q))

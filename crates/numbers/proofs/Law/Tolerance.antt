@@ -163,7 +163,7 @@ module _ (m : ℕ) where
         mul-assoc u (2 ^ shiftOf u j) (2 ^ (j - shiftOf u j))
         ∙ ap (λ (n : ℕ). u * n) (sym (pow-add 2 (shiftOf u j) (j - shiftOf u j)) ∙ ap (λ (n : ℕ). 2 ^ n) (let e : shiftOf u j + (j - shiftOf u j) ≡ j = omega arith in e))
 
-    size-together : size (u * 2 ^ j) ≡ size u + j
+    pub size-together : size (u * 2 ^ j) ≡ size u + j
     size-together = le-antisymm
         (size-le (u * 2 ^ j) (size u + j) (lt-of-lt-of-le (mul-lt-mul-of-pos-right (size-lt u) (pow-pos j)) (le-of-eq (sym (pow-add 2 (size u) j)))))
         (le-trans (let e : size u + j ≤ suc (size u - 1 + j) = omega (arith, len-some) in e)

@@ -11,7 +11,7 @@ use lib.Pow.{pow-pos, pow-mono, pow-lt, pow-add}
 use lib.Ieee.{size}
 use lib.Ieee.Digits.{size-lt, size-reaches, size-le}
 use Rattle.numbers.specs.Tolerance.{magnitude, ordinalOf, threshold, thresholdOrdinal, near, magnitudeCode, restoredOrdinal, ordinal, sign, toleranceCode, toleranceRestored, largestU, lastBin}
-use Rattle.numbers.proofs.Law.Number.{le-or-lt, twice-half}
+use Rattle.numbers.proofs.Law.Number.{le-or-lt, twice-half, fraction-only, led-by-one}
 use Rattle.numbers.proofs.Law.Tolerance.{below-threshold, from-threshold, code-below, code-from, code-under, restored-bins, restored-above, restored-under, pattern-under, threshold-room, next-bin, significand-led, significand-plain, exponent-some, shiftOf, ordinal-shifted, shifted-below, ordinal-zero, halves, magnitude-plain}
 
 -- ---- rounding a significand
@@ -50,10 +50,7 @@ near-scaled s d q =
 
 module _ (m j o : ℕ) where
   pub plain-is : o / 2 ^ m ≡ 0 → near j (o % 2 ^ m) ≡ near j (magnitude m o)
-  plain-is e = ap (near j) (mod-eq-of-lt small ∙ sym (magnitude-plain m o small))
-    where
-      small : o < 2 ^ m
-      small = lt-of-lt-of-le (div-lt-iff-lt-mul (pow-pos m) .0 (let q : o / 2 ^ m < 1 = omega arith in q)) (le-of-eq (one-mul (2 ^ m)))
+  plain-is e = let small = fraction-only m o e in ap (near j) (mod-eq-of-lt small ∙ sym (magnitude-plain m o small))
 
   pub exponent-under : o < thresholdOrdinal m j → o / 2 ^ m ≤ j
   unfolding thresholdOrdinal
@@ -64,7 +61,7 @@ module _ (m j o : ℕ) where
   led-is some h =
       let e = o / 2 ^ m in
       let under : e ≤ j = exponent-under h in
-      let led : 2 ^ m ≤ o = le-trans (le-of-eq (sym (one-mul (2 ^ m)))) (le-div-iff-mul-le (pow-pos m) .0 (let q : 1 ≤ e = omega arith in q)) in
+      let led : 2 ^ m ≤ o = led-by-one m o some in
       sym
       (ap₂ near (let q : j ≡ j + 1 - e + (e - 1) = omega arith in q) (ap (λ (n : ℕ). n * 2 ^ (e - 1)) (significand-led m o led))
       ∙ near-scaled (j + 1 - e) (e - 1) (2 ^ m + o % 2 ^ m))

@@ -1,0 +1,188 @@
+-- The laws of bound: the answer by the magnitude's digits, and that it is the largest. Once over W and m.
+use mathlib.Core.Path.{_≡_, refl, sym, ap, ap₂, _∙_}
+use mathlib.Core.Logic.{_⊎_, inl, inr}
+use mathlib.Core.Bool.{Bool, true, false, _&&_, cond}
+use Prim.Native.Nat.{ℕ, zero, suc, _+_, _-_, _*_, _/_, _%_, _^_, _≤_, _<_, min}
+use native.Mathlib.Nat.{le-refl, le-step, min-le-right, le-trans, le-antisymm, le-of-eq, lt-of-lt-of-le, le-div-iff-mul-le, div-lt-iff-lt-mul, one-mul, two-pow-succ, mod-lt, pos-of-ne-zero, mul-pos}
+use native.Mathlib.Omega.{arith}
+use borrow.Author.Tests.{lt-ltb, le-ltb, le-leb, lt-leb, leb-true}
+use lib.Dec.{leb, ltb}
+use lib.IntN.{ℤ, pos, negsuc, subℕ, _-ℤ_}
+use lib.Count.{leadingZeros}
+use lib.Pow.{pow-pos, pow-mono}
+use lib.Ieee.{size}
+use lib.Ieee.Digits.{size-lt, size-reaches, size-le}
+use mir.Syntax.{Width}
+use mir.Val.{hbits, SFits, toZ, ofZ}
+use mir.Facts.{toZ-ofZ, toZ-pos}
+use Rattle.numbers.specs.declared.bound.BoundAnswer.{BoundAnswer}
+use Rattle.numbers.specs.declared.bound.BoundAnswer.the-variants.{Exponent, UnknownWidth, NoTolerance, TooSmall}
+use Rattle.numbers.specs.Tolerance.{leastK, lastBin, magnitude, significand}
+use Rattle.numbers.specs.Bound.{isTolerance, exponentOf, notAbove, largestUpTo, boundAt, boundAnswer}
+use Rattle.numbers.proofs.Law.Number.{le-or-lt, twice-half, fraction-only, led-by-one}
+use Rattle.numbers.proofs.Law.Tolerance.{size-from, size-together, significand-led, magnitude-plain, exponent-some}
+use Rattle.numbers.proofs.Law.Working.{zeros-size}
+
+-- ---- what is a tolerance
+
+and-false : (b : Bool) → b && false ≡ false
+and-false true = refl
+and-false false = refl
+
+pub zero-is-none : (t : ℕ) → t ≡ 0 → isTolerance t ≡ false
+unfolding isTolerance
+zero-is-none t e = rw (le-ltb 0 t (omega arith))
+
+pub high-is-none : (t : ℕ) → 2047 * 2 ^ 52 ≤ t → isTolerance t ≡ false
+unfolding isTolerance
+high-is-none t h = ap (λ (b : Bool). ltb 0 t && b) (le-ltb t (2047 * 2 ^ 52) h) ∙ and-false (ltb 0 t)
+
+pub between-is : (t : ℕ) → (t ≡ 0 → ⊥) → t < 2047 * 2 ^ 52 → isTolerance t ≡ true
+unfolding isTolerance
+between-is t s h = rw (lt-ltb 0 t (pos-of-ne-zero s), lt-ltb t (2047 * 2 ^ 52) h)
+
+pub tolerance-some : (t : ℕ) → isTolerance t ≡ true → 0 < t
+unfolding isTolerance
+tolerance-some t e = go (le-or-lt t 0)
+  where
+    go : (t ≤ 0) ⊎ (0 < t) → 0 < t
+    go (inl h) = let z : false ≡ true = sym (zero-is-none t (omega arith)) ∙ e in absurd (let y : _≡_ {A = ℕ} 0 1 = cc in omega arith)
+    go (inr h) = h
+
+-- ---- how many digits a magnitude has
+
+size-between : (x k : ℕ) → 2 ^ k ≤ x → x < 2 ^ suc k → size x ≡ suc k
+size-between x k l h = le-antisymm (size-le x (suc k) h) (size-from x k l)
+
+module _ (m o : ℕ) where
+  pub size-plain : o < 2 ^ m → size (magnitude m o) ≡ size o
+  size-plain h = ap size (magnitude-plain m o h)
+
+  pub size-led : 2 ^ m ≤ o → size (magnitude m o) ≡ o / 2 ^ m + m
+  unfolding magnitude
+  size-led h =
+      let q = 2 ^ m + o % 2 ^ m in
+      let r : o % 2 ^ m < 2 ^ m = mod-lt o (pow-pos m) in
+      let wide : q < 2 ^ suc m = omega (arith, two-pow-succ m) in
+      ap (λ (n : ℕ). size (n * 2 ^ (o / 2 ^ m - 1))) (significand-led m o h)
+      ∙ size-together m q (o / 2 ^ m - 1) (omega (arith, pow-pos m)) wide
+      ∙ (let e : size q + (o / 2 ^ m - 1) ≡ o / 2 ^ m + m = omega (arith, size-between q m (omega arith) wide, exponent-some m o h) in e)
+
+  pub magnitude-some : 0 < o → 0 < magnitude m o
+  unfolding magnitude
+  magnitude-some h = go (le-or-lt (2 ^ m) o)
+    where
+      led : 2 ^ m ≤ o → 0 < magnitude m o
+      led l = mul-pos (rw (significand-led m o l) (omega (arith, pow-pos m))) (pow-pos (o / 2 ^ m - 1))
+
+      go : (2 ^ m ≤ o) ⊎ (o < 2 ^ m) → 0 < magnitude m o
+      go (inl l) = led l
+      go (inr l) = rw (magnitude-plain m o l) h
+
+-- ---- trying the bins from the top
+
+module _ (W m t : ℕ) where
+  pub largest-found : (n j : ℕ) → j ≤ n → notAbove W m t j ≡ true → ((i : ℕ) → j < i → i ≤ n → notAbove W m t i ≡ false)
+      → largestUpTo W m t n ≡ Exponent (exponentOf W m j)
+  unfolding largestUpTo
+  largest-found zero j h y rest = let e : j ≡ 0 = omega arith in rw (rw e at y) (ap (λ (i : ℕ). Exponent (exponentOf W m i)) (sym e))
+  largest-found (suc n) j h y rest = go (λ l. largest-found n j l y (λ i a b. rest i a (le-step b))) (le-or-lt j n)
+    where
+      go : (j ≤ n → largestUpTo W m t n ≡ Exponent (exponentOf W m j)) → (j ≤ n) ⊎ (n < j) → largestUpTo W m t (suc n) ≡ Exponent (exponentOf W m j)
+      go again (inl l) = rw (rest (suc n) (omega arith) (le-refl (suc n))) (again l)
+      go again (inr l) = let e : j ≡ suc n = omega arith in rw (rw e at y) (ap (λ (i : ℕ). Exponent (exponentOf W m i)) (sym e))
+
+  pub largest-none : (n : ℕ) → ((i : ℕ) → i ≤ n → notAbove W m t i ≡ false) → largestUpTo W m t n ≡ TooSmall
+  unfolding largestUpTo
+  largest-none zero none = rw (none 0 (le-refl 0))
+  largest-none (suc n) none = rw (none (suc n) (le-refl (suc n))) (largest-none n (λ i h. none i (le-step h)))
+
+  -- what is answered is the largest, and only that one
+  pub record Largest (n : ℕ) (k : ℤ) : Type 0 where
+    pub bin : ℕ
+    pub is : k ≡ exponentOf W m bin
+    pub within : bin ≤ n
+    pub below : notAbove W m t bin ≡ true
+    pub above : (i : ℕ) → i ≤ n → notAbove W m t i ≡ true → i ≤ bin
+
+  top-is : (n : ℕ) (k : ℤ) → notAbove W m t n ≡ true → Exponent (exponentOf W m n) ≡ Exponent k → Largest n k
+  top-is n k y e = record { bin = n; is = (cc); within = le-refl n; below = y; above = λ i h z. h }
+
+  one-more : (n : ℕ) (k : ℤ) → notAbove W m t (suc n) ≡ false → Largest n k → Largest (suc n) k
+  one-more n k y r = record { bin = r .bin; is = r .is; within = le-step (r .within); below = r .below; above = λ i h z. go i z (le-or-lt i n) h }
+    where
+      go : (i : ℕ) → notAbove W m t i ≡ true → (i ≤ n) ⊎ (n < i) → i ≤ suc n → i ≤ r .bin
+      go i z (inl l) h = r .above i l z
+      go i z (inr l) h = let e : i ≡ suc n = omega arith in let q : true ≡ false = sym (rw e at z) ∙ y in absurd (let d : _≡_ {A = ℕ} 0 1 = cc in omega arith)
+
+  never : (k : ℤ) → TooSmall ≡ Exponent k → ⊥
+  never k e = let d : _≡_ {A = ℕ} 0 1 = cc in omega arith
+
+  pub largest-is : (n : ℕ) (k : ℤ) → largestUpTo W m t n ≡ Exponent k → Largest n k
+  unfolding largestUpTo
+  largest-is zero k e = go (notAbove W m t zero) refl
+    where
+      go : (b : Bool) → notAbove W m t zero ≡ b → Largest zero k
+      go true y = top-is zero k y (rw y at e)
+      go false y = absurd (never k (rw y at e))
+  largest-is (suc n) k e = go (largest-is n k) (notAbove W m t (suc n)) refl
+    where
+      go : (largestUpTo W m t n ≡ Exponent k → Largest n k) → (b : Bool) → notAbove W m t (suc n) ≡ b → Largest (suc n) k
+      go again true y = top-is (suc n) k y (rw y at e)
+      go again false y = one-more n k y (again (rw y at e))
+
+  -- ---- by the digits of the magnitude
+
+  module _ (some : 0 < magnitude 52 t) where
+    pub not-above-yes : (j : ℕ) → j + (leastK 64 52 - leastK W m) ≤ size (magnitude 52 t) → notAbove W m t j ≡ true
+    unfolding notAbove
+    not-above-yes j h =
+        let x = magnitude 52 t in
+        let d : 0 < size x = size-from x 0 some in
+        let l : 2 ^ (j + (leastK 64 52 - leastK W m)) ≤ 2 ^ size x = pow-mono h in
+        le-leb (2 ^ (j + (leastK 64 52 - leastK W m))) (2 * x) (omega (arith, twice-half (size x) d, size-reaches x (size x - 1) (omega arith)))
+
+    pub not-above-no : (j : ℕ) → size (magnitude 52 t) < j + (leastK 64 52 - leastK W m) → notAbove W m t j ≡ false
+    unfolding notAbove
+    not-above-no j h =
+        let x = magnitude 52 t in
+        let l : 2 ^ suc (size x) ≤ 2 ^ (j + (leastK 64 52 - leastK W m)) = pow-mono h in
+        lt-leb (2 ^ (j + (leastK 64 52 - leastK W m))) (2 * x) (omega (arith, two-pow-succ (size x), size-lt x))
+
+    pub bound-is : isTolerance t ≡ true → leastK 64 52 - leastK W m ≤ size (magnitude 52 t)
+        → boundAt W m t ≡ Exponent (exponentOf W m (min (size (magnitude 52 t) - (leastK 64 52 - leastK W m)) (lastBin W m)))
+    unfolding boundAt
+    bound-is e h =
+        let lift = leastK 64 52 - leastK W m in
+        let d = size (magnitude 52 t) in
+        rw e
+        (largest-found (lastBin W m) (min (d - lift) (lastBin W m)) (min-le-right (d - lift) (lastBin W m))
+        (not-above-yes (min (d - lift) (lastBin W m)) (omega arith)) (λ i a b. not-above-no i (omega arith)))
+
+    pub bound-none : isTolerance t ≡ true → size (magnitude 52 t) < leastK 64 52 - leastK W m → boundAt W m t ≡ TooSmall
+    unfolding boundAt
+    bound-none e h = rw e (largest-none (lastBin W m) (λ i a. not-above-no i (omega arith)))
+
+-- ---- what the functions of src/bound.rt ask and return
+
+pub refused-is : (W m t : ℕ) → isTolerance t ≡ false → NoTolerance ≡ boundAt W m t
+unfolding boundAt
+refused-is W m t e = rw e
+
+pub word-digits : (W a : ℕ) → a < 2 ^ W → W - leadingZeros W a ≡ size a
+word-digits W a h = ap (λ (n : ℕ). W - n) (zeros-size W a h) ∙ (let e : W - (W - size a) ≡ size a = omega (arith, size-le a W h) in e)
+
+-- a bin as a signed number, less the smallest k
+module _ (w : Width) (j least : ℕ) (h : j < 2 ^ hbits w) (l : suc least < 2 ^ hbits w) where
+  difference : toZ w j -ℤ pos (suc least) ≡ subℕ j (suc least)
+  difference = ap (λ (z : ℤ). z -ℤ pos (suc least)) (toZ-pos w h)
+
+  pub difference-fits : SFits w (toZ w j -ℤ pos (suc least))
+  difference-fits = rw difference (go (le-or-lt (suc least) j))
+    where
+      go : (suc least ≤ j) ⊎ (j < suc least) → SFits w (subℕ j (suc least))
+      go (inl g) = rw (le-ltb j (suc least) g) (record { sfits = omega arith })
+      go (inr g) = rw (lt-ltb j (suc least) g) (record { sfits = omega arith })
+
+  pub difference-is : toZ w (ofZ w (toZ w j -ℤ pos (suc least))) ≡ subℕ j (suc least)
+  difference-is = toZ-ofZ difference-fits ∙ difference
