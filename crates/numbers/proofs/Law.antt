@@ -7,3 +7,4 @@ pub mod Working
 pub mod Exponent
 pub mod Answers
 pub mod Bound
+pub mod Ieee

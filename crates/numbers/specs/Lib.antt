@@ -5,3 +5,4 @@ pub mod Lossless
 pub mod Tolerance
 pub mod Answers
 pub mod Bound
+pub mod Theorem

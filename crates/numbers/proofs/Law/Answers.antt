@@ -18,7 +18,7 @@ use Rattle.numbers.specs.Tolerance.{leastK, lastBin, allowedK, binOf, to
 use Rattle.numbers.specs.Answers.{binAnswer, codeAnswer, patternAnswer}
 use Rattle.numbers.proofs.Law.Exponent.{lifted}
 
-and-left : (a b : Bool) → a && b ≡ true → a ≡ true
+pub and-left : (a b : Bool) → a && b ≡ true → a ≡ true
 and-left true b e = refl
 and-left false b e = e
 

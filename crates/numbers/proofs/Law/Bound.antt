@@ -1,13 +1,14 @@
 -- The laws of bound: the answer by the magnitude's digits, and that it is the largest. Once over W and m.
-use mathlib.Core.Path.{_≡_, refl, sym, ap, ap₂, _∙_}
+use mathlib.Core.Path.{_≡_, refl, sym, ap, ap₂, subst, _∙_}
 use mathlib.Core.Logic.{_⊎_, inl, inr}
 use mathlib.Core.Bool.{Bool, true, false, _&&_, cond}
 use Prim.Native.Nat.{ℕ, zero, suc, _+_, _-_, _*_, _/_, _%_, _^_, _≤_, _<_, min}
 use native.Mathlib.Nat.{le-refl, le-step, min-le-right, le-trans, le-antisymm, le-of-eq, lt-of-lt-of-le, le-div-iff-mul-le, div-lt-iff-lt-mul, one-mul, two-pow-succ, mod-lt, pos-of-ne-zero, mul-pos}
 use native.Mathlib.Omega.{arith}
 use borrow.Author.Tests.{lt-ltb, le-ltb, le-leb, lt-leb, leb-true}
-use lib.Dec.{leb, ltb}
-use lib.IntN.{ℤ, pos, negsuc, subℕ, _-ℤ_}
+use lib.Dec.{T, leb, ltb}
+use lib.IntN.{ℤ, pos, negsuc, negℤ, natAbs, subℕ, _+ℤ_, _-ℤ_}
+use lib.Signed.{leZ}
 use lib.Count.{leadingZeros}
 use lib.Pow.{pow-pos, pow-mono}
 use lib.Ieee.{size}
@@ -17,8 +18,11 @@ use mir.Val.{hbits, SFits, toZ, ofZ}
 use mir.Facts.{toZ-ofZ, toZ-pos}
 use Rattle.numbers.specs.declared.bound.BoundAnswer.{BoundAnswer}
 use Rattle.numbers.specs.declared.bound.BoundAnswer.the-variants.{Exponent, UnknownWidth, NoTolerance, TooSmall}
-use Rattle.numbers.specs.Tolerance.{leastK, lastBin, magnitude, significand}
+use Rattle.numbers.specs.Tolerance.{leastK, lastBin, allowedK, binOf, magnitude}
 use Rattle.numbers.specs.Bound.{isTolerance, exponentOf, notAbove, largestUpTo, boundAt, boundAnswer}
+use Rattle.numbers.specs.Theorem.{Format, IsBound}
+use Rattle.numbers.proofs.Law.Exponent.{sub-mono, add-sub, sub-add}
+use Rattle.numbers.proofs.Law.Answers.{and-left, bin-small}
 use Rattle.numbers.proofs.Law.Number.{le-or-lt, twice-half, fraction-only, led-by-one}
 use Rattle.numbers.proofs.Law.Tolerance.{size-from, size-together, significand-led, magnitude-plain, exponent-some}
 use Rattle.numbers.proofs.Law.Working.{zeros-size}
@@ -96,6 +100,26 @@ module _ (W m t : ℕ) where
   unfolding largestUpTo
   largest-none zero none = rw (none 0 (le-refl 0))
   largest-none (suc n) none = rw (none (suc n) (le-refl (suc n))) (largest-none n (λ i h. none i (le-step h)))
+
+  pub none-is : (n : ℕ) → largestUpTo W m t n ≡ TooSmall → (i : ℕ) → i ≤ n → notAbove W m t i ≡ false
+  unfolding largestUpTo
+  none-is zero e i h = go (notAbove W m t zero) refl
+    where
+      is : i ≡ 0
+      is = omega arith
+
+      go : (b : Bool) → notAbove W m t zero ≡ b → notAbove W m t i ≡ false
+      go true y = let z : Exponent (exponentOf W m zero) ≡ TooSmall = rw y at e in cc
+      go false y = rw is y
+  none-is (suc n) e i h = go (none-is n) (notAbove W m t (suc n)) refl
+    where
+      go : (largestUpTo W m t n ≡ TooSmall → (i : ℕ) → i ≤ n → notAbove W m t i ≡ false) → (b : Bool) → notAbove W m t (suc n) ≡ b → notAbove W m t i ≡ false
+      go again true y = let z : Exponent (exponentOf W m (suc n)) ≡ TooSmall = rw y at e in cc
+      go again false y = last (again (rw y at e)) (le-or-lt i n)
+        where
+          last : ((i : ℕ) → i ≤ n → notAbove W m t i ≡ false) → (i ≤ n) ⊎ (n < i) → notAbove W m t i ≡ false
+          last below (inl l) = below i l
+          last below (inr l) = let is : i ≡ suc n = omega arith in rw is y
 
   -- what is answered is the largest, and only that one
   pub record Largest (n : ℕ) (k : ℤ) : Type 0 where
@@ -186,3 +210,57 @@ module _ (w : Width) (j least : ℕ) (h : j < 2 ^ hbits w) (l : suc least < 2 ^ 
 
   pub difference-is : toZ w (ofZ w (toZ w j -ℤ pos (suc least))) ≡ subℕ j (suc least)
   difference-is = toZ-ofZ difference-fits ∙ difference
+
+-- ---- in the exponents' own terms
+
+module _ (W m : ℕ) (format : Format W m) where
+  previous : (n : ℕ) × (leastK W m ≡ suc n)
+  previous = (leastK W m - 1, omega (arith, format .least))
+
+  lowest : negℤ (pos (leastK W m)) ≡ subℕ 0 (leastK W m)
+  lowest = go (previous .0) (previous .1)
+    where
+      go : (n : ℕ) → leastK W m ≡ suc n → negℤ (pos (leastK W m)) ≡ subℕ 0 (leastK W m)
+      go n e = rw e (sym (rw (lt-ltb 0 (suc n) (omega arith)) (ap negsuc (let q : suc n - 1 ≡ n = omega arith in q))))
+
+  pub bin-allowed : (j : ℕ) → j ≤ lastBin W m → allowedK W m (exponentOf W m j) ≡ true
+  unfolding allowedK exponentOf
+  bin-allowed j h = rw (lowest) (rw (sub-mono (leastK W m) 0 j (omega arith), sub-mono (leastK W m) j (lastBin W m) h))
+
+  pub bin-back : (j : ℕ) → binOf W m (exponentOf W m j) ≡ j
+  unfolding binOf exponentOf
+  bin-back j = ap natAbs (add-sub (leastK W m) j)
+
+  pub exponent-back : (k : ℤ) → allowedK W m k ≡ true → exponentOf W m (binOf W m k) ≡ k
+  unfolding allowedK binOf exponentOf
+  exponent-back k e = go (previous .0) (previous .1)
+    where
+      go : (n : ℕ) → leastK W m ≡ suc n → subℕ (natAbs (k +ℤ pos (leastK W m))) (leastK W m) ≡ k
+      go n l = rw l (sub-add n k (rw l at (and-left (leZ (negℤ (pos (leastK W m))) k) (leZ k (subℕ (lastBin W m) (leastK W m))) e)))
+
+  pub largest-bound : (t : ℕ) (k : ℤ) → Largest W m t (lastBin W m) k → IsBound W m t k
+  unfolding exponentOf
+  largest-bound t k r =
+      record {
+        allowed = rw (r .is) (bin-allowed (r .bin) (r .within));
+        below = rw (r .is) (rw (bin-back (r .bin)) (r .below));
+        largest = λ other a b.
+            let up : binOf W m other ≤ r .bin = r .above (binOf W m other) (bin-small W m other (format .least) (format .order) a) b in
+            record { le = subst T (sym (ap₂ leZ (sym (exponent-back other a)) (r .is) ∙ sub-mono (leastK W m) (binOf W m other) (r .bin) up)) tt };
+      }
+
+  pub bound-sound : (t : ℕ) (k : ℤ) → boundAt W m t ≡ Exponent k → IsBound W m t k
+  unfolding boundAt
+  bound-sound t k e = go (isTolerance t) refl
+    where
+      go : (b : Bool) → isTolerance t ≡ b → IsBound W m t k
+      go true y = largest-bound t k (largest-is W m t (lastBin W m) k (rw y at e))
+      go false y = absurd (let z : NoTolerance ≡ Exponent k = rw y at e in let d : _≡_ {A = ℕ} 0 1 = cc in omega arith)
+
+  pub bound-refused : (t : ℕ) → boundAt W m t ≡ TooSmall → (k : ℤ) → allowedK W m k ≡ true → notAbove W m t (binOf W m k) ≡ false
+  unfolding boundAt
+  bound-refused t e k a = go (isTolerance t) refl
+    where
+      go : (b : Bool) → isTolerance t ≡ b → notAbove W m t (binOf W m k) ≡ false
+      go true y = none-is W m t (lastBin W m) (rw y at e) (binOf W m k) (bin-small W m k (format .least) (format .order) a)
+      go false y = let z : NoTolerance ≡ TooSmall = rw y at e in cc

@@ -288,6 +288,13 @@ module _ (W m : ℕ) (room : m + 3 ≤ W) (j : ℕ) (allowed : j ≤ lastBin W m
   unfolding thresholdOrdinal
   next-bin = suc-mul j (2 ^ m)
 
+  -- the exponent of the infinities and the not-a-numbers lies above T's
+  pub special-above : (o : ℕ) → (2 ^ (W - 1 - m) - 1) * 2 ^ m ≤ o → threshold m j ≤ magnitude m o
+  unfolding lastBin thresholdOrdinal
+  special-above o h =
+      let some : 2 ^ 2 ≤ 2 ^ (W - 1 - m) = pow-mono (let q : 2 ≤ W - 1 - m = omega arith in q) in
+      from-threshold m j o (le-trans (mul-le-mul-right (2 ^ m) (let q : suc j ≤ 2 ^ (W - 1 - m) - 1 = omega arith in q)) h)
+
   -- "The largest u": no pattern has a larger one
   pub code-largest : (o : ℕ) → o < 2 ^ (W - 1) → magnitudeCode m j o ≤ largestU W m j
   unfolding largestU
@@ -319,7 +326,7 @@ module _ (W m : ℕ) (room : m + 3 ≤ W) (j : ℕ) (allowed : j ≤ lastBin W m
   unfolding sign
   sign-small p h = div-lt-iff-lt-mul (pow-pos (W - 1)) .1 (omega (arith, halves))
 
-  code-half : (p : ℕ) → p < 2 ^ W → toleranceCode W m j p / 2 ≡ magnitudeCode m j (ordinal W p)
+  pub code-half : (p : ℕ) → p < 2 ^ W → toleranceCode W m j p / 2 ≡ magnitudeCode m j (ordinal W p)
   unfolding toleranceCode
   code-half p h = ap (λ (n : ℕ). (n + sign W p) / 2) (mul-comm 2 (magnitudeCode m j (ordinal W p))) ∙ digits-div (magnitudeCode m j (ordinal W p)) (sign-small p h)
 

@@ -1,0 +1,129 @@
+-- The theorems of the number rules, each stated once over the width W and the fraction bits m, and at the end for binary32 and binary64.
+-- The proofs are citations of the laws in proofs/Law/. The words are those of specs/.
+use mathlib.Core.Path.{_≡_, refl, sym, ap, ap₂, _∙_}
+use mathlib.Core.Bool.{Bool, true, false, cond}
+use Prim.Native.Nat.{ℕ, suc, _+_, _-_, _*_, _/_, _%_, _^_, _≤_, _<_}
+use native.Mathlib.Nat.{mod-lt}
+use native.Mathlib.Omega.{arith}
+use lib.Dec.{leb, eqb, lit<, lit≤}
+use lib.IntN.{ℤ}
+use lib.Pow.{pow-pos}
+use lib.Ieee.{binary32, binary64, inf, nan, ofBits}
+use lib.Ieee.Exact.{HasValue}
+use Rattle.numbers.specs.declared.bound.BoundAnswer.the-variants.{Exponent, TooSmall}
+use Rattle.numbers.specs.Lossless.{losslessCode, losslessRestored}
+use Rattle.numbers.specs.Tolerance.{leastK, lastBin, allowedK, binOf, sign, ordinal, magnitude, threshold, magnitudeCode, toleranceCode, toleranceRestored, largestU}
+use Rattle.numbers.specs.Bound.{notAbove, boundAt}
+use Rattle.numbers.specs.Theorem.{Format, distance, Within, IsBound}
+use Rattle.numbers.proofs.Law.Lossless as Lossless
+use Rattle.numbers.proofs.Law.Tolerance as Tolerance
+use Rattle.numbers.proofs.Law.Answers.{bin-small}
+use Rattle.numbers.proofs.Law.Exponent.{leZ-both}
+use Rattle.numbers.proofs.Law.Bound as Bound
+use Rattle.numbers.proofs.Law.Ieee as Ieee
+
+-- ---- the widths: binary32 and binary64, and binary16 by its numbers alone
+
+pub format-32 : Format 32 23
+unfolding leastK lastBin
+format-32 = record { room = lit≤ tt; least = lit< tt; order = lit≤ tt }
+
+pub format-64 : Format 64 52
+unfolding leastK lastBin
+format-64 = record { room = lit≤ tt; least = lit< tt; order = lit≤ tt }
+
+pub format-16 : Format 16 10
+unfolding leastK lastBin
+format-16 = record { room = lit≤ tt; least = lit< tt; order = lit≤ tt }
+
+-- ---- lossless
+
+module _ (W m : ℕ) (format : Format W m) where
+  room : m + 2 ≤ W
+  room = omega (arith, format .room)
+
+  -- "Lossless packing restores every bit pattern."
+  pub every-pattern-is-restored : (p : ℕ) → p < 2 ^ W → losslessRestored W m (losslessCode W m p) ≡ p
+  every-pattern-is-restored = Lossless.restored-code W m room
+
+  -- "Every code has exactly one pattern."
+  pub every-code-has-one-pattern : (c : ℕ) → c < 2 ^ W
+      → (p : ℕ) × (p < 2 ^ W) × (losslessCode W m p ≡ c) × ((q : ℕ) → q < 2 ^ W → losslessCode W m q ≡ c → q ≡ p)
+  every-code-has-one-pattern c h = (
+    losslessRestored W m c,
+    Lossless.restored-below W m room c h,
+    Lossless.code-restored W m room c h,
+    λ q l e. sym (every-pattern-is-restored q l) ∙ ap (losslessRestored W m) e,
+  )
+
+  -- ---- tolerance
+
+  module _ (k : ℤ) (allowed : allowedK W m k ≡ true) where
+    bin : binOf W m k ≤ lastBin W m
+    bin = bin-small W m k (format .least) (format .order) allowed
+
+    -- "Under tolerance 2^k, a value whose magnitude is below the threshold returns at most 2^k off, exactly; all else returns bit for bit."
+    pub every-pattern-returns-within : (p : ℕ) → p < 2 ^ W
+        → Within W m (binOf W m k) p (toleranceRestored W m (binOf W m k) (toleranceCode W m (binOf W m k) p))
+    unfolding distance
+    every-pattern-returns-within p h =
+        let j = binOf W m k in
+        record {
+          signed = Tolerance.sign-returns W m (format .room) j bin p h;
+          close = λ l.
+              rw (Tolerance.ordinal-returned W m (format .room) j bin p h)
+              (let near = Tolerance.returns-close m j (ordinal W p) l in omega (arith, near .0, near .1));
+          exact = Tolerance.pattern-returns W m (format .room) j bin p h;
+        }
+
+    -- "infinities and not-a-numbers too": their ordinals are those from the largest exponent on
+    pub specials-return : (p : ℕ) → p < 2 ^ W → (2 ^ (W - 1 - m) - 1) * 2 ^ m ≤ ordinal W p
+        → toleranceRestored W m (binOf W m k) (toleranceCode W m (binOf W m k) p) ≡ p
+    specials-return p h l =
+        Tolerance.pattern-returns W m (format .room) (binOf W m k) bin p h (Tolerance.special-above W m (format .room) (binOf W m k) bin (ordinal W p) l)
+
+    -- "The largest u": no pattern has a larger one, and each u up to it is that of the pattern it restores
+    pub no-u-is-larger : (p : ℕ) → p < 2 ^ W → toleranceCode W m (binOf W m k) p / 2 ≤ largestU W m (binOf W m k)
+    unfolding ordinal
+    no-u-is-larger p h =
+        rw (Tolerance.code-half W m (format .room) (binOf W m k) bin p h)
+        (Tolerance.code-largest W m (format .room) (binOf W m k) bin (ordinal W p) (mod-lt p (pow-pos (W - 1))))
+
+    pub nothing-read-is-lost : (c : ℕ) → c / 2 ≤ largestU W m (binOf W m k)
+        → toleranceCode W m (binOf W m k) (toleranceRestored W m (binOf W m k) c) ≡ c
+    nothing-read-is-lost = Tolerance.code-returns W m (format .room) (binOf W m k) bin
+
+  -- ---- bound
+
+  -- "answers the largest allowed k with 2^k not above it"
+  pub bound-is-the-largest : (t : ℕ) (k : ℤ) → boundAt W m t ≡ Exponent k → IsBound W m t k
+  bound-is-the-largest = Bound.bound-sound W m format
+
+  -- "and only that one"
+  pub there-is-one-bound : (t : ℕ) (k other : ℤ) → IsBound W m t k → IsBound W m t other → k ≡ other
+  there-is-one-bound t k other a b = leZ-both k other (b .largest k (a .allowed) (a .below) .le) (a .largest other (b .allowed) (b .below) .le)
+
+  -- 13: "no allowed k is small enough"
+  pub too-small-means-none : (t : ℕ) → boundAt W m t ≡ TooSmall → (k : ℤ) → allowedK W m k ≡ true → notAbove W m t (binOf W m k) ≡ false
+  too-small-means-none = Bound.bound-refused W m format
+
+-- ---- the magnitude is IEEE 754's, by the toolchain's own account of it
+
+-- a finite binary32 pattern stands for its magnitude times 2 ^ -149, with the sign of its highest bit
+pub binary32-value : (p : ℕ) → ordinal 32 p / 2 ^ 23 < 255 → HasValue (ofBits binary32 p) (leb (2 ^ 31) p) (magnitude 23 (ordinal 32 p)) (2 ^ 149)
+unfolding ordinal
+binary32-value = Ieee.finite-value binary32
+
+-- a finite binary64 pattern stands for its magnitude times 2 ^ -1074
+pub binary64-value : (p : ℕ) → ordinal 64 p / 2 ^ 52 < 2047 → HasValue (ofBits binary64 p) (leb (2 ^ 63) p) (magnitude 52 (ordinal 64 p)) (2 ^ 1074)
+unfolding ordinal
+binary64-value = Ieee.finite-value binary64
+
+-- the other patterns are the infinities and the not-a-numbers
+pub binary32-special : (p : ℕ) → ordinal 32 p / 2 ^ 23 ≡ 255 → ofBits binary32 p ≡ cond (eqb (p % 2 ^ 23) 0) (inf (leb (2 ^ 31) p)) nan
+unfolding ordinal
+binary32-special = Ieee.special-value binary32
+
+pub binary64-special : (p : ℕ) → ordinal 64 p / 2 ^ 52 ≡ 2047 → ofBits binary64 p ≡ cond (eqb (p % 2 ^ 52) 0) (inf (leb (2 ^ 63) p)) nan
+unfolding ordinal
+binary64-special = Ieee.special-value binary64
