@@ -13,6 +13,13 @@ pub enum BoundAnswer {
     TooSmall,
 }
 
+// The pattern of infinity, above which are the not-a-numbers and all negatives.
+fn is_tolerance(t: u64) -> bool
+    ensures { λ r. ⌜ r ≡ isTolerance t ⌝ }
+{
+    (0 < t) & (t < 0x7FF0_0000_0000_0000)
+}
+
 // How many binary digits the magnitude of a tolerance has: the bin j is not above it up to that many.
 fn digits_of(t: u64) -> u32
     requires { ⌜ isTolerance t ≡ true ⌝ }
@@ -29,10 +36,8 @@ fn digits_of(t: u64) -> u32
 fn bound32(t: u64) -> BoundAnswer
     ensures { λ r. ⌜ r ≡ boundAt 32 23 t ⌝ }
 {
-    if t == 0 {
-        return BoundAnswer::NoTolerance;
-    }
-    if 0x7FF0_0000_0000_0000 <= t {
+    let some = is_tolerance(t);
+    if !some {
         return BoundAnswer::NoTolerance;
     }
     let d = digits_of(t);
@@ -45,10 +50,8 @@ fn bound32(t: u64) -> BoundAnswer
 fn bound64(t: u64) -> BoundAnswer
     ensures { λ r. ⌜ r ≡ boundAt 64 52 t ⌝ }
 {
-    if t == 0 {
-        return BoundAnswer::NoTolerance;
-    }
-    if 0x7FF0_0000_0000_0000 <= t {
+    let some = is_tolerance(t);
+    if !some {
         return BoundAnswer::NoTolerance;
     }
     BoundAnswer::Exponent(tolerance::clipped64(digits_of(t)) as i32 - 1075)

@@ -3,7 +3,7 @@
 ghost use mathlib.Core.Path.{_≡_};
 ghost use Rattle.numbers.specs.Signed.{signedView, folded, unfolded, bitsOf};
 
-pub fn view32(s: u32) -> i32
+pub(crate) fn view32(s: u32) -> i32
     ensures { λ x. ⌜ x ≡ signedView 32 s ⌝ }
 {
     if s < 0x8000_0000 {
@@ -13,7 +13,7 @@ pub fn view32(s: u32) -> i32
     }
 }
 
-pub fn view64(s: u64) -> i64
+pub(crate) fn view64(s: u64) -> i64
     ensures { λ x. ⌜ x ≡ signedView 64 s ⌝ }
 {
     if s < 0x8000_0000_0000_0000 {
@@ -23,7 +23,7 @@ pub fn view64(s: u64) -> i64
     }
 }
 
-pub fn folded32(x: i32) -> u32
+pub(crate) fn folded32(x: i32) -> u32
     ensures { λ c. ⌜ c ≡ folded x ⌝ }
 {
     if x < 0 {
@@ -33,7 +33,7 @@ pub fn folded32(x: i32) -> u32
     }
 }
 
-pub fn folded64(x: i64) -> u64
+pub(crate) fn folded64(x: i64) -> u64
     ensures { λ c. ⌜ c ≡ folded x ⌝ }
 {
     if x < 0 {
@@ -43,7 +43,7 @@ pub fn folded64(x: i64) -> u64
     }
 }
 
-pub fn unfolded32(c: u32) -> i32
+pub(crate) fn unfolded32(c: u32) -> i32
     ensures { λ x. ⌜ x ≡ unfolded c ⌝ }
 {
     if c % 2 == 0 {
@@ -53,7 +53,7 @@ pub fn unfolded32(c: u32) -> i32
     }
 }
 
-pub fn unfolded64(c: u64) -> i64
+pub(crate) fn unfolded64(c: u64) -> i64
     ensures { λ x. ⌜ x ≡ unfolded c ⌝ }
 {
     if c % 2 == 0 {
@@ -63,7 +63,7 @@ pub fn unfolded64(c: u64) -> i64
     }
 }
 
-pub fn bits32(x: i32) -> u32
+pub(crate) fn bits32(x: i32) -> u32
     ensures { λ s. ⌜ s ≡ bitsOf 32 x ⌝ }
 {
     if x < 0 {
@@ -73,7 +73,7 @@ pub fn bits32(x: i32) -> u32
     }
 }
 
-pub fn bits64(x: i64) -> u64
+pub(crate) fn bits64(x: i64) -> u64
     ensures { λ s. ⌜ s ≡ bitsOf 64 x ⌝ }
 {
     if x < 0 {

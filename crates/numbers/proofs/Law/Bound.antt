@@ -29,28 +29,12 @@ use Rattle.numbers.proofs.Law.Working.{zeros-size}
 
 -- ---- what is a tolerance
 
-and-false : (b : Bool) → b && false ≡ false
-and-false true = refl
-and-false false = refl
-
-pub zero-is-none : (t : ℕ) → t ≡ 0 → isTolerance t ≡ false
-unfolding isTolerance
-zero-is-none t e = rw (le-ltb 0 t (omega arith))
-
-pub high-is-none : (t : ℕ) → 2047 * 2 ^ 52 ≤ t → isTolerance t ≡ false
-unfolding isTolerance
-high-is-none t h = ap (λ (b : Bool). ltb 0 t && b) (le-ltb t (2047 * 2 ^ 52) h) ∙ and-false (ltb 0 t)
-
-pub between-is : (t : ℕ) → (t ≡ 0 → ⊥) → t < 2047 * 2 ^ 52 → isTolerance t ≡ true
-unfolding isTolerance
-between-is t s h = rw (lt-ltb 0 t (pos-of-ne-zero s), lt-ltb t (2047 * 2 ^ 52) h)
-
 pub tolerance-some : (t : ℕ) → isTolerance t ≡ true → 0 < t
 unfolding isTolerance
 tolerance-some t e = go (le-or-lt t 0)
   where
     go : (t ≤ 0) ⊎ (0 < t) → 0 < t
-    go (inl h) = let z : false ≡ true = sym (zero-is-none t (omega arith)) ∙ e in absurd (let y : _≡_ {A = ℕ} 0 1 = cc in omega arith)
+    go (inl h) = let z : false ≡ true = rw (le-ltb 0 t h) at e in absurd (let y : _≡_ {A = ℕ} 0 1 = cc in omega arith)
     go (inr h) = h
 
 -- ---- how many digits a magnitude has
