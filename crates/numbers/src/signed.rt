@@ -1,9 +1,10 @@
 // The signed view of a word and its fold to an unsigned code: the last step of the lossless code, and the way back.
 // A cast of a large u32 to i32 is undefined in Rattle, so the upper half goes by -1 - (MAX - s), which is the same number.
 ghost use mathlib.Core.Path.{_≡_};
+ghost use lib.IntN.{natAbs};
 ghost use Rattle.numbers.specs.Signed.{signedView, folded, unfolded, bitsOf};
 
-pub(crate) fn view32(s: u32) -> i32
+pub fn view32(s: u32) -> i32
     ensures { λ x. ⌜ x ≡ signedView 32 s ⌝ }
 {
     if s < 0x8000_0000 {
@@ -63,7 +64,7 @@ pub(crate) fn unfolded64(c: u64) -> i64
     }
 }
 
-pub(crate) fn bits32(x: i32) -> u32
+pub fn bits32(x: i32) -> u32
     ensures { λ s. ⌜ s ≡ bitsOf 32 x ⌝ }
 {
     if x < 0 {
@@ -80,5 +81,16 @@ pub(crate) fn bits64(x: i64) -> u64
         u64::MAX - ((-1 - x) as u64)
     } else {
         x as u64
+    }
+}
+
+// A signed number without its sign, for a program that prints an exponent.
+pub fn size32(x: i32) -> u32
+    ensures { λ r. ⌜ r ≡ natAbs x ⌝ }
+{
+    if x < 0 {
+        ((-1 - x) as u32) + 1
+    } else {
+        x as u32
     }
 }

@@ -4,6 +4,7 @@ use mathlib.Core.Logic.{_⊎_, inl, inr}
 use mathlib.Core.Bool.{Bool, true, false}
 use Prim.Native.Nat.{ℕ, zero, suc, _+_, _-_, _*_, _/_, _%_, _^_, _≤_, _<_}
 use native.Mathlib.Nat.{zero-add, mul-comm}
+use native.Mathlib.Numerals.{add-one}
 use native.Mathlib.Omega.{arith}
 use borrow.Author.Tests.{lt-ltb, le-ltb, eq-eqb, ne-eqb}
 use lib.Dec.{T, ltb, eqb}
@@ -156,6 +157,9 @@ module _ (w : Width) where
     pub twice-one-fits : Fits w (natAbs y * 2 + 1)
     twice-one-fits = rw is (record { fits = omega (arith, half-twice) })
 
+    pub one-more-fits : Fits w (natAbs y + 1)
+    one-more-fits = rw is (record { fits = omega (arith, half-twice) })
+
     pub under-top : natAbs y ≤ 2 ^ bits w - 1
     under-top = rw is (omega (arith, half-twice))
 
@@ -166,6 +170,9 @@ module _ (w : Width) where
     pub positive-folded : natAbs (toZ w (ofZ w x)) * 2 ≡ folded x
     unfolding folded
     positive-folded = ap (λ (z : ℤ). natAbs z * 2) positive-cast ∙ mul-comm (mag x) 2 ∙ sym (ap folded (positive-is x f t))
+
+    pub positive-size : natAbs (toZ w (ofZ w x)) ≡ natAbs x
+    positive-size = ap natAbs (toZ-ofZ f)
 
     pub positive-bits : natAbs (toZ w (ofZ w x)) ≡ bitsOf (bits w) x
     unfolding bitsOf
@@ -187,6 +194,9 @@ module _ (w : Width) where
         ap (λ (z : ℤ). natAbs z * 2 + 1) negative-cast
         ∙ (let e : mag x * 2 + 1 ≡ 2 * mag x + 1 = omega arith in e)
         ∙ sym (ap folded (negative-is x f t))
+
+    pub negative-size : natAbs (toZ w (ofZ w (negsuc 0 -ℤ toZ w (ofZ w x)))) + 1 ≡ natAbs x
+    negative-size = ap (λ (z : ℤ). natAbs z + 1) negative-cast ∙ add-one (mag x) ∙ sym (ap natAbs (negative-is x f t))
 
     pub negative-bits : 2 ^ bits w - 1 - natAbs (toZ w (ofZ w (negsuc 0 -ℤ toZ w (ofZ w x)))) ≡ bitsOf (bits w) x
     unfolding bitsOf

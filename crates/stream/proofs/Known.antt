@@ -1,0 +1,54 @@
+-- Values that document 01 gives, and the rules of refusal 10 at small groups, computed.
+use mathlib.Core.Path.{_≡_, refl}
+use mathlib.Core.Bool.{Bool, true, false}
+use mathlib.Core.List.{List, [], _∷_}
+use Prim.Native.Nat.{_*_}
+use lib.Ieee.{size}
+use lib.ListN.{replicate}
+use Rattle.numbers.specs.Signed.{signedView, folded}
+use Rattle.numbers.specs.Lossless.{rotated, field, minus, lowered, stepped, losslessCode}
+use Rattle.stream.specs.Bytes.{number, digits}
+use Rattle.stream.specs.Group.{bytesFor, largest, widthOf, packed, groupBytes, givenWidth, groupLength, groupNumber, groupCodes, within, goodGroup}
+use Rattle.stream.specs.Setting.{fractionBits, codeAt, codesOf}
+use Rattle.stream.specs.Chunk.{groupsIn, groupsBytes, chunkBytes}
+
+-- the list 0, -0, 2^-149, whose codes are 0, 2 and 4: "then bytes 03 10 01"
+three-codes : groupBytes (0 ∷ 2 ∷ 4 ∷ []) ≡ 3 ∷ 16 ∷ 1 ∷ []
+unfolding groupBytes widthOf largest packed bytesFor digits number size
+three-codes = refl
+
+-- "0 if all are 0": a group of zeros is one byte
+all-zero : groupBytes (replicate 32 0) ≡ 0 ∷ []
+unfolding groupBytes widthOf largest packed bytesFor digits number size
+all-zero = refl
+
+-- each row: the largest u, how many codes, the bytes; first two that are good, then one for each rule that a group can break at width 32
+rows : List Bool
+rows =
+    goodGroup 32 2147483647 3 (3 ∷ 16 ∷ 1 ∷ [])
+    ∷ goodGroup 32 905969663 1 (groupBytes (2 * 905969663 ∷ []))
+    -- w above W
+    ∷ goodGroup 32 2147483647 1 (33 ∷ 0 ∷ 0 ∷ 0 ∷ 0 ∷ 1 ∷ [])
+    -- bytes missing
+    ∷ goodGroup 32 2147483647 3 (3 ∷ 16 ∷ [])
+    -- not smallest
+    ∷ goodGroup 32 2147483647 3 (4 ∷ 32 ∷ 4 ∷ [])
+    -- a padding bit set
+    ∷ goodGroup 32 2147483647 3 (3 ∷ 16 ∷ 3 ∷ [])
+    -- "u = 905969663 is read, 905969664 refused 10"
+    ∷ goodGroup 32 905969663 1 (groupBytes (2 * 905969664 ∷ []))
+    ∷ []
+
+rules : rows ≡ true ∷ true ∷ false ∷ false ∷ false ∷ false ∷ false ∷ []
+unfolding rows goodGroup within givenWidth groupLength groupNumber groupCodes groupBytes widthOf largest packed bytesFor digits number size
+rules = refl
+
+-- the list itself, coded losslessly, as a chunk
+three-values : chunkBytes 32 (codesOf 32 0 0 (0x00000000 ∷ 0x80000000 ∷ 0x00000001 ∷ [])) ≡ 3 ∷ 16 ∷ 1 ∷ []
+unfolding chunkBytes groupsBytes groupsIn codesOf codeAt fractionBits losslessCode rotated stepped lowered minus field signedView folded groupBytes widthOf largest packed bytesFor digits number size
+three-values = refl
+
+-- "1,024 zeros": 32 groups of one byte
+zeros : chunkBytes 32 (codesOf 32 0 0 (replicate 1024 0)) ≡ replicate 32 0
+unfolding chunkBytes groupsBytes groupsIn codesOf codeAt fractionBits losslessCode rotated stepped lowered minus field signedView folded groupBytes widthOf largest packed bytesFor digits number size
+zeros = refl

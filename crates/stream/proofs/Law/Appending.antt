@@ -1,0 +1,64 @@
+-- A list of bytes written piece by piece over what was there: what is left to write decides how far it has come.
+use mathlib.Core.Path.{_≡_, refl, sym, ap, ap₂, _∙_}
+use mathlib.Core.List.{List, [], _++_, append-assoc, append-nil}
+use Prim.Native.Nat.{ℕ, zero, _+_, _-_, _≤_}
+use native.Mathlib.Nat.{zero-add}
+use native.Mathlib.Omega.{arith}
+use lib.ListN.{length, take, drop, length-append, length-drop, drop-of-length-le}
+use lib.Seq.{take-at, drop-at, drop-drop, take-all, take-add, length-take-le}
+use borrow.Rule.Slice.PartMut.{putMid}
+
+-- Of `all`, the first `put` bytes stand in `out`, which was `base`; `rest` is still to come.
+pub record Appended (all rest base out : List ℕ) (put : ℕ) : Type 0 where
+  pub whole : put + length rest ≡ length all
+  pub left : drop put all ≡ rest
+  pub out-is : out ≡ take put all ++ drop put base
+  pub room : length all ≤ length base
+
+pub nothing-yet : (all base : List ℕ) → length all ≤ length base → Appended all all base base 0
+nothing-yet all base h = record { whole = zero-add (length all); left = refl; out-is = refl; room = h }
+
+pub all-there : (all base out : List ℕ) (put : ℕ) → Appended all [] base out put → out ≡ all ++ drop put base
+all-there all base out put a = a .out-is ∙ ap (λ (t : List ℕ). t ++ drop put base) (take-all put all (omega (arith, a .whole)))
+
+module _ (all rest base out : List ℕ) (put : ℕ) (a : Appended all rest base out put) where
+  pub within : put ≤ length all
+  within = omega (arith, a .whole)
+
+  front : take put out ≡ take put all
+  front = ap (take put) (a .out-is) ∙ take-at (take put all) (drop put base) put (length-take-le put all within)
+
+  behind : drop put out ≡ drop put base
+  behind = ap (drop put) (a .out-is) ∙ drop-at (take put all) (drop put base) put (length-take-le put all within)
+
+  -- the output keeps its length
+  pub same-room : length out ≡ length base
+  same-room =
+      ap length (a .out-is)
+      ∙ length-append (take put all) (drop put base)
+      ∙ ap₂ _+_ (length-take-le put all within) (length-drop put base)
+      ∙ (let e : put + (length base - put) ≡ length base = omega (arith, within, a .room) in e)
+
+  -- what is lent to the next piece
+  pub lent-is : take (length out - put) (drop put out) ≡ drop put out
+  lent-is = take-all (length out - put) (drop put out) (rw (length-drop put out) (omega arith))
+
+  pub lent-room : length (take (length out - put) (drop put out)) ≡ length base - put
+  lent-room = ap length (lent-is ∙ behind) ∙ length-drop put base
+
+  -- the next piece, written into the part from `put` on
+  pub one-piece : (piece more ys : List ℕ) (r : ℕ) → rest ≡ piece ++ more → r ≡ length piece
+      → ys ≡ piece ++ drop r (take (length out - put) (drop put out))
+      → Appended all more base (putMid put (length out - put) out ys) (put + r)
+  one-piece piece more ys r e l is = record {
+    whole = let w : put + length rest ≡ length all = a .whole in let q : length rest ≡ length piece + length more = ap length e ∙ length-append piece more in omega arith;
+    left = sym (drop-drop r put all) ∙ ap (drop r) (a .left ∙ e) ∙ drop-at piece more r (sym l);
+    out-is =
+        ap₂ (λ (x y : List ℕ). x ++ (ys ++ y)) front (drop-of-length-le (drop put out) {i = length out - put} (rw (length-drop put out) (omega arith)))
+        ∙ ap (λ (y : List ℕ). take put all ++ y) (append-nil ys ∙ is ∙ ap (λ (t : List ℕ). piece ++ drop r t) (lent-is ∙ behind))
+        ∙ sym (append-assoc (take put all) piece (drop r (drop put base)))
+        ∙ ap₂ _++_
+        (sym (take-add put r all ∙ ap (λ (t : List ℕ). take put all ++ t) (ap (take r) (a .left ∙ e) ∙ take-at piece more r (sym l))))
+        (drop-drop r put base);
+    room = a .room;
+  }

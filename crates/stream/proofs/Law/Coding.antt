@@ -1,0 +1,102 @@
+-- Values and codes element by element: a list filled from the front by a function of another list's elements; and that codes and patterns
+-- stay below 2 ^ W.
+use mathlib.Core.Path.{_≡_, refl, sym, ap, ap₂, _∙_}
+use mathlib.Core.Logic.{_⊎_, inl, inr}
+use mathlib.Core.Bool.{Bool, true, false, cond}
+use mathlib.Core.List.{List, [], _∷_, _++_, map, map-append, append-assoc}
+use Prim.Native.Nat.{ℕ, zero, suc, _+_, _-_, _*_, _/_, _^_, _≤_, _<_, min}
+use native.Mathlib.Nat.{min-le-right}
+use native.Mathlib.Numerals.{add-one}
+use native.Mathlib.Omega.{arith}
+use lib.Dec.{eqb}
+use lib.Pow.{pow-pos}
+use lib.ListN.{length, take, drop, getD, set, length-map, length-append, length-drop}
+use lib.Seq.{take-suc, take-suc-set, drop-cons, set-at, length-take-le}
+use Rattle.numbers.specs.Theorem.{Format}
+use Rattle.numbers.specs.Tolerance.{lastBin}
+use Rattle.numbers.proofs.Law.Lossless as Lossless
+use Rattle.numbers.proofs.Law.Tolerance as Tolerance
+use Rattle.stream.specs.Bytes.{Below}
+use Rattle.stream.specs.Setting.{fractionBits, clipped, codeAt, patternAt, codesOf, patternsOf}
+
+-- one element more of a list that is filled by f from the elements of xs
+pub one-mapped : (f : ℕ → ℕ) (xs ys : List ℕ) (i : ℕ) → i < length xs → i < length ys → take i ys ≡ map f (take i xs)
+    → take (i + 1) (set ys i (f (getD xs i 0))) ≡ map f (take (i + 1) xs)
+one-mapped f xs ys i h l e =
+    ap (λ (k : ℕ). take k (set ys i (f (getD xs i 0)))) (add-one i)
+    ∙ take-suc-set ys i (f (getD xs i 0)) l
+    ∙ ap (λ (t : List ℕ). t ++ (f (getD xs i 0) ∷ [])) e
+    ∙ sym (ap (map f) (ap (λ (k : ℕ). take k xs) (add-one i) ∙ take-suc xs i 0 h) ∙ map-append f (take i xs) (getD xs i 0 ∷ []))
+
+-- the same over what was there: the images so far, and the rest of `base`
+pub one-put : (f : ℕ → ℕ) (xs base : List ℕ) (i : ℕ) → i < length xs → i < length base
+    → set (map f (take i xs) ++ drop i base) i (f (getD xs i 0)) ≡ map f (take (i + 1) xs) ++ drop (i + 1) base
+one-put f xs base i h l =
+    let long : length (map f (take i xs)) ≡ i = length-map (take i xs) f ∙ length-take-le i xs (omega arith) in
+    ap (λ (t : List ℕ). set (map f (take i xs) ++ t) i (f (getD xs i 0))) (drop-cons base i 0 l)
+    ∙ set-at (map f (take i xs)) (getD base i 0) (drop (suc i) base) (f (getD xs i 0)) i long
+    ∙ sym (ap₂ (λ (a b : List ℕ). a ++ b)
+    (ap (map f) (ap (λ (k : ℕ). take k xs) (add-one i) ∙ take-suc xs i 0 h) ∙ map-append f (take i xs) (getD xs i 0 ∷ []))
+    (ap (λ (k : ℕ). drop k base) (add-one i))
+    ∙ append-assoc (map f (take i xs)) (f (getD xs i 0) ∷ []) (drop (suc i) base))
+
+length-put : (f : ℕ → ℕ) (xs base : List ℕ) (i : ℕ) → i ≤ length xs → i ≤ length base → length (map f (take i xs) ++ drop i base) ≡ length base
+length-put f xs base i h l =
+    length-append (map f (take i xs)) (drop i base)
+    ∙ ap₂ _+_ (length-map (take i xs) f ∙ length-take-le i xs h) (length-drop i base)
+    ∙ (let e : i + (length base - i) ≡ length base = omega arith in e)
+
+-- so the output keeps its length
+pub length-filled : (W mode bin n : ℕ) (codes base out : List ℕ) (i : ℕ) → n ≤ length codes → n ≤ length base → i ≤ n
+    → out ≡ patternsOf W mode bin (take i (take n codes)) ++ drop i base → length out ≡ length base
+unfolding patternsOf
+length-filled W mode bin n codes base out i h l k e =
+    ap length e ∙ length-put (patternAt W mode bin) (take n codes) base i (rw (length-take-le n codes h) k) (omega arith)
+
+pub map-take : (f : ℕ → ℕ) (k : ℕ) (xs : List ℕ) → map f (take k xs) ≡ take k (map f xs)
+map-take f zero xs = refl
+map-take f (suc k) [] = refl
+map-take f (suc k) (x ∷ xs) = ap (λ (t : List ℕ). f x ∷ t) (map-take f k xs)
+
+pub map-drop : (f : ℕ → ℕ) (k : ℕ) (xs : List ℕ) → map f (drop k xs) ≡ drop k (map f xs)
+map-drop f zero xs = refl
+map-drop f (suc k) [] = refl
+map-drop f (suc k) (x ∷ xs) = map-drop f k xs
+
+-- what holds of every image holds of the list of images
+map-below : (f : ℕ → ℕ) (a b : ℕ) → 0 < b → ((x : ℕ) → x < a → f x < b) → (xs : List ℕ) → Below a xs → Below b (map f xs)
+map-below f a b some h [] below i = some
+map-below f a b some h (x ∷ xs) below zero = h x (below 0)
+map-below f a b some h (x ∷ xs) below (suc i) = map-below f a b some h xs (λ k. below (suc k)) i
+
+either-under : (b : Bool) (x y N : ℕ) → x < N → y < N → cond b x y < N
+either-under true x y N h l = h
+either-under false x y N h l = l
+
+module _ (W : ℕ) (format : Format W (fractionBits W)) (mode bin : ℕ) where
+  room : fractionBits W + 2 ≤ W
+  room = omega (arith, format .room)
+
+  bin-in : clipped W bin ≤ lastBin W (fractionBits W)
+  unfolding clipped
+  bin-in = min-le-right bin (lastBin W (fractionBits W))
+
+  code-under : (p : ℕ) → p < 2 ^ W → codeAt W mode bin p < 2 ^ W
+  unfolding codeAt
+  code-under p h =
+      either-under (eqb mode 0) _ _ (2 ^ W) (Lossless.code-below W (fractionBits W) room p h)
+      (Tolerance.code-under W (fractionBits W) (format .room) (clipped W bin) bin-in p h)
+
+  pattern-under : (c : ℕ) → c < 2 ^ W → patternAt W mode bin c < 2 ^ W
+  unfolding patternAt
+  pattern-under c h =
+      either-under (eqb mode 0) _ _ (2 ^ W) (Lossless.restored-below W (fractionBits W) room c h)
+      (Tolerance.pattern-under W (fractionBits W) (format .room) (clipped W bin) bin-in c)
+
+  pub codes-under : (vs : List ℕ) → Below (2 ^ W) vs → Below (2 ^ W) (codesOf W mode bin vs)
+  unfolding codesOf
+  codes-under = map-below (codeAt W mode bin) (2 ^ W) (2 ^ W) (pow-pos W) code-under
+
+  pub patterns-under : (cs : List ℕ) → Below (2 ^ W) cs → Below (2 ^ W) (patternsOf W mode bin cs)
+  unfolding patternsOf
+  patterns-under = map-below (patternAt W mode bin) (2 ^ W) (2 ^ W) (pow-pos W) pattern-under

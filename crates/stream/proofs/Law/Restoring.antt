@@ -1,0 +1,119 @@
+-- A good chunk's values restored group by group: what has been put, and what the rest of the bytes has still to give. Over the width, the
+-- setting and the group size.
+use mathlib.Core.Path.{_≡_, refl, sym, ap, ap₂, _∙_, subst}
+use mathlib.Core.Bool.{Bool, true, false, cond}
+use mathlib.Core.List.{List, [], _∷_, _++_, map, map-append}
+use Prim.Native.Nat.{ℕ, zero, suc, _+_, _-_, _^_, _≤_, _<_, min}
+use native.Mathlib.Nat.{lt-of-lt-of-le, le-trans, le-of-suc-le-suc, not-suc-le-zero}
+use native.Mathlib.Omega.{arith}
+use lib.ListN.{length, take, drop, getD, length-map, length-take, List·getD-append}
+use lib.Seq.{drop-drop, getD-append-add}
+use lib.Pow.{pow-mono}
+use Rattle.stream.specs.Bytes.{Below}
+use Rattle.stream.specs.Group.{givenWidth, groupLength, groupCodes, goodGroup}
+use Rattle.stream.specs.declared.chunk.ChunkAnswer.the-variants.{Good, Bad}
+use Rattle.stream.specs.Setting.{patternAt, patternsOf}
+use Rattle.stream.specs.Chunk.{groupsIn, firstFault, chunkAnswer, chunkCodes}
+use Rattle.stream.proofs.Law.Group.{codes-below, length-codes}
+use Rattle.stream.proofs.Law.Exact.{true-good}
+use Rattle.stream.proofs.Law.Chunk.{codes-none, codes-step, length-chunk-codes, never-good}
+use Rattle.stream.proofs.Law.Walking.{found, found-bad, found-good, part-is, within-bytes}
+use Rattle.stream.proofs.Law.Appending.{Appended, nothing-yet}
+
+pub length-patterns : (W mode bin : ℕ) (cs : List ℕ) → length (patternsOf W mode bin cs) ≡ length cs
+unfolding patternsOf
+length-patterns W mode bin cs = length-map cs (patternAt W mode bin)
+
+-- an array whose first n elements are n codes is long enough
+pub long-enough : (n : ℕ) (xs ys : List ℕ) → take n xs ≡ ys → length ys ≡ n → n ≤ length xs
+long-enough n xs ys e l = let q : min n (length xs) ≡ n = sym (length-take n xs) ∙ ap length e ∙ l in omega arith
+
+-- the pattern at an index is that of the code there
+pub pattern-at : (W mode bin : ℕ) (cs : List ℕ) (i : ℕ) → i < length cs → getD (patternsOf W mode bin cs) i 0 ≡ patternAt W mode bin (getD cs i 0)
+unfolding patternsOf
+pattern-at W mode bin [] i h = absurd (not-suc-le-zero h)
+pattern-at W mode bin (c ∷ cs) zero h = refl
+pattern-at W mode bin (c ∷ cs) (suc i) h = pattern-at W mode bin cs i (le-of-suc-le-suc h)
+
+module _ (size : ℕ) (some : 0 < size) (W U : ℕ) (s : List ℕ) where
+  -- where a walk that ends well stands: `left` values in the bytes from `at` on
+  pub record Onward (left at : ℕ) : Type 0 where
+    pub inside : at ≤ length s
+    pub index : ℕ
+    pub good : found size some W U s left at index ≡ Good
+
+  pub starts-onward : (n : ℕ) → chunkAnswer W U size n s ≡ Good → Onward n 0
+  unfolding chunkAnswer
+  starts-onward n e = record { inside = omega arith; index = 0; good = e }
+
+  module _ (left at count : ℕ) (o : Onward left at) (h : 0 < left) (is : count ≡ min size left) where
+    next-good : (b : Bool) → goodGroup W U count (drop at s) ≡ b → goodGroup W U count (drop at s) ≡ true
+    next-good true e = e
+    next-good false e = absurd (never-good (o .index) (sym (found-bad size some W U s left at (o .index) count h is e) ∙ o .good))
+
+    -- the group that comes next is good
+    pub next-is-good : goodGroup W U count (drop at s) ≡ true
+    next-is-good = next-good (goodGroup W U count (drop at s)) refl
+
+    pub next-wide : givenWidth (drop at s) ≤ W
+    next-wide = true-good W U count (drop at s) next-is-good .wide
+
+    pub next-whole : groupLength count (drop at s) ≤ length (drop at s)
+    next-whole = true-good W U count (drop at s) next-is-good .whole
+
+    pub next-below : Below (2 ^ W) (groupCodes count (drop at s))
+    next-below i = lt-of-lt-of-le (codes-below count (drop at s) i) (pow-mono next-wide)
+
+    -- the same of the part that is handed on
+    pub part-opens : W ≤ 64 → (givenWidth (take (length s - at) (drop at s)) ≤ 64) × (groupLength count (take (length s - at) (drop at s)) ≤ length (take (length s - at) (drop at s)))
+    part-opens h64 = rw (part-is s at) (le-trans next-wide h64, next-whole)
+
+    pub goes-on : (k : ℕ) → k ≡ groupLength count (drop at s) → Onward (left - count) (at + k)
+    goes-on k l = record {
+      inside = within-bytes W U count s at k (o .inside) next-is-good l;
+      index = o .index + 1;
+      good = sym (found-good size some W U s left at (o .index) count k h is next-is-good l) ∙ o .good;
+    }
+
+    -- its codes stand first among those that are left
+    pub next-codes : (k : ℕ) → k ≡ groupLength count (drop at s)
+        → chunkCodes size left (drop at s) ≡ groupCodes count (drop at s) ++ chunkCodes size (left - count) (drop (at + k) s)
+    next-codes k l =
+        codes-step size some left (drop at s) h
+        ∙ ap₂ (λ (a b : List ℕ). a ++ b) (ap (λ (n : ℕ). groupCodes n (drop at s)) (sym is))
+        (ap₂ (chunkCodes size) (let q : left - size ≡ left - count = omega arith in q)
+        (ap (λ (n : ℕ). drop (groupLength n (drop at s)) (drop at s)) (sym is) ∙ ap (λ (n : ℕ). drop n (drop at s)) (sym l) ∙ drop-drop k at s))
+
+    pub next-patterns : (mode bin k : ℕ) → k ≡ groupLength count (drop at s)
+        → patternsOf W mode bin (chunkCodes size left (drop at s))
+        ≡ patternsOf W mode bin (groupCodes count (drop at s)) ++ patternsOf W mode bin (chunkCodes size (left - count) (drop (at + k) s))
+    unfolding patternsOf
+    next-patterns mode bin k l = ap (map (patternAt W mode bin)) (next-codes k l) ∙ map-append (patternAt W mode bin) (groupCodes count (drop at s)) (chunkCodes size (left - count) (drop (at + k) s))
+
+  -- an index behind the next group, and one within it
+  module _ (left at count : ℕ) (o : Onward left at) (h : 0 < left) (is : count ≡ min size left) (mode bin k : ℕ) (l : k ≡ groupLength count (drop at s)) where
+    length-next : length (patternsOf W mode bin (groupCodes count (drop at s))) ≡ count
+    length-next = length-patterns W mode bin (groupCodes count (drop at s)) ∙ length-codes count (drop at s)
+
+    pub behind-next : (i : ℕ) → count ≤ i
+        → getD (patternsOf W mode bin (chunkCodes size left (drop at s))) i 0 ≡ getD (patternsOf W mode bin (chunkCodes size (left - count) (drop (at + k) s))) (i - count) 0
+    behind-next i b =
+        let first = patternsOf W mode bin (groupCodes count (drop at s)) in
+        let more = patternsOf W mode bin (chunkCodes size (left - count) (drop (at + k) s)) in
+        ap₂ (λ (ps : List ℕ) (n : ℕ). getD ps n 0) (next-patterns left at count o h is mode bin k l) (let q : i ≡ length first + (i - count) = omega (arith, length-next) in q)
+        ∙ getD-append-add first more (i - count) 0
+
+    pub within-next : (i : ℕ) → i < count
+        → getD (patternsOf W mode bin (chunkCodes size left (drop at s))) i 0 ≡ patternAt W mode bin (getD (groupCodes count (drop at s)) i 0)
+    within-next i b =
+        let first = patternsOf W mode bin (groupCodes count (drop at s)) in
+        ap (λ (ps : List ℕ). getD ps i 0) (next-patterns left at count o h is mode bin k l)
+        ∙ List·getD-append first (patternsOf W mode bin (chunkCodes size (left - count) (drop (at + k) s))) 0 i (rw length-next b)
+        ∙ pattern-at W mode bin (groupCodes count (drop at s)) i (rw (length-codes count (drop at s)) b)
+
+  pub none-restored : (mode bin at : ℕ) → patternsOf W mode bin (chunkCodes size 0 (drop at s)) ≡ []
+  unfolding patternsOf
+  none-restored mode bin at = ap (map (patternAt W mode bin)) (codes-none size some (drop at s))
+
+  pub length-restored : (mode bin n : ℕ) (t : List ℕ) → length (patternsOf W mode bin (chunkCodes size n t)) ≡ n
+  length-restored mode bin n t = length-patterns W mode bin (chunkCodes size n t) ∙ length-chunk-codes size some n t

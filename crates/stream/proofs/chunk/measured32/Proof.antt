@@ -1,0 +1,100 @@
+-- `stream::chunk::measured32` meets its contract. The invariant: the bytes counted and those of the values left are all of them.
+use mathlib.Core.Path.{_≡_, refl, sym, ap, ap₂, _∙_}
+use mathlib.Core.List.{List}
+use Prim.Native.Nat.{ℕ, _+_, _-_, _≤_}
+use native.Mathlib.Nat.{zero-add}
+use native.Mathlib.Omega.{arith}
+use lib.Dec.{lit<, lit≤}
+use lib.ListN.{length, take, drop, length-append, length-take, length-drop}
+use borrow.Author.Needs.{needs}
+use Rattle.numbers.proofs.Theorems.{format-32}
+use Rattle.stream.specs.Group.{groupBytes}
+use Rattle.stream.specs.Setting.{fractionBits, codesOf}
+use Rattle.stream.specs.Chunk.{chunkBytes}
+use Rattle.stream.proofs.Law.Stepping.{bytesFrom, counted, none-left, chunk-small}
+use Rattle.stream.proofs.chunk.measured32.Statement.{statement}
+use Rattle.stream.proofs.chunk.measured32.Tie as tie
+
+abbrev Inv-loop : tie.InvT-loop
+Inv-loop values mode bin total₀ at₀ total at =
+    (at ≤ length values) × (total + length (bytesFrom 32 (lit< tt) 32 mode bin values at) ≡ length (chunkBytes 32 (codesOf 32 mode bin values)))
+    × (length (chunkBytes 32 (codesOf 32 mode bin values)) ≤ 8224)
+
+abbrev μ-loop : tie.MeasureT-loop
+μ-loop values mode bin total₀ at₀ total at = length values - at
+
+loop-holds : tie.Need-loop-holds Inv-loop μ-loop
+unfolding fractionBits
+loop-holds c = (
+  omega arith,
+  zero-add _,
+  chunk-small 32 4 (c .before .args .mode) (c .before .args .bin) (c .before .args .values .now) refl (lit≤ tt) format-32
+      (λ i. c .shared-slice-known .given i .fits) (c .before .pre),
+)
+
+group-end-requires : tie.Need-group-end-requires Inv-loop μ-loop
+group-end-requires c κs = omega arith
+
+mul-coded32 : tie.Need-mul-coded32 Inv-loop μ-loop
+mul-coded32 c = omega arith
+
+sub-coded32 : tie.Need-sub-coded32 Inv-loop μ-loop
+sub-coded32 c = omega arith
+
+part-coded32-start : tie.Need-part-coded32-start Inv-loop μ-loop
+part-coded32-start c = omega arith
+
+part-coded32-end : tie.Need-part-coded32-end Inv-loop μ-loop
+part-coded32-end c = omega arith
+
+coded32-requires : tie.Need-coded32-requires Inv-loop μ-loop
+coded32-requires c κs = rw (length-take, length-drop) (omega (arith, c .before .group-end .ensures))
+
+measured-requires : tie.Need-measured-requires Inv-loop μ-loop
+measured-requires c κs = rw (c .coded32 .ensures .0) (rw (length-take, length-drop) (omega (arith, c .before .before .group-end .ensures)))
+
+-- the group's bytes, and those behind it
+step : (c : tie.After-measured Inv-loop μ-loop)
+    → let a = c .before .before .before .before .before .before .before .args in
+    let from = bytesFrom 32 (lit< tt) 32 (a .mode) (a .bin) (a .values .now) in
+    c .measured .result + length (from (c .before .before .before .group-end .result)) ≡ length (from (c .before .before .before .before .before .loop .at))
+step c =
+    let a = c .before .before .before .before .before .before .before .args in
+    let end = c .before .before .before .group-end in
+    counted 32 (lit< tt) 32 (a .mode) (a .bin) (a .values .now) (c .before .before .before .before .before .loop .at) (end .result) (c .measured .result)
+    (c .before .before .before .before .loop-test .taken) (end .ensures)
+    (c .measured .ensures ∙ ap (λ (cs : List ℕ). length (groupBytes cs)) (c .before .coded32 .ensures .1))
+
+add-total : tie.Need-add-total Inv-loop μ-loop
+add-total c = omega (arith, step c)
+
+loop-less : tie.Need-loop-less Inv-loop μ-loop
+loop-less c = omega arith
+
+loop-again : tie.Need-loop-again Inv-loop μ-loop
+loop-again c = (omega arith, (let e = step c in omega arith), c .before .before .before .before .before .loop .inv .2)
+
+returns : tie.Need-returns Inv-loop μ-loop
+returns c =
+    let a = c .before .before .before .args in
+    let done = none-left 32 (lit< tt) 32 (a .mode) (a .bin) (a .values .now) (c .before .loop .at) (c .loop-test .left) in
+    omega (arith, ap length done)
+
+pub measured32-spec : {M : Type 1} → statement M
+measured32-spec =
+    tie.close
+    (tie.spec
+    Inv-loop
+    μ-loop
+    loop-holds
+    group-end-requires
+    mul-coded32
+    sub-coded32
+    part-coded32-start
+    part-coded32-end
+    coded32-requires
+    measured-requires
+    add-total
+    loop-less
+    loop-again
+    returns)

@@ -1,0 +1,29 @@
+-- `stream::chunk::pattern64` meets its contract: the number rule of the mode.
+use borrow.Author.Tests.{eq-eqb, ne-eqb}
+use Rattle.stream.specs.Setting.{fractionBits, clipped, patternAt}
+use borrow.Author.Needs.{needs}
+use Rattle.stream.proofs.chunk.pattern64.Statement.{statement}
+use Rattle.stream.proofs.chunk.pattern64.Tie as tie
+
+restored64-requires : tie.Need-restored64-requires
+restored64-requires c κs = search needs
+
+restored-at-bin64-requires : tie.Need-restored-at-bin64-requires
+restored-at-bin64-requires c κs = search needs
+
+returns : tie.Need-returns
+unfolding patternAt fractionBits clipped
+returns c = rw (eq-eqb (c .before .before .args .mode) 0 (c .before .if1 .taken)) (c .restored64 .ensures)
+
+returns-2 : tie.Need-returns-2
+unfolding patternAt fractionBits clipped
+returns-2 c = rw (ne-eqb (c .before .before .args .mode) 0 (c .before .if1 .left)) (c .restored-at-bin64 .ensures)
+
+pub pattern64-spec : {M : Type 1} → statement M
+pattern64-spec =
+    tie.close
+    (tie.spec
+    restored64-requires
+    restored-at-bin64-requires
+    returns
+    returns-2)

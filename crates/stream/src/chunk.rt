@@ -1,0 +1,301 @@
+// A chunk: its values coded and cut into groups, its bytes checked, and its values restored.
+ghost use mathlib.Core.Path.{_≡_};
+ghost use mathlib.Core.List.{List, _++_, map};
+ghost use Prim.Native.Nat.{_≤_, _<_, _-_, _+_, _^_, min};
+ghost use lib.ListN.{length, take, drop, getD};
+ghost use Rattle.stream.specs.Bytes.{Below};
+ghost use Rattle.stream.specs.Group.{groupLength};
+ghost use Rattle.stream.specs.Setting.{codeAt, patternAt, codesOf, patternsOf, limitOf};
+ghost use Rattle.stream.specs.Chunk.{chunkBytes, chunkAnswer, chunkCodes};
+use crate::group;
+use crate::group::Group;
+use crate::group::GroupAnswer;
+use numbers::lossless;
+use numbers::tolerance;
+
+// What a check of a chunk finds: all rules kept, or its first bad group.
+pub enum ChunkAnswer {
+    Good,
+    Bad(usize),
+}
+
+// Where the group that starts at `at` ends, of n values.
+fn group_end(at: usize, n: usize) -> usize
+    requires { ⌜ at ≤ n ⌝ }
+    ensures { λ r. ⌜ r ≡ at + min 32 (n - at) ⌝ }
+{
+    if n - at < 32 { n } else { at + 32 }
+}
+
+// The code of one pattern, by mode.
+fn code32(p: u32, mode: u32, bin: u32) -> u64
+    ensures { λ c. ⌜ c ≡ codeAt 32 mode bin p ⌝ }
+{
+    if mode == 0 {
+        lossless::code32(p) as u64
+    } else {
+        tolerance::code_at_bin32(bin, p) as u64
+    }
+}
+
+fn code64(p: u64, mode: u32, bin: u32) -> u64
+    ensures { λ c. ⌜ c ≡ codeAt 64 mode bin p ⌝ }
+{
+    if mode == 0 {
+        lossless::code64(p)
+    } else {
+        tolerance::code_at_bin64(bin, p)
+    }
+}
+
+// The codes of up to 32 values, as a group.
+fn coded32(values: &[u32], mode: u32, bin: u32) -> Group
+    requires { ⌜ length (now values) ≤ 32 ⌝ }
+    ensures { λ g. ⌜ (g .count ≡ length (now (values .entry))) × (take (g .count) (g .codes) ≡ codesOf 32 mode bin (now (values .entry))) ⌝ }
+{
+    let mut codes = [0u64; 32];
+    let mut i: usize = 0;
+    while i < values.len() {
+        codes[i] = code32(values[i], mode, bin);
+        i += 1;
+    }
+    Group {
+        count: values.len(),
+        codes,
+    }
+}
+
+fn coded64(values: &[u64], mode: u32, bin: u32) -> Group
+    requires { ⌜ length (now values) ≤ 32 ⌝ }
+    ensures { λ g. ⌜ (g .count ≡ length (now (values .entry))) × (take (g .count) (g .codes) ≡ codesOf 64 mode bin (now (values .entry))) ⌝ }
+{
+    let mut codes = [0u64; 32];
+    let mut i: usize = 0;
+    while i < values.len() {
+        codes[i] = code64(values[i], mode, bin);
+        i += 1;
+    }
+    Group {
+        count: values.len(),
+        codes,
+    }
+}
+
+// How many bytes a chunk's values take.
+pub fn measured32(values: &[u32], mode: u32, bin: u32) -> usize
+    requires { ⌜ length (now values) ≤ 1024 ⌝ }
+    ensures { λ r. ⌜ r ≡ length (chunkBytes 32 (codesOf 32 mode bin (now (values .entry)))) ⌝ }
+{
+    let mut total: usize = 0;
+    let mut at: usize = 0;
+    while at < values.len() {
+        let end = group_end(at, values.len());
+        let g = coded32(&values[at..end], mode, bin);
+        total += group::measured(g);
+        at = end;
+    }
+    total
+}
+
+pub fn measured64(values: &[u64], mode: u32, bin: u32) -> usize
+    requires { ⌜ length (now values) ≤ 1024 ⌝ }
+    ensures { λ r. ⌜ r ≡ length (chunkBytes 32 (codesOf 64 mode bin (now (values .entry)))) ⌝ }
+{
+    let mut total: usize = 0;
+    let mut at: usize = 0;
+    while at < values.len() {
+        let end = group_end(at, values.len());
+        let g = coded64(&values[at..end], mode, bin);
+        total += group::measured(g);
+        at = end;
+    }
+    total
+}
+
+// The bytes of a chunk's values at the front of `out`, and how many they are.
+pub fn written32(values: &[u32], mode: u32, bin: u32, out: &mut [u8]) -> usize
+    requires { ⌜ (length (now values) ≤ 1024) × (length (chunkBytes 32 (codesOf 32 mode bin (now values))) ≤ length (now out)) ⌝ }
+    ensures { λ r. ⌜ r ≡ length (chunkBytes 32 (codesOf 32 mode bin (now (values .entry)))) ⌝ }
+    ensures { λ r. ⌜ now (out .exit) ≡ chunkBytes 32 (codesOf 32 mode bin (now (values .entry))) ++ drop r (now (out .entry)) ⌝ }
+{
+    let mut put: usize = 0;
+    let mut at: usize = 0;
+    while at < values.len() {
+        let end = group_end(at, values.len());
+        let g = coded32(&values[at..end], mode, bin);
+        put += group::written(g, &mut out[put..]);
+        at = end;
+    }
+    put
+}
+
+pub fn written64(values: &[u64], mode: u32, bin: u32, out: &mut [u8]) -> usize
+    requires { ⌜ (length (now values) ≤ 1024) × (length (chunkBytes 32 (codesOf 64 mode bin (now values))) ≤ length (now out)) ⌝ }
+    ensures { λ r. ⌜ r ≡ length (chunkBytes 32 (codesOf 64 mode bin (now (values .entry)))) ⌝ }
+    ensures { λ r. ⌜ now (out .exit) ≡ chunkBytes 32 (codesOf 64 mode bin (now (values .entry))) ++ drop r (now (out .entry)) ⌝ }
+{
+    let mut put: usize = 0;
+    let mut at: usize = 0;
+    while at < values.len() {
+        let end = group_end(at, values.len());
+        let g = coded64(&values[at..end], mode, bin);
+        put += group::written(g, &mut out[put..]);
+        at = end;
+    }
+    put
+}
+
+// The group before group i: of a chunk with no group, the first.
+fn previous(i: usize) -> usize
+    ensures { λ r. ⌜ r ≡ i - 1 ⌝ }
+{
+    if i == 0 { 0 } else { i - 1 }
+}
+
+// The first bad group of a chunk of n values, if there is one.
+pub fn checked(s: &[u8], n: usize, width: u32, limit: u64) -> ChunkAnswer
+    requires { ⌜ (n ≤ 1024) × (width ≤ 64) ⌝ }
+    ensures { λ r. ⌜ r ≡ chunkAnswer width limit 32 n (now (s .entry)) ⌝ }
+{
+    let mut left = n;
+    let mut at: usize = 0;
+    let mut i: usize = 0;
+    while 0 < left {
+        let count = group_end(0, left);
+        let a = group::checked(&s[at..], count, width, limit);
+        match a {
+            GroupAnswer::Bad => return ChunkAnswer::Bad(i),
+            GroupAnswer::Good(k) => at += k,
+        }
+        left -= count;
+        i += 1;
+    }
+    if at < s.len() {
+        return ChunkAnswer::Bad(previous(i));
+    }
+    ChunkAnswer::Good
+}
+
+// How many bytes the group at the front of `s` has, by its first byte.
+fn group_length(s: &[u8], n: usize) -> usize
+    requires { ⌜ (n ≤ 32) × (groupLength n (now s) ≤ length (now s)) ⌝ }
+    ensures { λ r. ⌜ r ≡ groupLength n (now (s .entry)) ⌝ }
+{
+    let w = s[0] as usize;
+    1 + (w * n + 7) / 8
+}
+
+// The pattern of one code, by mode.
+fn pattern32(c: u64, mode: u32, bin: u32) -> u32
+    requires { ⌜ c < 2 ^ 32 ⌝ }
+    ensures { λ p. ⌜ p ≡ patternAt 32 mode bin c ⌝ }
+{
+    if mode == 0 {
+        lossless::restored32(c as u32)
+    } else {
+        tolerance::restored_at_bin32(bin, c as u32)
+    }
+}
+
+fn pattern64(c: u64, mode: u32, bin: u32) -> u64
+    ensures { λ p. ⌜ p ≡ patternAt 64 mode bin c ⌝ }
+{
+    if mode == 0 {
+        lossless::restored64(c)
+    } else {
+        tolerance::restored_at_bin64(bin, c)
+    }
+}
+
+// The patterns of a group's codes at the front of `out`.
+fn patterns32(codes: &[u64], n: usize, mode: u32, bin: u32, out: &mut [u32])
+    requires { ⌜ (n ≤ length (now codes)) × (n ≤ length (now out)) × Below (2 ^ 32) (take n (now codes)) ⌝ }
+    ensures { λ _. ⌜ now (out .exit) ≡ patternsOf 32 mode bin (take n (now (codes .entry))) ++ drop n (now (out .entry)) ⌝ }
+{
+    let mut i: usize = 0;
+    while i < n {
+        out[i] = pattern32(codes[i], mode, bin);
+        i += 1;
+    }
+}
+
+fn patterns64(codes: &[u64], n: usize, mode: u32, bin: u32, out: &mut [u64])
+    requires { ⌜ (n ≤ length (now codes)) × (n ≤ length (now out)) ⌝ }
+    ensures { λ _. ⌜ now (out .exit) ≡ patternsOf 64 mode bin (take n (now (codes .entry))) ++ drop n (now (out .entry)) ⌝ }
+{
+    let mut i: usize = 0;
+    while i < n {
+        out[i] = pattern64(codes[i], mode, bin);
+        i += 1;
+    }
+}
+
+// The values of a good chunk of n values, at the front of `out`.
+pub fn restored32(s: &[u8], n: usize, mode: u32, bin: u32, out: &mut [u32])
+    requires { ⌜ (n ≤ 1024) × (n ≤ length (now out)) × (chunkAnswer 32 (limitOf 32 mode bin) 32 n (now s) ≡ ChunkAnswer.Good) ⌝ }
+    ensures { λ _. ⌜ now (out .exit) ≡ patternsOf 32 mode bin (chunkCodes 32 n (now (s .entry))) ++ drop n (now (out .entry)) ⌝ }
+{
+    let mut left = n;
+    let mut at: usize = 0;
+    let mut done: usize = 0;
+    while 0 < left {
+        let count = group_end(0, left);
+        let g = group::codes_of(&s[at..], count);
+        at += group_length(&s[at..], count);
+        patterns32(&g.codes, count, mode, bin, &mut out[done..]);
+        left -= count;
+        done += count;
+    }
+}
+
+pub fn restored64(s: &[u8], n: usize, mode: u32, bin: u32, out: &mut [u64])
+    requires { ⌜ (n ≤ 1024) × (n ≤ length (now out)) × (chunkAnswer 64 (limitOf 64 mode bin) 32 n (now s) ≡ ChunkAnswer.Good) ⌝ }
+    ensures { λ _. ⌜ now (out .exit) ≡ patternsOf 64 mode bin (chunkCodes 32 n (now (s .entry))) ++ drop n (now (out .entry)) ⌝ }
+{
+    let mut left = n;
+    let mut at: usize = 0;
+    let mut done: usize = 0;
+    while 0 < left {
+        let count = group_end(0, left);
+        let g = group::codes_of(&s[at..], count);
+        at += group_length(&s[at..], count);
+        patterns64(&g.codes, count, mode, bin, &mut out[done..]);
+        left -= count;
+        done += count;
+    }
+}
+
+// The i-th value of a good chunk of n values: the full groups before its own are passed over.
+pub fn value32(s: &[u8], n: usize, i: usize, mode: u32, bin: u32) -> u32
+    requires { ⌜ (n ≤ 1024) × (i < n) × (chunkAnswer 32 (limitOf 32 mode bin) 32 n (now s) ≡ ChunkAnswer.Good) ⌝ }
+    ensures { λ r. ⌜ r ≡ getD (patternsOf 32 mode bin (chunkCodes 32 n (now (s .entry)))) i 0 ⌝ }
+{
+    let mut left = n;
+    let mut at: usize = 0;
+    let mut index = i;
+    while 32 <= index {
+        at += group_length(&s[at..], 32);
+        left -= 32;
+        index -= 32;
+    }
+    let g = group::codes_of(&s[at..], group_end(0, left));
+    let codes = g.codes;
+    pattern32(codes[index], mode, bin)
+}
+
+pub fn value64(s: &[u8], n: usize, i: usize, mode: u32, bin: u32) -> u64
+    requires { ⌜ (n ≤ 1024) × (i < n) × (chunkAnswer 64 (limitOf 64 mode bin) 32 n (now s) ≡ ChunkAnswer.Good) ⌝ }
+    ensures { λ r. ⌜ r ≡ getD (patternsOf 64 mode bin (chunkCodes 32 n (now (s .entry)))) i 0 ⌝ }
+{
+    let mut left = n;
+    let mut at: usize = 0;
+    let mut index = i;
+    while 32 <= index {
+        at += group_length(&s[at..], 32);
+        left -= 32;
+        index -= 32;
+    }
+    let g = group::codes_of(&s[at..], group_end(0, left));
+    let codes = g.codes;
+    pattern64(codes[index], mode, bin)
+}
