@@ -82,7 +82,7 @@ fn coded64(values: &[u64], mode: u32, bin: u32) -> Group
 }
 
 // How many bytes a chunk's values take.
-pub fn measured32(values: &[u32], mode: u32, bin: u32) -> usize
+pub(crate) fn measured32(values: &[u32], mode: u32, bin: u32) -> usize
     requires { ⌜ length (now values) ≤ 1024 ⌝ }
     ensures { λ r. ⌜ r ≡ length (chunkBytes 32 (codesOf 32 mode bin (now (values .entry)))) ⌝ }
 {
@@ -97,7 +97,7 @@ pub fn measured32(values: &[u32], mode: u32, bin: u32) -> usize
     total
 }
 
-pub fn measured64(values: &[u64], mode: u32, bin: u32) -> usize
+pub(crate) fn measured64(values: &[u64], mode: u32, bin: u32) -> usize
     requires { ⌜ length (now values) ≤ 1024 ⌝ }
     ensures { λ r. ⌜ r ≡ length (chunkBytes 32 (codesOf 64 mode bin (now (values .entry)))) ⌝ }
 {
@@ -113,7 +113,7 @@ pub fn measured64(values: &[u64], mode: u32, bin: u32) -> usize
 }
 
 // The bytes of a chunk's values at the front of `out`, and how many they are.
-pub fn written32(values: &[u32], mode: u32, bin: u32, out: &mut [u8]) -> usize
+pub(crate) fn written32(values: &[u32], mode: u32, bin: u32, out: &mut [u8]) -> usize
     requires { ⌜ (length (now values) ≤ 1024) × (length (chunkBytes 32 (codesOf 32 mode bin (now values))) ≤ length (now out)) ⌝ }
     ensures { λ r. ⌜ r ≡ length (chunkBytes 32 (codesOf 32 mode bin (now (values .entry)))) ⌝ }
     ensures { λ r. ⌜ now (out .exit) ≡ chunkBytes 32 (codesOf 32 mode bin (now (values .entry))) ++ drop r (now (out .entry)) ⌝ }
@@ -129,7 +129,7 @@ pub fn written32(values: &[u32], mode: u32, bin: u32, out: &mut [u8]) -> usize
     put
 }
 
-pub fn written64(values: &[u64], mode: u32, bin: u32, out: &mut [u8]) -> usize
+pub(crate) fn written64(values: &[u64], mode: u32, bin: u32, out: &mut [u8]) -> usize
     requires { ⌜ (length (now values) ≤ 1024) × (length (chunkBytes 32 (codesOf 64 mode bin (now values))) ≤ length (now out)) ⌝ }
     ensures { λ r. ⌜ r ≡ length (chunkBytes 32 (codesOf 64 mode bin (now (values .entry)))) ⌝ }
     ensures { λ r. ⌜ now (out .exit) ≡ chunkBytes 32 (codesOf 64 mode bin (now (values .entry))) ++ drop r (now (out .entry)) ⌝ }
@@ -153,7 +153,7 @@ fn previous(i: usize) -> usize
 }
 
 // The first bad group of a chunk of n values, if there is one.
-pub fn checked(s: &[u8], n: usize, width: u32, limit: u64) -> ChunkAnswer
+pub(crate) fn checked(s: &[u8], n: usize, width: u32, limit: u64) -> ChunkAnswer
     requires { ⌜ (n ≤ 1024) × (width ≤ 64) ⌝ }
     ensures { λ r. ⌜ r ≡ chunkAnswer width limit 32 n (now (s .entry)) ⌝ }
 {
@@ -231,7 +231,7 @@ fn patterns64(codes: &[u64], n: usize, mode: u32, bin: u32, out: &mut [u64])
 }
 
 // The values of a good chunk of n values, at the front of `out`.
-pub fn restored32(s: &[u8], n: usize, mode: u32, bin: u32, out: &mut [u32])
+pub(crate) fn restored32(s: &[u8], n: usize, mode: u32, bin: u32, out: &mut [u32])
     requires { ⌜ (n ≤ 1024) × (n ≤ length (now out)) × (chunkAnswer 32 (limitOf 32 mode bin) 32 n (now s) ≡ ChunkAnswer.Good) ⌝ }
     ensures { λ _. ⌜ now (out .exit) ≡ patternsOf 32 mode bin (chunkCodes 32 n (now (s .entry))) ++ drop n (now (out .entry)) ⌝ }
 {
@@ -248,7 +248,7 @@ pub fn restored32(s: &[u8], n: usize, mode: u32, bin: u32, out: &mut [u32])
     }
 }
 
-pub fn restored64(s: &[u8], n: usize, mode: u32, bin: u32, out: &mut [u64])
+pub(crate) fn restored64(s: &[u8], n: usize, mode: u32, bin: u32, out: &mut [u64])
     requires { ⌜ (n ≤ 1024) × (n ≤ length (now out)) × (chunkAnswer 64 (limitOf 64 mode bin) 32 n (now s) ≡ ChunkAnswer.Good) ⌝ }
     ensures { λ _. ⌜ now (out .exit) ≡ patternsOf 64 mode bin (chunkCodes 32 n (now (s .entry))) ++ drop n (now (out .entry)) ⌝ }
 {
@@ -266,7 +266,7 @@ pub fn restored64(s: &[u8], n: usize, mode: u32, bin: u32, out: &mut [u64])
 }
 
 // The i-th value of a good chunk of n values: the full groups before its own are passed over.
-pub fn value32(s: &[u8], n: usize, i: usize, mode: u32, bin: u32) -> u32
+pub(crate) fn value32(s: &[u8], n: usize, i: usize, mode: u32, bin: u32) -> u32
     requires { ⌜ (n ≤ 1024) × (i < n) × (chunkAnswer 32 (limitOf 32 mode bin) 32 n (now s) ≡ ChunkAnswer.Good) ⌝ }
     ensures { λ r. ⌜ r ≡ getD (patternsOf 32 mode bin (chunkCodes 32 n (now (s .entry)))) i 0 ⌝ }
 {
@@ -283,7 +283,7 @@ pub fn value32(s: &[u8], n: usize, i: usize, mode: u32, bin: u32) -> u32
     pattern32(codes[index], mode, bin)
 }
 
-pub fn value64(s: &[u8], n: usize, i: usize, mode: u32, bin: u32) -> u64
+pub(crate) fn value64(s: &[u8], n: usize, i: usize, mode: u32, bin: u32) -> u64
     requires { ⌜ (n ≤ 1024) × (i < n) × (chunkAnswer 64 (limitOf 64 mode bin) 32 n (now s) ≡ ChunkAnswer.Good) ⌝ }
     ensures { λ r. ⌜ r ≡ getD (patternsOf 64 mode bin (chunkCodes 32 n (now (s .entry)))) i 0 ⌝ }
 {

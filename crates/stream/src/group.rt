@@ -50,7 +50,7 @@ fn first(codes: &[u64], n: usize) -> &[u64]
 }
 
 // How many bytes a group takes. The count of a group is small, so the product fits.
-pub fn measured(g: Group) -> usize
+pub(crate) fn measured(g: Group) -> usize
     requires { ⌜ g .count ≤ 32 ⌝ }
     ensures { λ r. ⌜ r ≡ length (groupBytes (take (g .count) (g .codes))) ⌝ }
 {
@@ -144,7 +144,7 @@ fn spelled(codes: &[u64], out: &mut [u8]) -> usize
 }
 
 // The group's bytes at the front of `out`, and how many they are.
-pub fn written(g: Group, out: &mut [u8]) -> usize
+pub(crate) fn written(g: Group, out: &mut [u8]) -> usize
     requires { ⌜ (g .count ≤ 32) × (length (groupBytes (take (g .count) (g .codes))) ≤ length (now out)) ⌝ }
     ensures { λ r. ⌜ r ≡ length (groupBytes (take (g .count) (g .codes))) ⌝ }
     ensures { λ r. ⌜ now (out .exit) ≡ groupBytes (take (g .count) (g .codes)) ++ drop r (now (out .entry)) ⌝ }
@@ -229,7 +229,7 @@ fn padded(s: &[u8]) -> [u8; 272]
 }
 
 // The codes of a group whose bytes are all there. Only the last groups of the bytes are near enough to their end to be copied first.
-pub fn codes_of(s: &[u8], n: usize) -> Group
+pub(crate) fn codes_of(s: &[u8], n: usize) -> Group
     requires { ⌜ (n ≤ 32) × (givenWidth (now s) ≤ 64) × (groupLength n (now s) ≤ length (now s)) ⌝ }
     ensures { λ r. ⌜ (r .count ≡ n) × (take n (r .codes) ≡ groupCodes n (now (s .entry))) ⌝ }
 {
@@ -291,7 +291,7 @@ fn allowed(s: &[u8], n: usize, w: usize, limit: u64) -> bool
 }
 
 // Refusal 10's rules for the group at the front of `s`. The width is tested before it is multiplied; the padding is the highest bits of the last byte.
-pub fn checked(s: &[u8], n: usize, width: u32, limit: u64) -> GroupAnswer
+pub(crate) fn checked(s: &[u8], n: usize, width: u32, limit: u64) -> GroupAnswer
     requires { ⌜ (n ≤ 32) × (width ≤ 64) ⌝ }
     ensures { λ r. ⌜ r ≡ groupAnswer width limit n (now (s .entry)) ⌝ }
 {
