@@ -1,0 +1,2 @@
+-- Laws of the answers that are spelled for C.
+pub mod Fitting

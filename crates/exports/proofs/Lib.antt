@@ -1,0 +1,2 @@
+-- The laws that the exports' own proofs cite.
+pub mod Law

@@ -1,0 +1,38 @@
+-- An exported operation returns one number of 64 bits: "refusal number · 2^32 + detail, or 0 · 2^32 + answer (k in two's complement of 32
+-- bits)". What is lent for a second answer is written on success alone.
+use Prim.Native.Nat.{ℕ, _+_, _*_, _%_, _^_}
+use Rattle.numbers.specs.Signed.{bitsOf}
+use Rattle.numbers.specs.declared.bound.BoundAnswer.{BoundAnswer}
+use Rattle.numbers.specs.declared.bound.BoundAnswer.the-variants as bound
+use Rattle.numbers.specs.declared.tolerance.CodeAnswer.{CodeAnswer}
+use Rattle.numbers.specs.declared.tolerance.CodeAnswer.the-variants as code
+use Rattle.numbers.specs.declared.tolerance.PatternAnswer.{PatternAnswer}
+use Rattle.numbers.specs.declared.tolerance.PatternAnswer.the-variants as pattern
+
+-- 32 bits are enough for every detail and answer: see Fitting in proofs/
+unfoldable pub result : ℕ → ℕ → ℕ
+result number detail = number * 2 ^ 32 + detail % 2 ^ 32
+
+unfoldable pub boundResult : BoundAnswer → ℕ
+boundResult (bound.Exponent k) = result 0 (bitsOf 32 k)
+boundResult bound.UnknownWidth = result 2 0
+boundResult bound.NoTolerance = result 12 0
+boundResult bound.TooSmall = result 13 0
+
+unfoldable pub codeResult : CodeAnswer → ℕ
+codeResult (code.Code c) = result 0 0
+codeResult code.NotAllowed = result 2 0
+
+unfoldable pub codeOut : CodeAnswer → ℕ → ℕ
+codeOut (code.Code c) old = c
+codeOut code.NotAllowed old = old
+
+unfoldable pub patternResult : PatternAnswer → ℕ
+patternResult (pattern.Pattern p) = result 0 0
+patternResult pattern.NotAllowed = result 2 0
+patternResult pattern.AboveLargest = result 10 0
+
+unfoldable pub patternOut : PatternAnswer → ℕ → ℕ
+patternOut (pattern.Pattern p) old = p
+patternOut pattern.NotAllowed old = old
+patternOut pattern.AboveLargest old = old
