@@ -247,7 +247,17 @@ pub(crate) fn codes_of(s: &[u8], n: usize) -> Group
     opened(&room, n, w)
 }
 
-// "not smallest": whether some code has the highest of its w bits set. The codes are not taken out, and the first such code settles it.
+// Width less leading zeros: whether the lowest bits of a byte, up to a place, are as wide as they can be.
+fn full_width(byte: u64, place: usize) -> bool
+    requires { ⌜ (byte < 256) × (place < 8) ⌝ }
+    ensures { λ r. ⌜ r ≡ eqb (byte / 2 ^ place % 2) 1 ⌝ }
+{
+    let low = byte % (2u64 << place);
+    64 - (u64::leading_zeros(low) as usize) == place + 1
+}
+
+// Whether w is the smallest width: some code is as wide as w. The codes are not taken out, and the first such code settles it: its last
+// bits, up to the w-th, are as wide as they can be.
 fn reached(s: &[u8], n: usize, w: usize) -> bool
     requires { ⌜ (n ≤ 32) × (1 ≤ w) × (w ≤ 64) × (w ≡ givenWidth (now s)) × (groupLength n (now s) ≤ length (now s)) ⌝ }
     ensures { λ r. ⌜ r ≡ eqb w (widthOf (groupCodes n (now (s .entry)))) ⌝ }
@@ -255,7 +265,7 @@ fn reached(s: &[u8], n: usize, w: usize) -> bool
     let mut bit: usize = 7 + w;
     let mut i: usize = 0;
     while i < n {
-        if (wide(s[bit / 8]) >> (bit % 8)) % 2 == 1 {
+        if full_width(wide(s[bit / 8]), bit % 8) {
             return true;
         }
         bit += w;

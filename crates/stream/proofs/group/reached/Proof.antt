@@ -3,11 +3,11 @@
 use mathlib.Core.Path.{_≡_, sym, ap, _∙_, subst⁻¹}
 use mathlib.Core.List.{List}
 use Prim.Native.Nat.{ℕ, _+_, _-_, _*_, _/_, _%_, _^_, _≤_, _<_}
-use native.Mathlib.Nat.{add-zero, add-assoc, mul-zero, mul-suc, mul-le-mul, mul-le-mul-left}
+use native.Mathlib.Nat.{add-zero, add-assoc, mul-zero, mul-suc, mul-le-mul, mul-le-mul-left, mod-lt, zero-lt-suc}
 use native.Mathlib.Numerals.{add-one}
 use native.Mathlib.Omega.{arith}
 use borrow.Author.Count.{below-none, below-more}
-use borrow.Author.Tests.{eq-eqb, ne-eqb}
+use borrow.Author.Tests.{eq-eqb, ne-eqb, eqb-true, eqb-false}
 use borrow.Author.Needs.{needs}
 use lib.ListN.{getD}
 use lib.Pow.{pow-pos}
@@ -69,22 +69,22 @@ shared-slice-read-wide c =
 wide-requires : tie.Need-wide-requires Inv-loop μ-loop
 wide-requires c κs = search needs
 
-shr-if1 : tie.Need-shr-if1 Inv-loop μ-loop
-shr-if1 c = omega arith
+full-width-requires : tie.Need-full-width-requires Inv-loop μ-loop
+full-width-requires c κs = (c .wide .ensures .1, omega (arith, mod-lt (c .before .before .before .loop .bit) (zero-lt-suc 7)))
 
 returns : tie.Need-returns Inv-loop μ-loop
 returns c =
-    let f = entry (c .before) in
-    let cs : List ℕ = codes (c .before) in
+    let f = entry (c .before .before) in
+    let cs : List ℕ = codes (c .before .before) in
     sym (eq-eqb (f .args .w) (widthOf cs)
-    (tall (f .args .w) cs (c .before .before .before .before .loop .i) (f .pre .1)
+    (tall (f .args .w) cs (c .before .before .before .before .before .loop .i) (f .pre .1)
     (subst⁻¹ (λ (w : ℕ). Below (2 ^ w) cs) (f .pre .3) (codes-below (f .args .n) (f .args .s .now)))
-    (high-set _ (f .args .w - 1) (top (c .before) ∙ c .if1 .taken))))
+    (high-set _ (f .args .w - 1) (top (c .before .before) ∙ eqb-true _ 1 (sym (c .before .full-width .ensures) ∙ c .if1 .taken)))))
 
 add-bit-2 : tie.Need-add-bit-2 Inv-loop μ-loop
 add-bit-2 c =
-    let f = c .before .before .before .before .before .before in
-    omega (arith, bit-below (c .before .before .before), mul-le-mul (f .pre .2) (f .pre .0))
+    let f = c .before .before .before .before .before .before .before in
+    omega (arith, bit-below (c .before .before .before .before), mul-le-mul (f .pre .2) (f .pre .0))
 
 add-i : tie.Need-add-i Inv-loop μ-loop
 add-i c = omega arith
@@ -94,13 +94,14 @@ loop-less c = omega arith
 
 loop-again : tie.Need-loop-again Inv-loop μ-loop
 loop-again c =
-    let w : ℕ = entry (c .before) .args .w in
-    let l = c .before .before .before .before .loop in (
+    let w : ℕ = entry (c .before .before) .args .w in
+    let l = c .before .before .before .before .before .loop in (
       omega arith,
       ap (λ (n : ℕ). n + w) (l .inv .1) ∙ add-assoc (7 + w) (w * l .i) w
           ∙ ap (λ (n : ℕ). 7 + w + n) (sym (ap (λ (n : ℕ). w * n) (add-one (l .i)) ∙ mul-suc w (l .i))),
-      below-more (λ (k : ℕ). getD (codes (c .before)) k 0 < 2 ^ (w - 1)) (l .i) (l .inv .2)
-          (high-unset _ (w - 1) (c .before .wide .result / 2 ^ (l .bit % 8)) (top (c .before)) (c .if1 .left)),
+      below-more (λ (k : ℕ). getD (codes (c .before .before)) k 0 < 2 ^ (w - 1)) (l .i) (l .inv .2)
+          (high-unset _ (w - 1) (c .before .before .wide .result / 2 ^ (l .bit % 8)) (top (c .before .before))
+          (eqb-false _ 1 (sym (c .before .full-width .ensures) ∙ c .if1 .left))),
     )
 
 returns-2 : tie.Need-returns-2 Inv-loop μ-loop
@@ -123,7 +124,7 @@ reached-spec =
     loop-holds
     shared-slice-read-wide
     wide-requires
-    shr-if1
+    full-width-requires
     returns
     add-bit-2
     add-i
