@@ -2,8 +2,9 @@
 -- bits)". What is lent for a second answer is written on success alone.
 use Prim.Native.Nat.{ℕ, _+_, _*_, _%_, _^_}
 use Rattle.numbers.specs.Signed.{bitsOf}
+use Rattle.numbers.specs.Answers.{codeNumber, patternNumber}
+use Rattle.numbers.specs.Bound.{boundNumber, boundDetail}
 use Rattle.numbers.specs.declared.bound.BoundAnswer.{BoundAnswer}
-use Rattle.numbers.specs.declared.bound.BoundAnswer.the-variants as bound
 use Rattle.numbers.specs.declared.tolerance.CodeAnswer.{CodeAnswer}
 use Rattle.numbers.specs.declared.tolerance.CodeAnswer.the-variants as code
 use Rattle.numbers.specs.declared.tolerance.PatternAnswer.{PatternAnswer}
@@ -14,23 +15,17 @@ unfoldable pub result : ℕ → ℕ → ℕ
 result number detail = number * 2 ^ 32 + detail % 2 ^ 32
 
 unfoldable pub boundResult : BoundAnswer → ℕ
-boundResult (bound.Exponent k) = result 0 (bitsOf 32 k)
-boundResult bound.UnknownWidth = result 2 0
-boundResult bound.NoTolerance = result 12 0
-boundResult bound.TooSmall = result 13 0
+boundResult a = result (boundNumber a) (bitsOf 32 (boundDetail a))
 
 unfoldable pub codeResult : CodeAnswer → ℕ
-codeResult (code.Code c) = result 0 0
-codeResult code.NotAllowed = result 2 0
+codeResult a = result (codeNumber a) 0
 
 unfoldable pub codeOut : CodeAnswer → ℕ → ℕ
 codeOut (code.Code c) old = c
 codeOut code.NotAllowed old = old
 
 unfoldable pub patternResult : PatternAnswer → ℕ
-patternResult (pattern.Pattern p) = result 0 0
-patternResult pattern.NotAllowed = result 2 0
-patternResult pattern.AboveLargest = result 10 0
+patternResult a = result (patternNumber a) 0
 
 unfoldable pub patternOut : PatternAnswer → ℕ → ℕ
 patternOut (pattern.Pattern p) old = p

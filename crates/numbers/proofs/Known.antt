@@ -1,10 +1,10 @@
 -- The known values that document 01 marks *, and the 64 rows of SLEEK's Table II, each kind as one computed statement over its table:
 -- a row that is wrong would be left in the list, and the error would name it.
 use mathlib.Core.Path.{_≡_, refl}
-use mathlib.Core.Bool.{Bool, _&&_, cond}
+use mathlib.Core.Bool.{Bool, true, _&&_, cond}
 use mathlib.Core.List.{List, [], _∷_}
-use Prim.Native.Nat.{ℕ, _+_, _-_, _^_}
-use lib.Dec.{eqb}
+use Prim.Native.Nat.{ℕ, zero, suc, _+_, _-_, _*_, _^_}
+use lib.Dec.{leb, eqb}
 use lib.IntN.{ℤ, negsuc}
 use lib.Ieee as Ieee
 use Rattle.numbers.specs.Signed.{signedView, folded, unfolded, bitsOf}
@@ -96,3 +96,21 @@ limitsRows = (32, 23, 150, 103) ∷ (64, 52, 1075, 970) ∷ []
 limits-known : wrong limitsRight limitsRows ≡ []
 unfolding wrong limitsRight limitsRows
 limits-known = refl
+
+-- ---- "In effect exponent 0 stays 0, and in single precision 1..128 become -128..-1 and 129..255 become 1..127; in double, 1..1024 become
+-- -1024..-1 and 1025..2047 become 1..1023": the code of the pattern with the exponent e and nothing else, for every e
+
+-- the code of x units of the field, x an exponent that has become e - (half + 1) or e - half
+becomes : ℕ → ℕ → ℕ → ℕ
+becomes half unit zero = 0
+becomes half unit (suc e) = cond (leb (suc e) half) (2 * ((half - e) * unit) - 1) (2 * ((suc e - half) * unit))
+
+exponentsRight : ℕ → ℕ → ℕ → ℕ → Bool
+unfolding becomes losslessCode folded signedView stepped field rotated lowered minus
+exponentsRight W m half zero = eqb (losslessCode W m 0) 0
+exponentsRight W m half (suc e) =
+    eqb (losslessCode W m (suc e * 2 ^ m)) (becomes half (2 ^ (m + 1)) (suc e)) && exponentsRight W m half e
+
+exponents-known : exponentsRight 32 23 128 255 && exponentsRight 64 52 1024 2047 ≡ true
+unfolding exponentsRight
+exponents-known = refl

@@ -10,10 +10,10 @@ use lib.IntN.{ℤ}
 use lib.Pow.{pow-pos}
 use lib.Ieee.{binary32, binary64, inf, nan, ofBits}
 use lib.Ieee.Exact.{HasValue}
-use Rattle.numbers.specs.declared.bound.BoundAnswer.the-variants.{Exponent, TooSmall}
+use Rattle.numbers.specs.declared.bound.BoundAnswer.the-variants.{Exponent, NoTolerance, TooSmall}
 use Rattle.numbers.specs.Lossless.{losslessCode, losslessRestored}
-use Rattle.numbers.specs.Tolerance.{leastK, lastBin, allowedK, binOf, sign, ordinal, magnitude, threshold, magnitudeCode, toleranceCode, toleranceRestored, largestU}
-use Rattle.numbers.specs.Bound.{notAbove, boundAt}
+use Rattle.numbers.specs.Tolerance.{leastK, lastBin, allowedK, binOf, sign, ordinal, magnitude, threshold, magnitudeCode, restoredOrdinal, toleranceCode, toleranceRestored, largestU}
+use Rattle.numbers.specs.Bound.{isTolerance, notAbove, boundAt}
 use Rattle.numbers.specs.Theorem.{Format, distance, Within, IsBound}
 use Rattle.numbers.proofs.Law.Lossless as Lossless
 use Rattle.numbers.proofs.Law.Tolerance as Tolerance
@@ -42,7 +42,14 @@ module _ (W m : ℕ) (format : Format W m) where
   room : m + 2 ≤ W
   room = omega (arith, format .room)
 
-  -- "Lossless packing restores every bit pattern."
+  -- A code has W bits, and so has a pattern that is restored.
+  pub lossless-code-has-W-bits : (p : ℕ) → p < 2 ^ W → losslessCode W m p < 2 ^ W
+  lossless-code-has-W-bits = Lossless.code-below W m room
+
+  pub lossless-pattern-has-W-bits : (c : ℕ) → c < 2 ^ W → losslessRestored W m c < 2 ^ W
+  lossless-pattern-has-W-bits = Lossless.restored-below W m room
+
+  -- Demand 2: lossless packing restores every bit pattern.
   pub every-pattern-is-restored : (p : ℕ) → p < 2 ^ W → losslessRestored W m (losslessCode W m p) ≡ p
   every-pattern-is-restored = Lossless.restored-code W m room
 
@@ -58,11 +65,20 @@ module _ (W m : ℕ) (format : Format W m) where
 
   -- ---- tolerance
 
+  -- A code has W bits, and so has a pattern that is restored, at every bin.
+  module _ (j : ℕ) (in-range : j ≤ lastBin W m) where
+    pub tolerance-code-has-W-bits : (p : ℕ) → p < 2 ^ W → toleranceCode W m j p < 2 ^ W
+    tolerance-code-has-W-bits = Tolerance.code-under W m (format .room) j in-range
+
+    pub tolerance-pattern-has-W-bits : (c : ℕ) → toleranceRestored W m j c < 2 ^ W
+    tolerance-pattern-has-W-bits = Tolerance.pattern-under W m (format .room) j in-range
+
   module _ (k : ℤ) (allowed : allowedK W m k ≡ true) where
     bin : binOf W m k ≤ lastBin W m
     bin = bin-small W m k (format .least) (format .order) allowed
 
-    -- "Under tolerance 2^k, a value whose magnitude is below the threshold returns at most 2^k off, exactly; all else returns bit for bit."
+    -- Demand 2: under tolerance 2^k, a value whose magnitude is below the threshold returns at most 2^k off, exactly; all else returns bit
+    -- for bit.
     pub every-pattern-returns-within : (p : ℕ) → p < 2 ^ W
         → Within W m (binOf W m k) p (toleranceRestored W m (binOf W m k) (toleranceCode W m (binOf W m k) p))
     unfolding distance
@@ -76,7 +92,7 @@ module _ (W m : ℕ) (format : Format W m) where
           exact = Tolerance.pattern-returns W m (format .room) j bin p h;
         }
 
-    -- "infinities and not-a-numbers too": their ordinals are those from the largest exponent on
+    -- infinities and not-a-numbers too: their ordinals are those from the largest exponent on
     pub specials-return : (p : ℕ) → p < 2 ^ W → (2 ^ (W - 1 - m) - 1) * 2 ^ m ≤ ordinal W p
         → toleranceRestored W m (binOf W m k) (toleranceCode W m (binOf W m k) p) ≡ p
     specials-return p h l =
@@ -93,19 +109,44 @@ module _ (W m : ℕ) (format : Format W m) where
         → toleranceCode W m (binOf W m k) (toleranceRestored W m (binOf W m k) c) ≡ c
     nothing-read-is-lost = Tolerance.code-returns W m (format .room) (binOf W m k) bin
 
+    -- "Restored: u·E if u < 2^m", and at u = 2^m the threshold, which is 2^m·E: the magnitude, and the sign beside it
+    module _ (c : ℕ) (small : c / 2 ≤ 2 ^ m) (read : c / 2 ≤ largestU W m (binOf W m k)) where
+      parts : toleranceRestored W m (binOf W m k) c ≡ restoredOrdinal m (binOf W m k) (c / 2) + c % 2 * 2 ^ (W - 1)
+      parts = Tolerance.restored-parts W m (format .room) (binOf W m k) bin c read
+
+      ordinal-room : restoredOrdinal m (binOf W m k) (c / 2) < 2 ^ (W - 1)
+      ordinal-room = Tolerance.restored-small W m (format .room) (binOf W m k) bin (c / 2) read
+
+      pub u-restores-u-bins : magnitude m (ordinal W (toleranceRestored W m (binOf W m k) c)) ≡ c / 2 * 2 ^ binOf W m k
+      u-restores-u-bins =
+          ap (λ (p : ℕ). magnitude m (ordinal W p)) parts
+          ∙ ap (magnitude m) (Tolerance.joined-ordinal W m (format .room) (binOf W m k) bin (restoredOrdinal m (binOf W m k) (c / 2)) (c % 2) ordinal-room)
+          ∙ Tolerance.restored-magnitude m (binOf W m k) (c / 2) small
+
+      pub the-sign-is-put-back : sign W (toleranceRestored W m (binOf W m k) c) ≡ c % 2
+      the-sign-is-put-back =
+          ap (sign W) parts ∙ Tolerance.joined-sign W m (format .room) (binOf W m k) bin (restoredOrdinal m (binOf W m k) (c / 2)) (c % 2) ordinal-room
+
   -- ---- bound
 
   -- "answers the largest allowed k with 2^k not above it"
   pub bound-is-the-largest : (t : ℕ) (k : ℤ) → boundAt W m t ≡ Exponent k → IsBound W m t k
   bound-is-the-largest = Bound.bound-sound W m format
 
-  -- "and only that one"
+  -- and only that one
   pub there-is-one-bound : (t : ℕ) (k other : ℤ) → IsBound W m t k → IsBound W m t other → k ≡ other
   there-is-one-bound t k other a b = leZ-both k other (b .largest k (a .allowed) (a .below) .le) (a .largest other (b .allowed) (b .below) .le)
 
   -- 13: "no allowed k is small enough"
   pub too-small-means-none : (t : ℕ) → boundAt W m t ≡ TooSmall → (k : ℤ) → allowedK W m k ≡ true → notAbove W m t (binOf W m k) ≡ false
   too-small-means-none = Bound.bound-refused W m format
+
+  -- where there is a bound, it is answered; 12 is answered only for what is not a finite number above 0
+  pub a-bound-is-answered : (t : ℕ) (k : ℤ) → isTolerance t ≡ true → IsBound W m t k → boundAt W m t ≡ Exponent k
+  a-bound-is-answered t k tolerance is = Bound.bound-complete W m format t k tolerance is (λ other b. there-is-one-bound t other k b is)
+
+  pub no-tolerance-means-none : (t : ℕ) → boundAt W m t ≡ NoTolerance → isTolerance t ≡ false
+  no-tolerance-means-none = Bound.bound-untold W m format
 
 -- ---- the magnitude is IEEE 754's, by the toolchain's own account of it
 

@@ -2,7 +2,7 @@
 use Prim.Native.Nat.{ℕ, zero, suc, _+_, _-_, _*_, _^_}
 use mathlib.Core.Bool.{Bool, _&&_, cond}
 use lib.Dec.{leb, ltb, eqb}
-use lib.IntN.{ℤ, subℕ}
+use lib.IntN.{ℤ, pos, subℕ}
 use Rattle.numbers.specs.declared.bound.BoundAnswer.{BoundAnswer}
 use Rattle.numbers.specs.declared.bound.BoundAnswer.the-variants.{Exponent, UnknownWidth, NoTolerance, TooSmall}
 use Rattle.numbers.specs.Tolerance.{leastK, lastBin, magnitude}
@@ -11,7 +11,7 @@ use Rattle.numbers.specs.Tolerance.{leastK, lastBin, magnitude}
 unfoldable pub isTolerance : ℕ → Bool
 isTolerance t = ltb 0 t && ltb t (2047 * 2 ^ 52)
 
--- the k of a bin, at the width W
+-- the k of a bin, at the width W: the difference j - (its smallest k without the sign), a signed number
 unfoldable pub exponentOf : ℕ → ℕ → ℕ → ℤ
 exponentOf W m j = subℕ j (leastK W m)
 
@@ -36,3 +36,10 @@ boundNumber (Exponent k) = 0
 boundNumber UnknownWidth = 2
 boundNumber NoTolerance = 12
 boundNumber TooSmall = 13
+
+-- and what stands beside it: k, or the detail, which is 0 in the rows 2, 12 and 13
+unfoldable pub boundDetail : BoundAnswer → ℤ
+boundDetail (Exponent k) = k
+boundDetail UnknownWidth = pos 0
+boundDetail NoTolerance = pos 0
+boundDetail TooSmall = pos 0

@@ -7,7 +7,7 @@ use lib.Signed.{_≤ℤ_}
 use Rattle.numbers.specs.Tolerance.{leastK, lastBin, allowedK, binOf, sign, ordinal, magnitude, threshold}
 use Rattle.numbers.specs.Bound.{notAbove}
 
--- What is asked of a width W with m fraction bits: two bits for the sign and the exponent's ends, and a smallest k below the largest.
+-- What is asked of a width W with m fraction bits: the sign and two exponent bits, a smallest k below 0, and a largest k that is not.
 pub record Format (W m : ℕ) : Type 0 where
   pub room : m + 3 ≤ W
   pub least : 0 < leastK W m

@@ -85,6 +85,22 @@ module _ (W m t : ℕ) where
   largest-none zero none = rw (none 0 (le-refl 0))
   largest-none (suc n) none = rw (none (suc n) (le-refl (suc n))) (largest-none n (λ i h. none i (le-step h)))
 
+  -- the trying ends with an exponent or with none
+  pub found-or-none : (n : ℕ) → (largestUpTo W m t n ≡ TooSmall) ⊎ ((k : ℤ) × (largestUpTo W m t n ≡ Exponent k))
+  unfolding largestUpTo
+  found-or-none zero = go (notAbove W m t zero) refl
+    where
+      go : (b : Bool) → notAbove W m t zero ≡ b → (largestUpTo W m t zero ≡ TooSmall) ⊎ ((k : ℤ) × (largestUpTo W m t zero ≡ Exponent k))
+      go true y = inr (exponentOf W m zero, rw y)
+      go false y = inl (rw y)
+  found-or-none (suc n) = go (found-or-none n) (notAbove W m t (suc n)) refl
+    where
+      go : (largestUpTo W m t n ≡ TooSmall) ⊎ ((k : ℤ) × (largestUpTo W m t n ≡ Exponent k)) → (b : Bool) → notAbove W m t (suc n) ≡ b
+          → (largestUpTo W m t (suc n) ≡ TooSmall) ⊎ ((k : ℤ) × (largestUpTo W m t (suc n) ≡ Exponent k))
+      go before true y = inr (exponentOf W m (suc n), rw y)
+      go (inl e) false y = inl (rw y e)
+      go (inr e) false y = inr (e .0, rw y (e .1))
+
   pub none-is : (n : ℕ) → largestUpTo W m t n ≡ TooSmall → (i : ℕ) → i ≤ n → notAbove W m t i ≡ false
   unfolding largestUpTo
   none-is zero e i h = go (notAbove W m t zero) refl
@@ -248,3 +264,28 @@ module _ (W m : ℕ) (format : Format W m) where
       go : (b : Bool) → isTolerance t ≡ b → notAbove W m t (binOf W m k) ≡ false
       go true y = none-is W m t (lastBin W m) (rw y at e) (binOf W m k) (bin-small W m k (format .least) (format .order) a)
       go false y = let z : NoTolerance ≡ TooSmall = rw y at e in cc
+
+  -- the other way: where there is a bound, it is answered
+  pub bound-complete : (t : ℕ) (k : ℤ) → isTolerance t ≡ true → IsBound W m t k → ((other : ℤ) → IsBound W m t other → other ≡ k)
+      → boundAt W m t ≡ Exponent k
+  unfolding boundAt
+  bound-complete t k tolerance is one = rw tolerance (go (found-or-none W m t (lastBin W m)))
+    where
+      go : (largestUpTo W m t (lastBin W m) ≡ TooSmall) ⊎ ((other : ℤ) × (largestUpTo W m t (lastBin W m) ≡ Exponent other))
+          → largestUpTo W m t (lastBin W m) ≡ Exponent k
+      go (inl e) =
+          let no = none-is W m t (lastBin W m) e (binOf W m k) (bin-small W m k (format .least) (format .order) (is .allowed)) in
+          let z : true ≡ false = sym (is .below) ∙ no in
+          cc
+      go (inr e) = e .1 ∙ ap Exponent (one (e .0) (largest-bound t (e .0) (largest-is W m t (lastBin W m) (e .0) (e .1))))
+
+  -- and 12 is answered exactly where the tolerance is none
+  pub bound-untold : (t : ℕ) → boundAt W m t ≡ NoTolerance → isTolerance t ≡ false
+  unfolding boundAt
+  bound-untold t e = go (found-or-none W m t (lastBin W m)) (isTolerance t) refl
+    where
+      go : (largestUpTo W m t (lastBin W m) ≡ TooSmall) ⊎ ((k : ℤ) × (largestUpTo W m t (lastBin W m) ≡ Exponent k))
+          → (b : Bool) → isTolerance t ≡ b → isTolerance t ≡ false
+      go (inl none) true y = let z : TooSmall ≡ NoTolerance = sym none ∙ rw y at e in cc
+      go (inr some) true y = let z : Exponent (some .0) ≡ NoTolerance = sym (some .1) ∙ rw y at e in cc
+      go either false y = y

@@ -339,11 +339,11 @@ module _ (W m : ℕ) (room : m + 3 ≤ W) (j : ℕ) (allowed : j ≤ lastBin W m
   code-under p h = omega (arith, halves, code-largest (ordinal W p) (ordinal-small p), sign-small p h, pow-pos (W - 1))
 
   -- a pattern put together from an ordinal and a sign
-  joined-ordinal : (o s : ℕ) → o < 2 ^ (W - 1) → ordinal W (o + s * 2 ^ (W - 1)) ≡ o
+  pub joined-ordinal : (o s : ℕ) → o < 2 ^ (W - 1) → ordinal W (o + s * 2 ^ (W - 1)) ≡ o
   unfolding ordinal
   joined-ordinal o s h = ap (λ (n : ℕ). n % 2 ^ (W - 1)) (add-comm o (s * 2 ^ (W - 1))) ∙ digits-mod s h
 
-  joined-sign : (o s : ℕ) → o < 2 ^ (W - 1) → sign W (o + s * 2 ^ (W - 1)) ≡ s
+  pub joined-sign : (o s : ℕ) → o < 2 ^ (W - 1) → sign W (o + s * 2 ^ (W - 1)) ≡ s
   unfolding sign
   joined-sign o s h = ap (λ (n : ℕ). n / 2 ^ (W - 1)) (add-comm o (s * 2 ^ (W - 1))) ∙ digits-div s h
 

@@ -14,8 +14,7 @@ use lib.ListN.{length, take, drop, getD, set, length-map, length-append, length-
 use lib.Seq.{take-suc, take-suc-set, drop-cons, set-at, length-take-le}
 use Rattle.numbers.specs.Theorem.{Format}
 use Rattle.numbers.specs.Tolerance.{lastBin}
-use Rattle.numbers.proofs.Law.Lossless as Lossless
-use Rattle.numbers.proofs.Law.Tolerance as Tolerance
+use Rattle.numbers.proofs.Theorems.{lossless-code-has-W-bits, lossless-pattern-has-W-bits, tolerance-code-has-W-bits, tolerance-pattern-has-W-bits}
 use Rattle.stream.specs.Bytes.{Below}
 use Rattle.stream.specs.Setting.{fractionBits, clipped, codeAt, patternAt, codesOf, patternsOf}
 
@@ -74,9 +73,6 @@ either-under true x y N h l = h
 either-under false x y N h l = l
 
 module _ (W : ℕ) (format : Format W (fractionBits W)) (mode bin : ℕ) where
-  room : fractionBits W + 2 ≤ W
-  room = omega (arith, format .room)
-
   bin-in : clipped W bin ≤ lastBin W (fractionBits W)
   unfolding clipped
   bin-in = min-le-right bin (lastBin W (fractionBits W))
@@ -84,14 +80,14 @@ module _ (W : ℕ) (format : Format W (fractionBits W)) (mode bin : ℕ) where
   code-under : (p : ℕ) → p < 2 ^ W → codeAt W mode bin p < 2 ^ W
   unfolding codeAt
   code-under p h =
-      either-under (eqb mode 0) _ _ (2 ^ W) (Lossless.code-below W (fractionBits W) room p h)
-      (Tolerance.code-under W (fractionBits W) (format .room) (clipped W bin) bin-in p h)
+      either-under (eqb mode 0) _ _ (2 ^ W) (lossless-code-has-W-bits W (fractionBits W) format p h)
+      (tolerance-code-has-W-bits W (fractionBits W) format (clipped W bin) bin-in p h)
 
   pattern-under : (c : ℕ) → c < 2 ^ W → patternAt W mode bin c < 2 ^ W
   unfolding patternAt
   pattern-under c h =
-      either-under (eqb mode 0) _ _ (2 ^ W) (Lossless.restored-below W (fractionBits W) room c h)
-      (Tolerance.pattern-under W (fractionBits W) (format .room) (clipped W bin) bin-in c)
+      either-under (eqb mode 0) _ _ (2 ^ W) (lossless-pattern-has-W-bits W (fractionBits W) format c h)
+      (tolerance-pattern-has-W-bits W (fractionBits W) format (clipped W bin) bin-in c)
 
   pub codes-under : (vs : List ℕ) → Below (2 ^ W) vs → Below (2 ^ W) (codesOf W mode bin vs)
   unfolding codesOf

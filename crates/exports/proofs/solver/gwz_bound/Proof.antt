@@ -3,6 +3,7 @@ use mathlib.Core.Path.{_∙_, sym, ap}
 use mir.Facts.{toZ-ofZ}
 use mir.Syntax.{w32}
 use Rattle.numbers.specs.Signed.{bitsOf}
+use Rattle.numbers.specs.Bound.{boundNumber, boundDetail}
 use Rattle.exports.specs.Result.{result, boundResult}
 use borrow.Author.Needs.{needs}
 use Rattle.exports.proofs.solver.gwz_bound.Statement.{statement}
@@ -42,19 +43,19 @@ result-of-requires-4 : tie.Need-result-of-requires-4
 result-of-requires-4 c κs = search needs
 
 returns : tie.Need-returns
-unfolding boundResult
+unfolding boundResult boundNumber boundDetail
 returns c = c .result-of .ensures ∙ ap (result 0) (c .before .bits32 .ensures ∙ ap (bitsOf 32) (toZ-ofZ {w = w32} (record { sfits = c .before .before .known-told .given .0 .1 }))) ∙ ap boundResult (sym (c .before .before .before .answer .given .1) ∙ c .before .before .before .before .before .bound .ensures)
 
 returns-2 : tie.Need-returns-2
-unfolding boundResult
+unfolding boundResult boundNumber boundDetail bitsOf
 returns-2 c = c .result-of2 .ensures ∙ ap boundResult (sym (c .before .enum-told .given .1) ∙ c .before .before .before .bound .ensures)
 
 returns-3 : tie.Need-returns-3
-unfolding boundResult
+unfolding boundResult boundNumber boundDetail bitsOf
 returns-3 c = c .result-of3 .ensures ∙ ap boundResult (sym (c .before .enum-told2 .given .1) ∙ c .before .before .before .bound .ensures)
 
 returns-4 : tie.Need-returns-4
-unfolding boundResult
+unfolding boundResult boundNumber boundDetail bitsOf
 returns-4 c = c .result-of4 .ensures ∙ ap boundResult (sym (c .before .enum-told3 .given .1) ∙ c .before .before .before .bound .ensures)
 
 pub gwz-bound-spec : {M : Type 1} → statement M

@@ -2,7 +2,7 @@
 use mathlib.Core.Path.{_∙_, sym, ap}
 use lib.IntN.{ℤ}
 use denote.Ref.{now}
-use Rattle.numbers.specs.Answers.{patternAnswer}
+use Rattle.numbers.specs.Answers.{patternAnswer, patternNumber}
 use Rattle.numbers.specs.declared.tolerance.PatternAnswer.{PatternAnswer}
 use Rattle.exports.specs.Result.{patternResult, patternOut}
 use Rattle.numbers.proofs.Theorems.{format-32}
@@ -36,15 +36,15 @@ result-of-requires-3 : tie.Need-result-of-requires-3
 result-of-requires-3 c κs = search needs
 
 returns : tie.Need-returns
-unfolding patternResult patternOut
+unfolding patternResult patternNumber patternOut
 returns c = let e = told (λ (z : ℤ). patternAnswer 32 23 z (c .before .before .before .before .before .args .code)) (c .before .before .before .before .before .args .k) (c .before .before .before .before .before .fits .k) (c .before .before .before .before .restored32 .result) _ (c .before .before .before .before .restored32 .ensures) (c .before .before .answer .given .1) in (c .result-of .ensures ∙ ap patternResult (sym e), sym (ap (λ (a : PatternAnswer). patternOut a (now (c .before .before .before .before .before .args .pattern))) e))
 
 returns-2 : tie.Need-returns-2
-unfolding patternResult patternOut
+unfolding patternResult patternNumber patternOut
 returns-2 c = let e = told (λ (z : ℤ). patternAnswer 32 23 z (c .before .before .before .before .args .code)) (c .before .before .before .before .args .k) (c .before .before .before .before .fits .k) (c .before .before .before .restored32 .result) _ (c .before .before .before .restored32 .ensures) (c .before .enum-told .given .1) in (c .result-of2 .ensures ∙ ap patternResult (sym e), sym (ap (λ (a : PatternAnswer). patternOut a (now (c .before .before .before .before .args .pattern))) e))
 
 returns-3 : tie.Need-returns-3
-unfolding patternResult patternOut
+unfolding patternResult patternNumber patternOut
 returns-3 c = let e = told (λ (z : ℤ). patternAnswer 32 23 z (c .before .before .before .before .args .code)) (c .before .before .before .before .args .k) (c .before .before .before .before .fits .k) (c .before .before .before .restored32 .result) _ (c .before .before .before .restored32 .ensures) (c .before .enum-told2 .given .1) in (c .result-of3 .ensures ∙ ap patternResult (sym e), sym (ap (λ (a : PatternAnswer). patternOut a (now (c .before .before .before .before .args .pattern))) e))
 
 pub gwz-tolerance-restored32-spec : {M : Type 1} → statement M
