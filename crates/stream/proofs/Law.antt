@@ -21,3 +21,33 @@ pub mod Stepping
 pub mod Appending
 pub mod Walking
 pub mod Restoring
+--   Truth: the connectives of the tests; Places, Settings, Layout, Order, Scan, Starts, Sides, Contents, Counts: the rules of refusals 1 to 10
+--   Accepted, Landing, Shown: an accepted stream, its values in the output, one value shown
+--   Refused, Agreed, Elsewhere: a refused call, the three readers beside each other, bytes of other chunks
+pub mod Truth
+pub mod Places
+pub mod Settings
+pub mod Layout
+pub mod Order
+pub mod Scan
+pub mod Starts
+pub mod Sides
+pub mod Contents
+pub mod Counts
+pub mod Accepted
+pub mod Landing
+pub mod Shown
+pub mod Refused
+pub mod Agreed
+pub mod Elsewhere
+--   Joining, Spelling, Widths, Pieces, Packing, Answering: what pack writes, and how far it has come
+--   Exponents, Heading, Tabled: what is written, read back
+pub mod Joining
+pub mod Spelling
+pub mod Widths
+pub mod Pieces
+pub mod Packing
+pub mod Answering
+pub mod Exponents
+pub mod Heading
+pub mod Tabled

@@ -2,3 +2,5 @@
 pub mod Law
 pub mod Theorems
 pub mod Known
+pub mod KnownStream
+pub mod Demands

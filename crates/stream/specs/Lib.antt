@@ -1,8 +1,19 @@
--- What a reader must believe of the stream layout: document 01, "The stream" and "Levels", in its own words. Every definition is executable
--- and total. A list of bytes, of codes or of values is a list of natural numbers. The group size is nowhere fixed.
+-- What a reader must believe of the stream layout: document 01, "The stream", "Levels" and "Refusal numbers", in its own words. Every
+-- definition is executable and total. A list of bytes, of codes or of values is a list of natural numbers. Partway and Relied serve
+-- private functions alone.
 pub mod Bytes
 pub mod Group
 pub mod Partway
 pub mod Answer
 pub mod Setting
 pub mod Chunk
+pub mod Rows
+pub mod Header
+pub mod Tables
+pub mod Stream
+pub mod Writing
+pub mod Packing
+pub mod Probe
+pub mod Operations
+pub mod Relied
+pub mod Theorem

@@ -1,3 +1,12 @@
-// The stream layout of document 01: groups of codes, and chunks of groups.
-pub mod chunk;
-pub mod group;
+// The stream layout of document 01: groups, chunks, header and tables, and the operations on them.
+pub mod answers;
+mod chunk;
+mod chunks;
+mod group;
+mod header;
+pub mod pack;
+pub mod probe;
+pub mod reading;
+mod restore;
+mod setting;
+mod tables;

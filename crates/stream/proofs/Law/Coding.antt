@@ -39,7 +39,7 @@ one-put f xs base i h l =
     (ap (λ (k : ℕ). drop k base) (add-one i))
     ∙ append-assoc (map f (take i xs)) (f (getD xs i 0) ∷ []) (drop (suc i) base))
 
-length-put : (f : ℕ → ℕ) (xs base : List ℕ) (i : ℕ) → i ≤ length xs → i ≤ length base → length (map f (take i xs) ++ drop i base) ≡ length base
+pub length-put : (f : ℕ → ℕ) (xs base : List ℕ) (i : ℕ) → i ≤ length xs → i ≤ length base → length (map f (take i xs) ++ drop i base) ≡ length base
 length-put f xs base i h l =
     length-append (map f (take i xs)) (drop i base)
     ∙ ap₂ _+_ (length-map (take i xs) f ∙ length-take-le i xs h) (length-drop i base)
@@ -73,7 +73,7 @@ either-under true x y N h l = h
 either-under false x y N h l = l
 
 module _ (W : ℕ) (format : Format W (fractionBits W)) (mode bin : ℕ) where
-  bin-in : clipped W bin ≤ lastBin W (fractionBits W)
+  pub bin-in : clipped W bin ≤ lastBin W (fractionBits W)
   unfolding clipped
   bin-in = min-le-right bin (lastBin W (fractionBits W))
 

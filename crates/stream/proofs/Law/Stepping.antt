@@ -23,7 +23,7 @@ unfolding codesOf
 length-codes-of W mode bin vs = length-map vs (codeAt W mode bin)
 
 -- as far as there are elements
-take-there : (k : ℕ) (l : List ℕ) → take k l ≡ take (min k (length l)) l
+pub take-there : (k : ℕ) (l : List ℕ) → take k l ≡ take (min k (length l)) l
 take-there k l = go (le-or-lt k (length l))
   where
     go : (k ≤ length l) ⊎ (length l < k) → take k l ≡ take (min k (length l)) l

@@ -1,0 +1,142 @@
+-- What is demanded of reading, as theorems about the promises: `checkAnswer`, `unpackAnswer`, `unpackOut` and `probeAnswer32` (64) are what
+-- the operations are proved to answer and to leave in the output.
+use mathlib.Core.Path.{_≡_, sym, ap, _∙_}
+use mathlib.Core.Bool.{true}
+use mathlib.Core.List.{List, _++_}
+use Prim.Native.Nat.{ℕ, _+_, _-_, _/_, _≤_, _<_}
+use native.Mathlib.Omega.{arith}
+use lib.ListN.{length, drop, set, getD, List·getD-append}
+use lib.Seq.{getD-append-add, getD-drop}
+use Rattle.stream.specs.Setting.{knownLevel}
+use Rattle.stream.specs.Header.{headerOf}
+use Rattle.stream.specs.Stream.{values, valueAt}
+use Rattle.stream.specs.Rows.{first, answer, after}
+use Rattle.stream.specs.Probe.{shown32, shown64, probed32, probed64}
+use Rattle.stream.specs.Operations.{openingRows, tableRows, checkRows, checkAnswer, unpackRows, unpackAnswer, unpackOut, probeRows, probeAnswer32, probeAnswer64}
+use Rattle.stream.specs.Theorem.{Apart, InChunk}
+use Rattle.stream.specs.declared.answers.Answer.the-variants.{Done, Refused}
+use Rattle.stream.specs.declared.answers.Step.{Step}
+use Rattle.stream.specs.declared.answers.Step.the-variants.{Pass}
+use Rattle.stream.proofs.Law.Elsewhere.{byte-apart, probe-same, value-same}
+use Rattle.stream.proofs.Law.Layout.{laid-out}
+use Rattle.stream.proofs.Law.Accepted.{opening, tables}
+use Rattle.stream.proofs.Law.Agreed.{done-pass, refused-stop, unpack-check, counted, probe-passes, probe-value, higher-check, higher-unpack, higher-probe}
+
+-- ---- unpack's output
+
+-- A refused unpack has written nothing.
+pub refused-untouched : (W level : ℕ) (s out : List ℕ) (number detail : ℕ)
+    → unpackAnswer W level s (length out) ≡ Refused number detail → unpackOut W level s out ≡ out
+unfolding unpackAnswer unpackOut after
+refused-untouched W level s out number detail e =
+    rw (refused-stop (first (unpackRows W level s (length out))) (headerOf s .count) number detail e)
+
+-- what an accepted unpack leaves
+accepted-out : (W level : ℕ) (s out : List ℕ) (n : ℕ) → unpackAnswer W level s (length out) ≡ Done n
+    → (first (unpackRows W level s (length out)) ≡ Pass) × (headerOf s .count ≡ n) × (unpackOut W level s out ≡ values s ++ drop n out)
+unfolding unpackAnswer unpackOut after
+accepted-out W level s out n e =
+    let d = done-pass (first (unpackRows W level s (length out))) (headerOf s .count) n e in
+    (d .0, d .1, rw (d .0, d .1))
+
+-- An accepted unpack has written n values, those of the stream.
+pub written-values : (W level : ℕ) (s out : List ℕ) (n : ℕ) → unpackAnswer W level s (length out) ≡ Done n
+    → (length (values s) ≡ n) × ((i : ℕ) → i < n → getD (unpackOut W level s out) i 0 ≡ getD (values s) i 0)
+written-values W level s out n e =
+    let a = accepted-out W level s out n e in
+    let l = counted W level s (length out) (a .0) ∙ a .1 in
+    (l, λ i b. ap (λ (o : List ℕ). getD o i 0) (a .2) ∙ List·getD-append (values s) (drop n out) 0 i (omega arith))
+
+-- "past n .. nothing is altered"
+pub past-n-untouched : (W level : ℕ) (s out : List ℕ) (n : ℕ) → unpackAnswer W level s (length out) ≡ Done n
+    → (i : ℕ) → n ≤ i → getD (unpackOut W level s out) i 0 ≡ getD out i 0
+past-n-untouched W level s out n e i b =
+    let a = accepted-out W level s out n e in
+    let l = counted W level s (length out) (a .0) ∙ a .1 in
+    let at : length (values s) + (i - n) ≡ i = omega arith in
+    let back : n + (i - n) ≡ i = omega arith in
+    ap (λ (o : List ℕ). getD o i 0) (a .2)
+    ∙ sym (ap (λ (k : ℕ). getD (values s ++ drop n out) k 0) at)
+    ∙ getD-append-add (values s) (drop n out) (i - n) 0
+    ∙ getD-drop n out (i - n) 0
+    ∙ ap (λ (k : ℕ). getD out k 0) back
+
+-- ---- check
+
+-- Check answers what unpack answers, of the stream's own width and with room for its values: it accepts exactly the same streams.
+pub check-as-unpack : (level : ℕ) (s : List ℕ) (room : ℕ) → headerOf s .count ≤ room → checkAnswer level s ≡ unpackAnswer (headerOf s .width) level s room
+unfolding checkAnswer unpackAnswer
+check-as-unpack level s room l = ap (λ (a : Step). answer a (headerOf s .count)) (sym (unpack-check level s room l))
+
+-- ---- probe
+
+probe-steps : (W level : ℕ) (s out : List ℕ) (n i : ℕ) → unpackAnswer W level s (length out) ≡ Done n → i < n
+    → (first (probeRows W level s i) ≡ Pass) × (valueAt s i ≡ getD (unpackOut W level s out) i 0)
+probe-steps W level s out n i e b =
+    let a = accepted-out W level s out n e in
+    let below : i < headerOf s .count = omega (arith, a .1) in (
+      probe-passes W level s (length out) (a .0) i below,
+      sym (written-values W level s out n e .1 i b ∙ probe-value W level s (length out) (a .0) i below),
+    )
+
+-- Probe shows, at each index, the value that unpack writes there.
+pub probe-as-unpack32 : (level : ℕ) (s out : List ℕ) (n i : ℕ) → unpackAnswer 32 level s (length out) ≡ Done n → i < n
+    → probeAnswer32 level s i ≡ shown32 (getD (unpackOut 32 level s out) i 0)
+unfolding probeAnswer32 probed32
+probe-as-unpack32 level s out n i e b = let p = probe-steps 32 level s out n i e b in rw (p .0) (ap shown32 (p .1))
+
+pub probe-as-unpack64 : (level : ℕ) (s out : List ℕ) (n i : ℕ) → unpackAnswer 64 level s (length out) ≡ Done n → i < n
+    → probeAnswer64 level s i ≡ shown64 (getD (unpackOut 64 level s out) i 0)
+unfolding probeAnswer64 probed64
+probe-as-unpack64 level s out n i e b = let p = probe-steps 64 level s out n i e b in rw (p .0) (ap shown64 (p .1))
+
+-- "so no other chunk's bytes touch its answer"
+pub probe-apart32 : (level : ℕ) (s t : List ℕ) (i : ℕ) → Apart (i / 1024) s t → probeAnswer32 level s i ≡ probeAnswer32 level t i
+unfolding probeAnswer32
+probe-apart32 level s t i apart = rw (probe-same s t i apart 32 level, value-same s t i apart)
+
+pub probe-apart64 : (level : ℕ) (s t : List ℕ) (i : ℕ) → Apart (i / 1024) s t → probeAnswer64 level s i ≡ probeAnswer64 level t i
+unfolding probeAnswer64
+probe-apart64 level s t i apart = rw (probe-same s t i apart 64 level, value-same s t i apart)
+
+-- The same of one byte, wherever header and tables are right: a byte of another chunk's data may be any other.
+byte-elsewhere : (level : ℕ) (s : List ℕ) → first (openingRows level s) ≡ Pass → first (tableRows (headerOf s) s) ≡ Pass
+    → (i : ℕ) → i < headerOf s .count → (j p b : ℕ) → InChunk s j p → (j ≡ i / 1024 → ⊥) → Apart (i / 1024) s (set s p b)
+byte-elsewhere level s e t i below j p b inside other =
+    let l = laid-out (length s) (headerOf s) (opening level s e .layout) in
+    byte-apart s l (tables (headerOf s) s t .chunks) j (i / 1024) p b inside (omega arith) other
+
+pub probe-other-byte32 : (level : ℕ) (s : List ℕ) → first (openingRows level s) ≡ Pass → first (tableRows (headerOf s) s) ≡ Pass
+    → (i : ℕ) → i < headerOf s .count → (j p b : ℕ) → InChunk s j p → (j ≡ i / 1024 → ⊥) → probeAnswer32 level (set s p b) i ≡ probeAnswer32 level s i
+probe-other-byte32 level s e t i below j p b inside other =
+    sym (probe-apart32 level s (set s p b) i (byte-elsewhere level s e t i below j p b inside other))
+
+pub probe-other-byte64 : (level : ℕ) (s : List ℕ) → first (openingRows level s) ≡ Pass → first (tableRows (headerOf s) s) ≡ Pass
+    → (i : ℕ) → i < headerOf s .count → (j p b : ℕ) → InChunk s j p → (j ≡ i / 1024 → ⊥) → probeAnswer64 level (set s p b) i ≡ probeAnswer64 level s i
+probe-other-byte64 level s e t i below j p b inside other =
+    sym (probe-apart64 level s (set s p b) i (byte-elsewhere level s e t i below j p b inside other))
+
+-- ---- levels: bytes that one level accepts are accepted by each higher one, with the same values
+
+module _ (level level′ : ℕ) (s : List ℕ) (higher : level ≤ level′) (known : knownLevel level′ ≡ true) where
+  pub check-higher : (n : ℕ) → checkAnswer level s ≡ Done n → checkAnswer level′ s ≡ Done n
+  unfolding checkAnswer answer
+  check-higher n e =
+      let d = done-pass (first (checkRows level s)) (headerOf s .count) n e in
+      rw (higher-check level level′ s higher known (d .0)) (ap Done (d .1))
+
+  pub unpack-higher : (W : ℕ) (out : List ℕ) (n : ℕ) → unpackAnswer W level s (length out) ≡ Done n
+      → (unpackAnswer W level′ s (length out) ≡ Done n) × (unpackOut W level′ s out ≡ unpackOut W level s out)
+  unfolding unpackAnswer unpackOut answer after
+  unpack-higher W out n e =
+      let d = done-pass (first (unpackRows W level s (length out))) (headerOf s .count) n e in
+      let p = higher-unpack level level′ s higher known W (length out) (d .0) in
+      (rw p (ap Done (d .1)), rw (p, d .0))
+
+  pub probe-higher32 : (i : ℕ) → first (probeRows 32 level s i) ≡ Pass → probeAnswer32 level′ s i ≡ probeAnswer32 level s i
+  unfolding probeAnswer32
+  probe-higher32 i e = rw (higher-probe level level′ s higher known 32 i e, e)
+
+  pub probe-higher64 : (i : ℕ) → first (probeRows 64 level s i) ≡ Pass → probeAnswer64 level′ s i ≡ probeAnswer64 level s i
+  unfolding probeAnswer64
+  probe-higher64 i e = rw (higher-probe level level′ s higher known 64 i e, e)

@@ -1,0 +1,38 @@
+-- Document 01's worked stream, computed: "The list 0, -0, 2^-149, packed at level 8, mode 0, is 55 bytes: the numbers
+-- 1 8 8 32 0 0 3 1 48 52 0 55, the table 0, then bytes 03 10 01." It is read back at every level.
+use mathlib.Core.Path.{_≡_, refl}
+use Prim.Native.Nat.{ℕ}
+use mathlib.Core.List.{List, [], _∷_, _++_}
+use lib.IntN.{pos}
+use lib.Ieee.{size}
+use Rattle.numbers.specs.Signed.{signedView, folded, unfolded, bitsOf}
+use Rattle.numbers.specs.Lossless.{rotated, field, minus, lowered, stepped, losslessCode, plus, raised, unstepped, unrotated, losslessRestored}
+use Rattle.stream.specs.Bytes.{number, digits}
+use Rattle.stream.specs.Group.{bytesFor, largest, widthOf, packed, groupBytes, givenWidth, groupLength, groupNumber, groupCodes, within, goodGroup}
+use Rattle.stream.specs.Setting.{knownLevel, knownWidth, fractionBits, widthNeed, modeNeed, need, isZero, allowedSetting, binFor, groupSize, codeAt, patternAt, codesOf, patternsOf, limitOf}
+use Rattle.stream.specs.Chunk.{groupsIn, groupsBytes, chunkBytes, firstFault, chunkAnswer, groupsCodes, chunkCodes}
+use Rattle.stream.specs.Rows.{rowsFrom, first, answer, after}
+use Rattle.stream.specs.Header.{word, headerOf, kOf, binIn, chunksIn, tooMany, needRight, settingRight, layoutRight}
+use Rattle.stream.specs.Tables.{every, startAt, startRight, chunkTableRight, partAt, sideTableRight}
+use Rattle.stream.specs.Stream.{joined, countOf, chunkOf, chunkState, chunkValues, valuesIn, values}
+use Rattle.stream.specs.Writing.{spell, piece, pieceBytes, dataOf, startsOf, headerNumbers, endOf, body, stream}
+use Rattle.stream.specs.Operations.{headerRows, openingRows, tableRows, faultDetail, faultRow, chunkRow, chunkRows, contentRows, widthRow, checkRows, checkAnswer, roomRow, unpackRows, unpackOut}
+use Rattle.stream.specs.declared.answers.Answer.the-variants.{Done}
+
+pub threeValues : List ℕ
+threeValues = 0 ∷ 0x8000_0000 ∷ 1 ∷ []
+
+pub theirBytes : List ℕ
+theirBytes = spell (1 ∷ 8 ∷ 8 ∷ 32 ∷ 0 ∷ 0 ∷ 3 ∷ 1 ∷ 48 ∷ 52 ∷ 0 ∷ 55 ∷ 0 ∷ []) ++ (0x03 ∷ 0x10 ∷ 0x01 ∷ [])
+
+pub packed-known : stream 32 8 0 (pos 0) threeValues ≡ theirBytes
+unfolding size signedView folded bitsOf rotated field minus lowered stepped losslessCode number digits bytesFor largest widthOf packed groupBytes fractionBits widthNeed modeNeed need binFor groupSize codeAt codesOf groupsIn groupsBytes chunkBytes chunksIn joined spell piece pieceBytes dataOf startsOf headerNumbers endOf body stream threeValues theirBytes
+packed-known = refl
+
+pub checked-known : checkAnswer 8 theirBytes ≡ Done 3
+unfolding size signedView folded bitsOf number digits bytesFor largest widthOf givenWidth groupLength groupNumber groupCodes within goodGroup knownLevel knownWidth fractionBits widthNeed modeNeed need isZero allowedSetting binFor groupSize limitOf groupsIn firstFault chunkAnswer first answer word headerOf kOf binIn chunksIn tooMany needRight settingRight layoutRight every startAt startRight chunkTableRight partAt sideTableRight countOf chunkOf chunkState spell headerRows openingRows tableRows faultDetail faultRow rowsFrom chunkRow chunkRows contentRows checkRows checkAnswer theirBytes
+checked-known = refl
+
+pub unpacked-known : unpackOut 32 10 theirBytes (7 ∷ 7 ∷ 7 ∷ 7 ∷ []) ≡ threeValues ++ (7 ∷ [])
+unfolding size signedView folded unfolded bitsOf number digits plus raised unstepped unrotated losslessRestored field bytesFor largest widthOf givenWidth groupLength groupNumber groupCodes within goodGroup knownLevel knownWidth fractionBits widthNeed modeNeed need isZero allowedSetting binFor groupSize limitOf patternAt patternsOf groupsIn firstFault chunkAnswer groupsCodes chunkCodes first answer after word headerOf kOf binIn chunksIn tooMany needRight settingRight layoutRight every startAt startRight chunkTableRight partAt sideTableRight joined countOf chunkOf chunkState chunkValues valuesIn values spell headerRows openingRows tableRows faultDetail faultRow rowsFrom chunkRow chunkRows contentRows widthRow roomRow unpackRows unpackOut threeValues theirBytes
+unpacked-known = refl

@@ -1,0 +1,74 @@
+-- The rows of the tables and the chunks, from what the checks find.
+use mathlib.Core.Path.{_≡_, refl, sym, ap, ap₂, _∙_}
+use mathlib.Core.Bool.{Bool, true, false, _&&_}
+use mathlib.Core.List.{List, [], _∷_, _++_}
+use Prim.Native.Nat.{ℕ, _<_}
+use native.Mathlib.Omega.{arith}
+use lib.ListN.{drop, getD}
+use Rattle.stream.specs.Setting.{groupSize, limitOf, patternsOf}
+use Rattle.stream.specs.Chunk.{chunkAnswer, chunkCodes}
+use Rattle.stream.specs.Header.{binIn}
+use Rattle.stream.specs.Stream.{countOf, chunkOf, chunkState, chunkValues}
+use Rattle.stream.specs.Rows.{Row, first}
+use Rattle.stream.specs.Tables.{chunkTableRight, sideTableRight}
+use Rattle.stream.specs.Operations.{tableRows, faultDetail, faultRow, chunkRow, chunkRows}
+use Rattle.stream.specs.declared.answers.Step.the-variants.{Pass, Stop}
+use Rattle.stream.specs.declared.chunk.ChunkAnswer.{ChunkAnswer}
+use Rattle.stream.specs.declared.chunk.ChunkAnswer.the-variants.{Good, Bad}
+use Rattle.stream.specs.declared.header.Header.{Header}
+use Rattle.stream.proofs.Law.Scan.{rows-at}
+
+module _ (h : Header) (s : List ℕ) (j : ℕ) where
+  -- the chunk, from its parts as the code has them
+  module _ (W bin n : ℕ) (part : List ℕ) (width : h .width ≡ W) (bins : bin ≡ binIn h) (counts : n ≡ countOf h j) (parts : part ≡ chunkOf h s j) where
+    state-is : (limit : ℕ) → limit ≡ limitOf W (h .mode) bin → chunkAnswer W limit 32 n part ≡ chunkState h s j
+    unfolding chunkState groupSize
+    state-is limit limits = rw (limits, bins, counts, parts, width)
+
+    pub found-is : (limit : ℕ) → limit ≡ limitOf W (h .mode) bin → (r a : ChunkAnswer) → r ≡ chunkAnswer W limit 32 n part → r ≡ a → chunkState h s j ≡ a
+    found-is limit limits r a e is = sym (state-is limit limits) ∙ sym e ∙ is
+
+    pub good-is : chunkState h s j ≡ Good → chunkAnswer W (limitOf W (h .mode) bin) 32 n part ≡ Good
+    good-is g = state-is (limitOf W (h .mode) bin) refl ∙ g
+
+    values-are : patternsOf W (h .mode) bin (chunkCodes 32 n part) ≡ chunkValues h s j
+    unfolding chunkValues groupSize
+    values-are = rw (bins, counts, parts, width)
+
+    pub restored-is : (now old : List ℕ) → now ≡ patternsOf W (h .mode) bin (chunkCodes 32 n part) ++ drop n old → now ≡ chunkValues h s j ++ drop (countOf h j) old
+    restored-is now old e = e ∙ ap₂ (λ (vs : List ℕ) (m : ℕ). vs ++ drop m old) values-are counts
+
+    pub value-is : (v i : ℕ) → v ≡ getD (patternsOf W (h .mode) bin (chunkCodes 32 n part)) i 0 → v ≡ getD (chunkValues h s j) i 0
+    value-is v i e = e ∙ ap (λ (vs : List ℕ). getD vs i 0) values-are
+
+  pub good-row : chunkState h s j ≡ Good → Pass ≡ first (chunkRow h s j ∷ [])
+  unfolding chunkRow faultRow first
+  good-row e = rw e
+
+  pub bad-row : (group : ℕ) → chunkState h s j ≡ Bad group → Stop 10 j ≡ first (chunkRow h s j ∷ [])
+  unfolding chunkRow faultRow faultDetail first
+  bad-row group e = rw e
+
+  row-passed : (a : ChunkAnswer) → first (faultRow j a ∷ []) ≡ Pass → a ≡ Good
+  unfolding faultRow first
+  row-passed Good e = refl
+  row-passed (Bad group) e = let z : Stop 10 (faultDetail j group) ≡ Pass = e in cc
+
+  pub passed-good : first (chunkRow h s j ∷ []) ≡ Pass → chunkState h s j ≡ Good
+  unfolding chunkRow
+  passed-good e = row-passed (chunkState h s j) e
+
+-- rows of which none is given: every chunk is good
+pub all-good : (h : Header) (s : List ℕ) → first (chunkRows h s) ≡ Pass → (j : ℕ) → j < h .chunks → chunkState h s j ≡ Good
+unfolding chunkRows
+all-good h s e j l = passed-good h s j (rows-at (chunkRow h s) (h .chunks) 0 j e (omega arith) (omega arith))
+
+-- the tables' row, from the two tests, and what stands behind it
+module _ (h : Header) (s : List ℕ) (a b : Bool) (chunks : a ≡ chunkTableRight h s) (sides : b ≡ sideTableRight h s) (rest : List Row) where
+  pub tables-pass : a && b ≡ true → first (tableRows h s ++ rest) ≡ first rest
+  unfolding tableRows first
+  tables-pass e = rw (← chunks, ← sides, e)
+
+  pub tables-stop : a && b ≡ false → first (tableRows h s ++ rest) ≡ Stop 9 0
+  unfolding tableRows first
+  tables-stop e = rw (← chunks, ← sides, e)

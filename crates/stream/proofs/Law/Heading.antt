@@ -1,0 +1,184 @@
+-- The header of a written stream, with any side parts behind its data: read back, its numbers are those that were written, and keep every
+-- rule of refusal 8.
+use mathlib.Core.Path.{_≡_, refl, sym, ap, ap₂, _∙_}
+use mathlib.Core.Bool.{Bool, true, false, _&&_, not, cond}
+use mathlib.Core.List.{List, [], _∷_, _++_, append-assoc}
+use Prim.Native.Nat.{ℕ, zero, suc, _+_, _-_, _*_, _/_, _^_, _≤_, _<_, max}
+use native.Mathlib.Nat.{le-trans, lt-of-le-of-lt}
+use native.Mathlib.Omega.{arith}
+use borrow.Author.Tests.{leb-true, le-ltb, le-leb, eq-eqb}
+use lib.Dec.{eqb, leb, ltb, lit<, lit≤}
+use lib.IntN.{ℤ}
+use lib.ListN.{length, getD, length-append}
+use Rattle.numbers.specs.Signed.{signedView, bitsOf}
+use Rattle.stream.specs.Bytes.{Below}
+use Rattle.stream.specs.Setting.{knownLevel, knownWidth, widthNeed, modeNeed, need, allowedSetting}
+use Rattle.stream.specs.Header.{word, headerOf, kOf, chunksIn, tooMany, needRight, settingRight, layoutRight}
+use Rattle.stream.specs.Writing.{spell, dataOf, startsOf, headerNumbers, endOf, body, Side, entries, parts, withSides, WellFormedSides}
+use Rattle.stream.specs.Packing.{Packable}
+use Rattle.stream.specs.declared.header.Header.{Header}
+use Rattle.stream.proofs.Law.Bytes.{everywhere}
+use Rattle.stream.proofs.Law.Truth.{and-right}
+use Rattle.stream.proofs.Law.Settings.{width-most, mode-small}
+use Rattle.stream.proofs.Law.Widths.{need-small}
+use Rattle.stream.proofs.Law.Exponents.{exponent-bits, exponent-back}
+use Rattle.stream.proofs.Law.Joining.{length-singles, singles-at}
+use Rattle.stream.proofs.Law.Spelling.{length-spell, word-spelled}
+use Rattle.stream.proofs.Law.Answering.{length-body}
+use Rattle.stream.proofs.Law.Pieces.{end-is, end-grows, end-small}
+
+-- the header of a list's stream with so many side parts
+abbrev pub headerFor : ℕ → ℕ → ℕ → ℤ → List ℕ → ℕ → Header
+headerFor W level mode k vs sides =
+    record {
+      major = 1;
+      written = level;
+      needed = need W mode;
+      width = W;
+      mode = mode;
+      exponent = bitsOf 32 k;
+      count = length vs;
+      chunks = chunksIn (length vs);
+      table = 48;
+      start = 48 + 4 * chunksIn (length vs);
+      sides = sides;
+      end = endOf W mode k vs (chunksIn (length vs));
+    }
+
+need-least : (W mode : ℕ) → 8 ≤ need W mode
+unfolding need widthNeed modeNeed
+need-least W mode = go (eqb W 64) (eqb mode 1)
+  where
+    go : (a b : Bool) → 8 ≤ max (cond a 10 8) (cond b 9 8)
+    go true true = lit≤ tt
+    go true false = lit≤ tt
+    go false true = lit≤ tt
+    go false false = lit≤ tt
+
+-- elements below b, one by one, and then others
+abbrev Each : ℕ → List ℕ → Type 0
+Each b [] = Unit {0}
+Each b (x ∷ xs) = (x < b) × Each b xs
+
+each-below : (b : ℕ) (xs ys : List ℕ) → Each b xs → Below b ys → Below b (xs ++ ys)
+each-below b [] ys e h i = h i
+each-below b (x ∷ xs) ys e h zero = e .0
+each-below b (x ∷ xs) ys e h (suc i) = each-below b xs ys (e .1) h i
+
+module _ (W level mode : ℕ) (k : ℤ) (vs : List ℕ) where
+  abbrev chunks : ℕ
+  chunks = chunksIn (length vs)
+
+  abbrev end : ℕ
+  end = endOf W mode k vs chunks
+
+  -- the numbers of the header and the chunk table
+  abbrev pub frontNumbers : ℕ → List ℕ
+  frontNumbers sides = headerNumbers W level mode k (length vs) sides end ++ startsOf W mode k vs chunks
+
+  pub length-numbers : (sides : ℕ) → length (frontNumbers sides) ≡ 12 + chunks
+  unfolding headerNumbers startsOf
+  length-numbers sides =
+      length-append (headerNumbers W level mode k (length vs) sides end) (startsOf W mode k vs chunks)
+      ∙ ap (λ (n : ℕ). 12 + n) (length-singles (λ j. length (dataOf W mode k vs j)) chunks)
+
+  module _ (p : Packable W level mode k vs) (sides : ℕ) (few : sides ≤ 64) where
+    end-below : end < 2 ^ 24
+    end-below = end-small W mode k vs (p .width) (p .patterns) (p .few) chunks (omega arith)
+
+    starts-below : Below (2 ^ 32) (startsOf W mode k vs chunks)
+    unfolding startsOf
+    starts-below =
+        everywhere (λ (n : ℕ). n < 2 ^ 32) (startsOf W mode k vs chunks) (lit< tt)
+        λ j h.
+        let l : j < chunks = rw (length-singles (λ i. length (dataOf W mode k vs i)) chunks) at h in
+        rw (singles-at (λ i. length (dataOf W mode k vs i)) chunks j l)
+        (omega (arith, end-below, end-is W mode k vs j, end-grows W mode k vs j chunks (omega arith)))
+
+    level-small : level ≤ 10
+    unfolding knownLevel
+    level-small = leb-true level 10 (and-right (leb 8 level) (leb level 10) (p .known))
+
+    -- all have 32 bits
+    front-below : Below (2 ^ 32) (frontNumbers sides)
+    unfolding headerNumbers chunksIn
+    front-below =
+        each-below (2 ^ 32) (headerNumbers W level mode k (length vs) sides end) (startsOf W mode k vs chunks) (
+          lit< tt,
+          (
+            omega (arith, level-small),
+            (
+              omega (arith, need-small W mode),
+              (
+                omega (arith, width-most W (p .width)),
+                (
+                  omega (arith, mode-small W mode k (p .allowed)),
+                  (
+                    exponent-bits W mode k (p .width) (p .allowed),
+                    (
+                      omega (arith, p .few),
+                      (
+                        omega (arith, p .few),
+                        (
+                          lit< tt,
+                          (
+                            omega (arith, p .few),
+                            (omega arith, (omega (arith, end-below), tt)),
+                          ),
+                        ),
+                      ),
+                    ),
+                  ),
+                ),
+              ),
+            ),
+          ),
+        )
+        starts-below
+
+    -- so each is read at its place
+    pub front-word : (t : List ℕ) (j : ℕ) → j < 12 + chunks → word (spell (frontNumbers sides) ++ t) (4 * j) ≡ getD (frontNumbers sides) j 0
+    front-word t j h = word-spelled (frontNumbers sides) t j front-below (rw (length-numbers sides) h)
+
+    pub header-is : (t : List ℕ) → headerOf (spell (frontNumbers sides) ++ t) ≡ headerFor W level mode k vs sides
+    unfolding headerOf headerNumbers
+    header-is t =
+        let at : (j : ℕ) → j < 12 → word (spell (frontNumbers sides) ++ t) (4 * j) ≡ getD (frontNumbers sides) j 0 = λ j h. front-word t j (omega arith) in
+        rw (
+          at 0 (lit< tt),
+          at 1 (lit< tt),
+          at 2 (lit< tt),
+          at 3 (lit< tt),
+          at 4 (lit< tt),
+          at 5 (lit< tt),
+          at 6 (lit< tt),
+          at 7 (lit< tt),
+          at 8 (lit< tt),
+          at 9 (lit< tt),
+          at 10 (lit< tt),
+          at 11 (lit< tt),
+        )
+
+    pub setting-right : settingRight (headerFor W level mode k vs sides) ≡ true
+    unfolding settingRight needRight kOf
+    setting-right =
+        rw (
+          p .width,
+          le-leb 8 (need W mode) (need-least W mode),
+          eq-eqb (need W mode) (need W mode) refl,
+          le-leb (need W mode) level (p .needs),
+          exponent-back W mode k (p .width) (p .allowed),
+          p .allowed,
+        )
+
+    pub layout-right : (size : ℕ) → end ≤ size → layoutRight size (headerFor W level mode k vs sides) ≡ true
+    unfolding layoutRight tooMany
+    layout-right size h =
+        rw (
+          le-ltb 1048576 (length vs) (p .few),
+          eq-eqb chunks chunks refl,
+          eq-eqb (48 + 4 * chunks) (48 + 4 * chunks) refl,
+          le-leb sides 64 few,
+          le-leb (48 + 4 * chunks) end (omega (arith, end-is W mode k vs chunks)),
+          le-leb end size h,
+        )

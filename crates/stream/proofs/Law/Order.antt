@@ -1,0 +1,61 @@
+-- Rows: the first that is given decides.
+use mathlib.Core.Path.{_≡_, refl, sym, ap, _∙_}
+use mathlib.Core.Bool.{Bool, true, false}
+use mathlib.Core.List.{List, [], _∷_, _++_}
+use Prim.Native.Nat.{ℕ}
+use Rattle.stream.specs.Rows.{Row, row, first}
+use Rattle.stream.specs.declared.answers.Step.{Step}
+use Rattle.stream.specs.declared.answers.Step.the-variants.{Pass, Stop}
+
+-- what comes after rows of which none is given
+unfoldable pub andThen : Step → Step → Step
+andThen Pass later = later
+andThen (Stop number detail) later = Stop number detail
+
+pub then-pass : (a b : Step) → andThen a b ≡ Pass → (a ≡ Pass) × (b ≡ Pass)
+unfolding andThen
+then-pass Pass b e = (refl, e)
+then-pass (Stop number detail) b e = let z : Stop number detail ≡ Pass = e in (cc, cc)
+
+first-cons : (r : Row) (rows : List Row) → first (r ∷ rows) ≡ andThen (first (r ∷ [])) (first rows)
+unfolding first andThen
+first-cons (row number true detail) rows = refl
+first-cons (row number false detail) rows = refl
+
+pub first-append : (before rows : List Row) → first (before ++ rows) ≡ andThen (first before) (first rows)
+unfolding first andThen
+first-append [] rows = refl
+first-append (row number true detail ∷ before) rows = refl
+first-append (row number false detail ∷ before) rows = first-append before rows
+
+-- one row and then others
+module _ (r : Row) (rows : List Row) where
+  pub passed : first (r ∷ []) ≡ Pass → first (r ∷ rows) ≡ first rows
+  unfolding andThen
+  passed e = first-cons r rows ∙ ap (λ (a : Step). andThen a (first rows)) e
+
+  pub passed-both : first (r ∷ rows) ≡ Pass → (first (r ∷ []) ≡ Pass) × (first rows ≡ Pass)
+  passed-both e = then-pass (first (r ∷ [])) (first rows) (sym (first-cons r rows) ∙ e)
+
+pub stopped : (number detail : ℕ) (r : Row) (rows : List Row) → first (r ∷ []) ≡ Stop number detail → first (r ∷ rows) ≡ Stop number detail
+unfolding andThen
+stopped number detail r rows e = first-cons r rows ∙ ap (λ (a : Step). andThen a (first rows)) e
+
+-- a row that is not given
+pub not-given : (number detail : ℕ) (given : Bool) → first (row number given detail ∷ []) ≡ Pass → given ≡ false
+unfolding first
+not-given number detail true e = let z : Stop number detail ≡ Pass = e in cc
+not-given number detail false e = refl
+
+-- rows and then others
+module _ (before rows : List Row) where
+  pub opened : first before ≡ Pass → first (before ++ rows) ≡ first rows
+  unfolding andThen
+  opened e = first-append before rows ∙ ap (λ (a : Step). andThen a (first rows)) e
+
+  pub opened-both : first (before ++ rows) ≡ Pass → (first before ≡ Pass) × (first rows ≡ Pass)
+  opened-both e = then-pass (first before) (first rows) (sym (first-append before rows) ∙ e)
+
+pub shut : (number detail : ℕ) (before rows : List Row) → first before ≡ Stop number detail → first (before ++ rows) ≡ Stop number detail
+unfolding andThen
+shut number detail before rows e = first-append before rows ∙ ap (λ (a : Step). andThen a (first rows)) e

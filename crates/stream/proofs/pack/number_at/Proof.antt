@@ -1,0 +1,23 @@
+-- `stream::pack::number_at` meets its contract.
+use lib.ListN.{List·getD-eq-default}
+use mathlib.Core.Path.{sym}
+use borrow.Author.Needs.{needs}
+use Rattle.stream.proofs.pack.number_at.Statement.{statement}
+use Rattle.stream.proofs.pack.number_at.Tie as tie
+use Rattle.stream.proofs.pack.number_at.Reads as reads
+use Rattle.stream.proofs.pack.number_at.Lts as lts
+
+mul-result : tie.Need-mul-result
+mul-result c = search needs
+
+shared-slice-read-result : tie.Need-shared-slice-read-result
+shared-slice-read-result c = search needs
+
+returns : tie.Need-returns
+returns c = search needs
+
+returns-2 : tie.Need-returns-2
+returns-2 c = sym (List·getD-eq-default (c .before .args .numbers .now) 0 (c .if1 .left))
+
+pub number-at-spec : {M : Type 1} → statement M
+number-at-spec = tie.close (tie.spec mul-result shared-slice-read-result returns returns-2)

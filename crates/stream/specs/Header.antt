@@ -1,0 +1,70 @@
+-- Document 01, "The stream": the header. Its rules are in two parts: what the setting decides, and how the bytes are laid out.
+use Prim.Native.Nat.{ℕ, _+_, _*_, _/_}
+use mathlib.Core.Bool.{Bool, _&&_, not}
+use mathlib.Core.List.{List}
+use lib.Dec.{leb, ltb, eqb}
+use lib.IntN.{ℤ}
+use lib.ListN.{take, drop}
+use Rattle.numbers.specs.Signed.{signedView}
+use Rattle.stream.specs.Bytes.{number}
+use Rattle.stream.specs.Setting.{knownWidth, need, allowedSetting, binFor}
+use Rattle.stream.specs.declared.header.Header.{Header}
+
+-- "All header and table numbers are 32-bit little-endian": the number at the byte place p
+unfoldable pub word : List ℕ → ℕ → ℕ
+word s p = number 256 (take 4 (drop p s))
+
+-- the table "at | number"
+unfoldable pub headerOf : List ℕ → Header
+headerOf s =
+    record {
+      major = word s 0;
+      written = word s 4;
+      needed = word s 8;
+      width = word s 12;
+      mode = word s 16;
+      exponent = word s 20;
+      count = word s 24;
+      chunks = word s 28;
+      table = word s 32;
+      start = word s 36;
+      sides = word s 40;
+      end = word s 44;
+    }
+
+-- "k in two's complement"
+unfoldable pub kOf : Header → ℤ
+kOf h = signedView 32 (h .exponent)
+
+-- the bin of the header's setting
+unfoldable pub binIn : Header → ℕ
+binIn h = binFor (h .width) (h .mode) (kOf h)
+
+-- "chunk count c = n/1024 rounded up"
+unfoldable pub chunksIn : ℕ → ℕ
+chunksIn n = (n + 1023) / 1024
+
+-- "more than 1,048,576 values"
+unfoldable pub tooMany : ℕ → Bool
+tooMany n = ltb 1048576 n
+
+-- ---- refusal 8
+
+-- not "need below 8 or not that of the setting, written below needed"
+unfoldable pub needRight : Header → Bool
+needRight h = leb 8 (h .needed) && eqb (h .needed) (need (h .width) (h .mode)) && leb (h .needed) (h .written)
+
+-- and "width, mode, k"
+unfoldable pub settingRight : Header → Bool
+settingRight h = knownWidth (h .width) && needRight h && allowedSetting (h .width) (h .mode) (kOf h)
+
+-- "n above the limit, c, places, s, end of data before its start or past the bytes": none of these, in a stream of so many bytes
+unfoldable pub layoutRight : ℕ → Header → Bool
+layoutRight size h =
+    not (tooMany (h .count))
+    && eqb (h .chunks) (chunksIn (h .count))
+    && eqb (h .table) 48
+    && eqb (h .start) (48 + 4 * h .chunks)
+    && leb (h .sides) 64
+    && leb (h .start) (h .end)
+    && leb (h .end) size

@@ -1,0 +1,31 @@
+-- For the contracts of the packing functions and the theorems about what they write: what pack accepts, and the room that suffices.
+use mathlib.Core.Path.{_≡_}
+use Prim.Native.Nat.{ℕ, _+_, _*_, _/_, _^_, _≤_}
+use mathlib.Core.Bool.{true}
+use mathlib.Core.List.{List}
+use lib.Dec.{ltb}
+use lib.IntN.{ℤ}
+use lib.ListN.{length}
+use Rattle.stream.specs.Bytes.{Below}
+use Rattle.stream.specs.Setting.{knownLevel, knownWidth, need, allowedSetting, groupSize}
+use Rattle.stream.specs.Chunk.{groupsIn}
+use Rattle.stream.specs.Header.{chunksIn}
+use Rattle.stream.specs.Rows.{Row, row}
+use Rattle.stream.specs.Writing.{endOf}
+
+-- a list of values, W bits wide, at a level and a setting that none of the refusals 1, 2 and 3 is given for
+pub record Packable (W level mode : ℕ) (k : ℤ) (vs : List ℕ) : Type 0 where
+  pub width : knownWidth W ≡ true
+  pub known : knownLevel level ≡ true
+  pub allowed : allowedSetting W mode k ≡ true
+  pub needs : need W mode ≤ level
+  pub few : length vs ≤ 1048576
+  pub patterns : Below (2 ^ W) vs
+
+-- "Packed length is never above 48 + 4c + (n/32 rounded up) + n·W/8."
+unfoldable pub mostBytes : ℕ → ℕ → ℕ → ℕ
+mostBytes W mode n = 48 + 4 * chunksIn n + groupsIn (groupSize mode) n + n * W / 8
+
+-- 4, with the length by its end of data: no level alters it
+unfoldable pub shortRow : ℕ → ℕ → ℤ → List ℕ → ℕ → Row
+shortRow W mode k vs room = row 4 (ltb room (endOf W mode k vs (chunksIn (length vs)))) (endOf W mode k vs (chunksIn (length vs)))

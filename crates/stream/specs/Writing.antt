@@ -1,0 +1,110 @@
+-- Document 01, "The stream", from the writer's side: the bytes of a list of values, W bits wide, at a level and a setting (mode, k); whole,
+-- with side parts behind it, and half written.
+use mathlib.Core.Path.{_≡_}
+use Prim.Native.Nat.{ℕ, suc, _+_, _-_, _*_, _^_, _≤_, _<_}
+use mathlib.Core.Bool.{Bool, true, _&&_}
+use mathlib.Core.List.{List, [], _∷_, _++_}
+use lib.Dec.{leb}
+use lib.IntN.{ℤ}
+use lib.ListN.{length, take, drop, getD, replicate}
+use Rattle.numbers.specs.Signed.{bitsOf}
+use Rattle.stream.specs.Bytes.{digits, Below}
+use Rattle.stream.specs.Setting.{need, binFor, groupSize, codesOf}
+use Rattle.stream.specs.Chunk.{chunkBytes}
+use Rattle.stream.specs.Header.{chunksIn}
+use Rattle.stream.specs.Stream.{joined}
+
+-- "All header and table numbers are 32-bit little-endian"
+unfoldable pub spell : List ℕ → List ℕ
+spell [] = []
+spell (n ∷ ns) = digits 256 4 n ++ spell ns
+
+-- "A chunk .. holds 1,024 values, the last one the remainder": the values of the chunk j
+unfoldable pub piece : List ℕ → ℕ → List ℕ
+piece vs j = take 1024 (drop (1024 * j) vs)
+
+-- the bytes of the chunk j
+unfoldable pub pieceBytes : ℕ → ℕ → ℤ → List ℕ → ℕ → List ℕ
+pieceBytes W mode k vs j = chunkBytes (groupSize mode) (codesOf W mode (binFor W mode k) (piece vs j))
+
+-- the data of the first j chunks
+unfoldable pub dataOf : ℕ → ℕ → ℤ → List ℕ → ℕ → List ℕ
+dataOf W mode k vs = joined (pieceBytes W mode k vs)
+
+-- "each chunk's start, counted from the data", of the first j chunks
+unfoldable pub startsOf : ℕ → ℕ → ℤ → List ℕ → ℕ → List ℕ
+startsOf W mode k vs = joined (λ j. length (dataOf W mode k vs j) ∷ [])
+
+-- The table "at | number", for n values, so many side parts, and the end of data. "Pack at level L writes L as written minor and the exact
+-- need as needed minor."
+unfoldable pub headerNumbers : ℕ → ℕ → ℕ → ℤ → ℕ → ℕ → ℕ → List ℕ
+headerNumbers W level mode k n sides end =
+    1 ∷ level ∷ need W mode
+    ∷ W ∷ mode ∷ bitsOf 32 k
+    ∷ n ∷ chunksIn n
+    ∷ 48 ∷ (48 + 4 * chunksIn n)
+    ∷ sides ∷ end
+    ∷ []
+
+-- "data at 48 + 4c", and behind it the data of the first j chunks
+unfoldable pub endOf : ℕ → ℕ → ℤ → List ℕ → ℕ → ℕ
+endOf W mode k vs j = 48 + 4 * chunksIn (length vs) + length (dataOf W mode k vs j)
+
+-- header, chunk table and data of a list, with a number of side parts in the header
+unfoldable pub body : ℕ → ℕ → ℕ → ℤ → List ℕ → ℕ → List ℕ
+body W level mode k vs sides =
+    spell
+    (headerNumbers W level mode k (length vs) sides (endOf W mode k vs (chunksIn (length vs)))
+    ++ startsOf W mode k vs (chunksIn (length vs)))
+    ++ dataOf W mode k vs (chunksIn (length vs))
+
+-- The packed stream of a list. "Pack writes none", of side parts.
+unfoldable pub stream : ℕ → ℕ → ℕ → ℤ → List ℕ → List ℕ
+stream W level mode k vs = body W level mode k vs 0
+
+-- The stream of a list whose first j chunks are written, over what lay in the output: header and table stand, a start that is not known
+-- yet is 0, and so is the end of data.
+unfoldable pub unfinished : ℕ → ℕ → ℕ → ℤ → List ℕ → ℕ → List ℕ → List ℕ
+unfinished W level mode k vs j out =
+    spell
+    (headerNumbers W level mode k (length vs) 0 0
+    ++ startsOf W mode k vs j
+    ++ replicate (chunksIn (length vs) - j) 0)
+    ++ dataOf W mode k vs j
+    ++ drop (endOf W mode k vs j) out
+
+-- ---- side parts
+
+pub record Side : Type 0 where
+  pub id : ℕ
+  pub bytes : List ℕ
+
+-- "s entries of id, place, length", for parts of which the first lies at the place
+unfoldable pub entries : ℕ → List Side → List ℕ
+entries place [] = []
+entries place (p ∷ ps) = p .id ∷ place ∷ length (p .bytes) ∷ entries (place + length (p .bytes)) ps
+
+-- "each next right after the one before"
+unfoldable pub parts : List Side → List ℕ
+parts [] = []
+parts (p ∷ ps) = p .bytes ++ parts ps
+
+-- the stream of a list with side parts behind its data
+unfoldable pub withSides : ℕ → ℕ → ℕ → ℤ → List ℕ → List Side → List ℕ
+withSides W level mode k vs ps =
+    body W level mode k vs (length ps)
+    ++ spell (entries (endOf W mode k vs (chunksIn (length vs)) + 12 * length ps) ps)
+    ++ parts ps
+
+-- "Ids increase strictly", from a floor on
+unfoldable pub increasing : ℕ → List Side → Bool
+increasing floor [] = true
+increasing floor (p ∷ ps) = leb floor (p .id) && increasing (suc (p .id)) ps
+
+-- Side parts that a stream may have: "at most 64", ids that increase and are numbers of a table, and bytes. That the places are numbers of
+-- a table too is said of the stream, whose length is to stay below 2 ^ 32.
+pub record WellFormedSides (ps : List Side) : Type 0 where
+  pub few : length ps ≤ 64
+  pub ordered : increasing 0 ps ≡ true
+  pub ids : (i : ℕ) → getD ps i (record { id = 0; bytes = [] }) .id < 2 ^ 32
+  pub are-bytes : Below 256 (parts ps)

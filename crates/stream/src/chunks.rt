@@ -1,0 +1,109 @@
+// The chunks of a stream whose header and chunk table are right: where each lies, and whether it keeps the rules of refusal 10.
+ghost use mathlib.Core.Path.{_≡_};
+ghost use mathlib.Core.Bool.{true};
+ghost use mathlib.Core.List.{_∷_, []};
+ghost use Prim.Native.Nat.{_≤_, _<_};
+ghost use lib.ListN.{length};
+ghost use Rattle.stream.specs.Header.{binIn};
+ghost use Rattle.stream.specs.Relied.{Words, Settled, Layout, Opened};
+ghost use Rattle.stream.specs.Tables.{chunkTableRight};
+ghost use Rattle.stream.specs.Stream.{countOf, chunkOf};
+ghost use Rattle.stream.specs.Rows.{first};
+ghost use Rattle.stream.specs.Operations.{chunkRow, chunkRows, contentRows, ownRows};
+use crate::answers::Step;
+use crate::chunk;
+use crate::chunk::ChunkAnswer;
+use crate::header;
+use crate::header::Header;
+use crate::setting;
+use crate::tables;
+
+// The bytes of a chunk.
+pub(crate) fn chunk_at(h: Header, bytes: &[u8], j: usize) -> &[u8]
+    requires { ⌜ Layout (length (now bytes)) h × (chunkTableRight h (now bytes) ≡ true) × (j < h .chunks) ⌝ }
+    ensures { λ r. ⌜ now r ≡ chunkOf h (now (bytes .entry)) j ⌝ }
+{
+    let from = h.start + tables::start_at(h, bytes, j);
+    let to = h.start + tables::start_at(h, bytes, j + 1);
+    &bytes[from..to]
+}
+
+// How many values a chunk has: 1,024, or what is left for the last one.
+pub(crate) fn count_at(h: Header, j: usize) -> usize
+    requires { ⌜ j ≤ 1024 ⌝ }
+    ensures { λ r. ⌜ (r ≡ countOf h j) × (r ≤ 1024) ⌝ }
+{
+    let count = h.count;
+    let before = 1024 * j;
+    if count < before {
+        return 0;
+    }
+    if count - before < 1024 {
+        return count - before;
+    }
+    1024
+}
+
+// The bin of the header's setting.
+pub(crate) fn bin_in(h: Header) -> u32
+    requires { ⌜ Words h × Settled h ⌝ }
+    ensures { λ r. ⌜ r ≡ binIn h ⌝ }
+{
+    setting::bin_for(h.width, h.mode, header::exponent_of(h))
+}
+
+// 10, for one chunk. The detail is the chunk; its first bad group is known too.
+pub(crate) fn chunk_step(h: Header, bytes: &[u8], j: usize) -> Step
+    requires { ⌜ Opened (length (now bytes)) h × (chunkTableRight h (now bytes) ≡ true) × (j < h .chunks) ⌝ }
+    ensures { λ r. ⌜ r ≡ first (chunkRow h (now (bytes .entry)) j ∷ []) ⌝ }
+{
+    let width = h.width;
+    let limit = setting::limit_of(width, h.mode, bin_in(h));
+    let part = chunk_at(h, bytes, j);
+    let found = chunk::checked(part, count_at(h, j), width as u32, limit);
+    match found {
+        ChunkAnswer::Good => Step::Pass,
+        ChunkAnswer::Bad(_) => Step::Stop(10, j),
+    }
+}
+
+// 10, for every chunk in turn.
+fn chunk_steps(h: Header, bytes: &[u8]) -> Step
+    requires { ⌜ Opened (length (now bytes)) h × (chunkTableRight h (now bytes) ≡ true) ⌝ }
+    ensures { λ r. ⌜ r ≡ first (chunkRows h (now (bytes .entry))) ⌝ }
+{
+    let mut j: usize = 0;
+    while j < h.chunks {
+        let step = chunk_step(h, bytes, j);
+        match step {
+            Step::Pass => {}
+            Step::Stop(number, detail) => {
+                return Step::Stop(number, detail);
+            }
+        }
+        j += 1;
+    }
+    Step::Pass
+}
+
+// 9 10: both tables, then every chunk.
+pub(crate) fn content_step(h: Header, bytes: &[u8]) -> Step
+    requires { ⌜ Opened (length (now bytes)) h ⌝ }
+    ensures { λ r. ⌜ r ≡ first (contentRows h (now (bytes .entry))) ⌝ }
+{
+    if tables::chunk_table_right(h, bytes) & tables::side_table_right(h, bytes) {
+        return chunk_steps(h, bytes);
+    }
+    Step::Stop(9, 0)
+}
+
+// 9 10 for probe: both tables, then the chunk of one value.
+pub(crate) fn own_step(h: Header, bytes: &[u8], index: usize) -> Step
+    requires { ⌜ Opened (length (now bytes)) h × (index < h .count) ⌝ }
+    ensures { λ r. ⌜ r ≡ first (ownRows h (now (bytes .entry)) index) ⌝ }
+{
+    if tables::chunk_table_right(h, bytes) & tables::side_table_right(h, bytes) {
+        return chunk_step(h, bytes, index / 1024);
+    }
+    Step::Stop(9, 0)
+}
