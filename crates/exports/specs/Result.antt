@@ -1,6 +1,14 @@
 -- An exported operation returns one number of 64 bits: "refusal number · 2^32 + detail, or 0 · 2^32 + answer (k in two's complement of 32
 -- bits)". What is lent for a second answer is written on success alone.
 use Prim.Native.Nat.{ℕ, _+_, _*_, _%_, _^_}
+use mathlib.Core.Bool.{cond}
+use lib.Ieee.{binary32, binary64, toBits}
+use Rattle.stream.specs.Rows.{answerNumber, answerDetail}
+use Rattle.stream.specs.declared.answers.Answer.{Answer}
+use Rattle.stream.specs.declared.answers.Probe32.{Probe32}
+use Rattle.stream.specs.declared.answers.Probe32.the-variants as p32
+use Rattle.stream.specs.declared.answers.Probe64.{Probe64}
+use Rattle.stream.specs.declared.answers.Probe64.the-variants as p64
 use Rattle.numbers.specs.Signed.{bitsOf}
 use Rattle.numbers.specs.Answers.{codeNumber, patternNumber}
 use Rattle.numbers.specs.Bound.{boundNumber, boundDetail}
@@ -10,9 +18,42 @@ use Rattle.numbers.specs.declared.tolerance.CodeAnswer.the-variants as code
 use Rattle.numbers.specs.declared.tolerance.PatternAnswer.{PatternAnswer}
 use Rattle.numbers.specs.declared.tolerance.PatternAnswer.the-variants as pattern
 
--- 32 bits are enough for every detail and answer: see Fitting in proofs/
+-- 32 bits each. That every number, detail and answer has no more is a theorem (proofs/Theorems.antt).
 unfoldable pub result : ℕ → ℕ → ℕ
-result number detail = number * 2 ^ 32 + detail % 2 ^ 32
+result number detail = number % 2 ^ 32 * 2 ^ 32 + detail % 2 ^ 32
+
+-- ---- pack, length, unpack and check
+
+unfoldable pub answerResult : Answer → ℕ
+answerResult a = result (answerNumber a) (answerDetail a)
+
+-- ---- probe: the answer is 0 at a finite number, 1 at an infinity, 2 at a not-a-number; the pattern is lent
+
+unfoldable pub probeResult32 : Probe32 → ℕ
+probeResult32 (p32.Finite x) = result 0 0
+probeResult32 (p32.Infinity negative) = result 0 1
+probeResult32 (p32.NotANumber p) = result 0 2
+probeResult32 (p32.Refused number detail) = result number detail
+
+unfoldable pub probeOut32 : Probe32 → ℕ → ℕ
+probeOut32 (p32.Finite x) old = toBits binary32 x
+probeOut32 (p32.Infinity negative) old = cond negative 0xFF800000 0x7F800000
+probeOut32 (p32.NotANumber p) old = p
+probeOut32 (p32.Refused number detail) old = old
+
+unfoldable pub probeResult64 : Probe64 → ℕ
+probeResult64 (p64.Finite x) = result 0 0
+probeResult64 (p64.Infinity negative) = result 0 1
+probeResult64 (p64.NotANumber p) = result 0 2
+probeResult64 (p64.Refused number detail) = result number detail
+
+unfoldable pub probeOut64 : Probe64 → ℕ → ℕ
+probeOut64 (p64.Finite x) old = toBits binary64 x
+probeOut64 (p64.Infinity negative) old = cond negative 0xFFF0000000000000 0x7FF0000000000000
+probeOut64 (p64.NotANumber p) old = p
+probeOut64 (p64.Refused number detail) old = old
+
+-- ---- the number rules
 
 unfoldable pub boundResult : BoundAnswer → ℕ
 boundResult a = result (boundNumber a) (bitsOf 32 (boundDetail a))

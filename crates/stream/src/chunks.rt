@@ -91,10 +91,11 @@ pub(crate) fn content_step(h: Header, bytes: &[u8]) -> Step
     requires { ⌜ Opened (length (now bytes)) h ⌝ }
     ensures { λ r. ⌜ r ≡ first (contentRows h (now (bytes .entry))) ⌝ }
 {
-    if tables::chunk_table_right(h, bytes) & tables::side_table_right(h, bytes) {
-        return chunk_steps(h, bytes);
+    let step = tables::table_step(h, bytes);
+    match step {
+        Step::Pass => chunk_steps(h, bytes),
+        Step::Stop(number, detail) => Step::Stop(number, detail),
     }
-    Step::Stop(9, 0)
 }
 
 // 9 10 for probe: both tables, then the chunk of one value.
@@ -102,8 +103,9 @@ pub(crate) fn own_step(h: Header, bytes: &[u8], index: usize) -> Step
     requires { ⌜ Opened (length (now bytes)) h × (index < h .count) ⌝ }
     ensures { λ r. ⌜ r ≡ first (ownRows h (now (bytes .entry)) index) ⌝ }
 {
-    if tables::chunk_table_right(h, bytes) & tables::side_table_right(h, bytes) {
-        return chunk_step(h, bytes, index / 1024);
+    let step = tables::table_step(h, bytes);
+    match step {
+        Step::Pass => chunk_step(h, bytes, index / 1024),
+        Step::Stop(number, detail) => Step::Stop(number, detail),
     }
-    Step::Stop(9, 0)
 }

@@ -2,7 +2,10 @@
 ghost use mathlib.Core.Path.{_≡_};
 ghost use lib.ListN.{length};
 ghost use Rattle.stream.specs.Relied.{Layout};
+ghost use Rattle.stream.specs.Rows.{first};
+ghost use Rattle.stream.specs.Operations.{tableRows};
 ghost use Rattle.stream.specs.Tables.{startAt, chunkTableRight, sideTableRight};
+use crate::answers::Step;
 use crate::header;
 use crate::header::Header;
 
@@ -17,7 +20,7 @@ pub(crate) fn start_at(h: Header, bytes: &[u8], j: usize) -> usize
     h.end - h.start
 }
 
-pub(crate) fn chunk_table_right(h: Header, bytes: &[u8]) -> bool
+fn chunk_table_right(h: Header, bytes: &[u8]) -> bool
     requires { ⌜ Layout (length (now bytes)) h ⌝ }
     ensures { λ r. ⌜ r ≡ chunkTableRight h (now (bytes .entry)) ⌝ }
 {
@@ -38,7 +41,7 @@ pub(crate) fn chunk_table_right(h: Header, bytes: &[u8]) -> bool
 }
 
 // `floor` is the least id that the next entry may have, and `place` where its part has to start.
-pub(crate) fn side_table_right(h: Header, bytes: &[u8]) -> bool
+fn side_table_right(h: Header, bytes: &[u8]) -> bool
     requires { ⌜ Layout (length (now bytes)) h ⌝ }
     ensures { λ r. ⌜ r ≡ sideTableRight h (now (bytes .entry)) ⌝ }
 {
@@ -62,4 +65,15 @@ pub(crate) fn side_table_right(h: Header, bytes: &[u8]) -> bool
         i += 1;
     }
     place == bytes.len()
+}
+
+// 9
+pub(crate) fn table_step(h: Header, bytes: &[u8]) -> Step
+    requires { ⌜ Layout (length (now bytes)) h ⌝ }
+    ensures { λ r. ⌜ r ≡ first (tableRows h (now (bytes .entry))) ⌝ }
+{
+    if chunk_table_right(h, bytes) & side_table_right(h, bytes) {
+        return Step::Pass;
+    }
+    Step::Stop(9, 0)
 }

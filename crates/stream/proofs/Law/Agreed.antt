@@ -11,7 +11,7 @@ use Rattle.stream.specs.Setting.{knownLevel}
 use Rattle.stream.specs.Header.{headerOf}
 use Rattle.stream.specs.Stream.{values, valueAt}
 use Rattle.stream.specs.Rows.{Row, first, answer}
-use Rattle.stream.specs.Operations.{openingRows, chunkRow, contentRows, widthRow, roomRow, indexRow, ownRows, checkRows, unpackRows, probeRows}
+use Rattle.stream.specs.Operations.{openingRows, tableRows, chunkRow, contentRows, widthRow, roomRow, indexRow, ownRows, checkRows, unpackRows, probeRows}
 use Rattle.stream.specs.declared.answers.Answer.the-variants.{Done, Refused}
 use Rattle.stream.specs.declared.answers.Step.{Step}
 use Rattle.stream.specs.declared.answers.Step.the-variants.{Pass, Stop}
@@ -63,7 +63,7 @@ module _ (W level : ℕ) (s : List ℕ) (room : ℕ) (e : first (unpackRows W le
         let j = i / 1024 in
         let l = laid-out (length s) h (u .opening .layout) in
         sym (probe-own level s (opening-passes level s (u .opening)) h refl W i (u .width) below)
-        ∙ tables-pass h s true true (sym (u .tables .chunks)) (sym (u .tables .sides)) (chunkRow h s j ∷ []) refl
+        ∙ opened (tableRows h s) (chunkRow h s j ∷ []) (sym (tables-pass h s true true (sym (u .tables .chunks)) (sym (u .tables .sides)) refl))
         ∙ sym (good-row h s j (all-good h s (u .chunks) j (omega arith)))
 
     pub probe-value : getD (values s) i 0 ≡ valueAt s i

@@ -9,7 +9,7 @@ use Rattle.stream.specs.Setting.{groupSize, limitOf, patternsOf}
 use Rattle.stream.specs.Chunk.{chunkAnswer, chunkCodes}
 use Rattle.stream.specs.Header.{binIn}
 use Rattle.stream.specs.Stream.{countOf, chunkOf, chunkState, chunkValues}
-use Rattle.stream.specs.Rows.{Row, first}
+use Rattle.stream.specs.Rows.{first}
 use Rattle.stream.specs.Tables.{chunkTableRight, sideTableRight}
 use Rattle.stream.specs.Operations.{tableRows, faultDetail, faultRow, chunkRow, chunkRows}
 use Rattle.stream.specs.declared.answers.Step.the-variants.{Pass, Stop}
@@ -63,12 +63,12 @@ pub all-good : (h : Header) (s : List ℕ) → first (chunkRows h s) ≡ Pass �
 unfolding chunkRows
 all-good h s e j l = passed-good h s j (rows-at (chunkRow h s) (h .chunks) 0 j e (omega arith) (omega arith))
 
--- the tables' row, from the two tests, and what stands behind it
-module _ (h : Header) (s : List ℕ) (a b : Bool) (chunks : a ≡ chunkTableRight h s) (sides : b ≡ sideTableRight h s) (rest : List Row) where
-  pub tables-pass : a && b ≡ true → first (tableRows h s ++ rest) ≡ first rest
+-- the tables' row, from the two tests
+module _ (h : Header) (s : List ℕ) (a b : Bool) (chunks : a ≡ chunkTableRight h s) (sides : b ≡ sideTableRight h s) where
+  pub tables-pass : a && b ≡ true → Pass ≡ first (tableRows h s)
   unfolding tableRows first
   tables-pass e = rw (← chunks, ← sides, e)
 
-  pub tables-stop : a && b ≡ false → first (tableRows h s ++ rest) ≡ Stop 9 0
+  pub tables-stop : a && b ≡ false → Stop 9 0 ≡ first (tableRows h s)
   unfolding tableRows first
   tables-stop e = rw (← chunks, ← sides, e)
