@@ -41,7 +41,7 @@ pub mod Refused
 pub mod Agreed
 pub mod Elsewhere
 --   Joining, Spelling, Widths, Pieces, Packing, Answering: what pack writes, and how far it has come
---   Exponents, Heading, Tabled: what is written, read back
+--   Exponents, Heading, Tabled, Sided, Returning, Admitted: what is written, read back
 pub mod Joining
 pub mod Spelling
 pub mod Widths
@@ -51,3 +51,6 @@ pub mod Answering
 pub mod Exponents
 pub mod Heading
 pub mod Tabled
+pub mod Sided
+pub mod Returning
+pub mod Admitted

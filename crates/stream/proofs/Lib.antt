@@ -4,3 +4,4 @@ pub mod Theorems
 pub mod Known
 pub mod KnownStream
 pub mod Demands
+pub mod Written

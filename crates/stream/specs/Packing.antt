@@ -1,6 +1,6 @@
 -- For the contracts of the packing functions and the theorems about what they write: what pack accepts, and the room that suffices.
 use mathlib.Core.Path.{_≡_}
-use Prim.Native.Nat.{ℕ, _+_, _*_, _/_, _^_, _≤_}
+use Prim.Native.Nat.{ℕ, _+_, _*_, _/_, _^_, _≤_, _<_}
 use mathlib.Core.Bool.{true}
 use mathlib.Core.List.{List}
 use lib.Dec.{ltb}
@@ -11,7 +11,7 @@ use Rattle.stream.specs.Setting.{knownLevel, knownWidth, need, allowedSe
 use Rattle.stream.specs.Chunk.{groupsIn}
 use Rattle.stream.specs.Header.{chunksIn}
 use Rattle.stream.specs.Rows.{Row, row}
-use Rattle.stream.specs.Writing.{endOf}
+use Rattle.stream.specs.Writing.{endOf, Side, withSides, WellFormedSides}
 
 -- a list of values, W bits wide, at a level and a setting that none of the refusals 1, 2 and 3 is given for
 pub record Packable (W level mode : ℕ) (k : ℤ) (vs : List ℕ) : Type 0 where
@@ -21,6 +21,14 @@ pub record Packable (W level mode : ℕ) (k : ℤ) (vs : List ℕ) : Type 0 wher
   pub needs : need W mode ≤ level
   pub few : length vs ≤ 1048576
   pub patterns : Below (2 ^ W) vs
+
+-- The bytes s of such a list as a reader may meet them: as pack wrote them, or with well-formed side parts added behind the data. All
+-- their places are numbers of 32 bits.
+pub record Sent (W level mode : ℕ) (k : ℤ) (vs s : List ℕ) : Type 0 where
+  pub sides : List Side
+  pub well-formed : WellFormedSides sides
+  pub bytes : s ≡ withSides W level mode k vs sides
+  pub short : length s < 2 ^ 32
 
 -- "Packed length is never above 48 + 4c + (n/32 rounded up) + n·W/8."
 unfoldable pub mostBytes : ℕ → ℕ → ℕ → ℕ

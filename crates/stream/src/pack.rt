@@ -122,6 +122,15 @@ fn piece32(values: &[u32], j: usize) -> &[u32]
     &values[from..to]
 }
 
+fn piece64(values: &[u64], j: usize) -> &[u64]
+    requires { ⌜ (length (now values) ≤ 1048576) × (j < chunksIn (length (now values))) ⌝ }
+    ensures { λ r. ⌜ now r ≡ piece (now (values .entry)) j ⌝ }
+{
+    let from = 1024 * j;
+    let to = piece_end(from, values.len());
+    &values[from..to]
+}
+
 // The measuring pass: how long the stream is.
 fn measured32(mode: u32, k: i32, values: &[u32]) -> usize
     requires { ⌜ (length (now values) ≤ 1048576) × (allowedSetting 32 mode k ≡ true) ⌝ }
@@ -133,6 +142,21 @@ fn measured32(mode: u32, k: i32, values: &[u32]) -> usize
     let mut j: usize = 0;
     while j < chunks {
         end += chunk::measured32(piece32(values, j), mode, bin);
+        j += 1;
+    }
+    end
+}
+
+fn measured64(mode: u32, k: i32, values: &[u64]) -> usize
+    requires { ⌜ (length (now values) ≤ 1048576) × (allowedSetting 64 mode k ≡ true) ⌝ }
+    ensures { λ r. ⌜ r ≡ endOf 64 mode k (now (values .entry)) (chunksIn (length (now (values .entry)))) ⌝ }
+{
+    let bin = setting::bin_for(64, mode as usize, k);
+    let chunks = chunks_of(values.len());
+    let mut end = 48 + 4 * chunks;
+    let mut j: usize = 0;
+    while j < chunks {
+        end += chunk::measured64(piece64(values, j), mode, bin);
         j += 1;
     }
     end
@@ -153,6 +177,20 @@ fn room_step32(mode: u32, k: i32, values: &[u32], room: usize) -> Step
     Step::Pass
 }
 
+fn room_step64(mode: u32, k: i32, values: &[u64], room: usize) -> Step
+    requires { ⌜ (length (now values) ≤ 1048576) × (allowedSetting 64 mode k ≡ true) ⌝ }
+    ensures { λ r. ⌜ r ≡ first (shortRow 64 mode k (now (values .entry)) room ∷ []) ⌝ }
+{
+    if most(8, values.len()) <= room {
+        return Step::Pass;
+    }
+    let needed = measured64(mode, k, values);
+    if room < needed {
+        return Step::Stop(4, needed);
+    }
+    Step::Pass
+}
+
 // Chunk j, whose start is known: the start into the table and the bytes behind the chunks before it. The next chunk's start is returned.
 fn put_chunk32(mode: u32, k: i32, values: &[u32], j: usize, start: usize, out: &mut [u8]) -> usize
     requires { ⌜ (length (now values) ≤ 1048576) × (allowedSetting 32 mode k ≡ true) × (j < chunksIn (length (now values))) ⌝ }
@@ -165,6 +203,19 @@ fn put_chunk32(mode: u32, k: i32, values: &[u32], j: usize, start: usize, out: &
     let at = 48 + 4 * chunks_of(values.len()) + start;
     put_word(out, 48 + 4 * j, start as u32);
     start + chunk::written32(piece32(values, j), mode, bin, &mut out[at..])
+}
+
+fn put_chunk64(mode: u32, k: i32, values: &[u64], j: usize, start: usize, out: &mut [u8]) -> usize
+    requires { ⌜ (length (now values) ≤ 1048576) × (allowedSetting 64 mode k ≡ true) × (j < chunksIn (length (now values))) ⌝ }
+    requires { ⌜ (start ≡ length (dataOf 64 mode k (now values) j)) × (endOf 64 mode k (now values) (chunksIn (length (now values))) ≤ length (now out)) ⌝ }
+    ensures { λ r. ⌜ r ≡ length (dataOf 64 mode k (now (values .entry)) (j + 1)) ⌝ }
+    ensures { λ _. ⌜ ((level : ℕ) (base : List ℕ) → now (out .entry) ≡ unfinished 64 level mode k (now (values .entry)) j base
+        → now (out .exit) ≡ unfinished 64 level mode k (now (values .entry)) (j + 1) base) ⌝ }
+{
+    let bin = setting::bin_for(64, mode as usize, k);
+    let at = 48 + 4 * chunks_of(values.len()) + start;
+    put_word(out, 48 + 4 * j, start as u32);
+    start + chunk::written64(piece64(values, j), mode, bin, &mut out[at..])
 }
 
 // The whole stream, into an output that is long enough. The end of data is known last.
@@ -187,84 +238,6 @@ fn written32(level: u32, mode: u32, k: i32, values: &[u32], out: &mut [u8]) -> u
     end
 }
 
-// How many bytes pack would use.
-pub fn length32(level: u32, mode: u32, k: i32, values: &[u32]) -> Answer
-    ensures { λ r. ⌜ r ≡ lengthAnswer 32 level mode k (now (values .entry)) ⌝ }
-{
-    let refused = length_step(32, level as usize, mode as usize, k, values.len());
-    if let Step::Stop(number, detail) = refused {
-        return Answer::Refused(number, detail);
-    }
-    Answer::Done(measured32(mode, k, values))
-}
-
-// The packed stream at the front of `out`; on a refusal the output is as it was.
-pub fn pack32(level: u32, mode: u32, k: i32, values: &[u32], out: &mut [u8]) -> Answer
-    ensures { λ r. ⌜ r ≡ packAnswer 32 level mode k (now (values .entry)) (length (now (out .entry))) ⌝ }
-    ensures { λ _. ⌜ now (out .exit) ≡ packOut 32 level mode k (now (values .entry)) (now (out .entry)) ⌝ }
-{
-    let refused = length_step(32, level as usize, mode as usize, k, values.len());
-    if let Step::Stop(number, detail) = refused {
-        return Answer::Refused(number, detail);
-    }
-    let short = room_step32(mode, k, values, out.len());
-    if let Step::Stop(number, detail) = short {
-        return Answer::Refused(number, detail);
-    }
-    Answer::Done(written32(level, mode, k, values, out))
-}
-
-fn piece64(values: &[u64], j: usize) -> &[u64]
-    requires { ⌜ (length (now values) ≤ 1048576) × (j < chunksIn (length (now values))) ⌝ }
-    ensures { λ r. ⌜ now r ≡ piece (now (values .entry)) j ⌝ }
-{
-    let from = 1024 * j;
-    let to = piece_end(from, values.len());
-    &values[from..to]
-}
-
-fn measured64(mode: u32, k: i32, values: &[u64]) -> usize
-    requires { ⌜ (length (now values) ≤ 1048576) × (allowedSetting 64 mode k ≡ true) ⌝ }
-    ensures { λ r. ⌜ r ≡ endOf 64 mode k (now (values .entry)) (chunksIn (length (now (values .entry)))) ⌝ }
-{
-    let bin = setting::bin_for(64, mode as usize, k);
-    let chunks = chunks_of(values.len());
-    let mut end = 48 + 4 * chunks;
-    let mut j: usize = 0;
-    while j < chunks {
-        end += chunk::measured64(piece64(values, j), mode, bin);
-        j += 1;
-    }
-    end
-}
-
-fn room_step64(mode: u32, k: i32, values: &[u64], room: usize) -> Step
-    requires { ⌜ (length (now values) ≤ 1048576) × (allowedSetting 64 mode k ≡ true) ⌝ }
-    ensures { λ r. ⌜ r ≡ first (shortRow 64 mode k (now (values .entry)) room ∷ []) ⌝ }
-{
-    if most(8, values.len()) <= room {
-        return Step::Pass;
-    }
-    let needed = measured64(mode, k, values);
-    if room < needed {
-        return Step::Stop(4, needed);
-    }
-    Step::Pass
-}
-
-fn put_chunk64(mode: u32, k: i32, values: &[u64], j: usize, start: usize, out: &mut [u8]) -> usize
-    requires { ⌜ (length (now values) ≤ 1048576) × (allowedSetting 64 mode k ≡ true) × (j < chunksIn (length (now values))) ⌝ }
-    requires { ⌜ (start ≡ length (dataOf 64 mode k (now values) j)) × (endOf 64 mode k (now values) (chunksIn (length (now values))) ≤ length (now out)) ⌝ }
-    ensures { λ r. ⌜ r ≡ length (dataOf 64 mode k (now (values .entry)) (j + 1)) ⌝ }
-    ensures { λ _. ⌜ ((level : ℕ) (base : List ℕ) → now (out .entry) ≡ unfinished 64 level mode k (now (values .entry)) j base
-        → now (out .exit) ≡ unfinished 64 level mode k (now (values .entry)) (j + 1) base) ⌝ }
-{
-    let bin = setting::bin_for(64, mode as usize, k);
-    let at = 48 + 4 * chunks_of(values.len()) + start;
-    put_word(out, 48 + 4 * j, start as u32);
-    start + chunk::written64(piece64(values, j), mode, bin, &mut out[at..])
-}
-
 fn written64(level: u32, mode: u32, k: i32, values: &[u64], out: &mut [u8]) -> usize
     requires { ⌜ (length (now values) ≤ 1048576) × (allowedSetting 64 mode k ≡ true) ⌝ }
     requires { ⌜ endOf 64 mode k (now values) (chunksIn (length (now values))) ≤ length (now out) ⌝ }
@@ -284,6 +257,17 @@ fn written64(level: u32, mode: u32, k: i32, values: &[u64], out: &mut [u8]) -> u
     end
 }
 
+// How many bytes pack would use.
+pub fn length32(level: u32, mode: u32, k: i32, values: &[u32]) -> Answer
+    ensures { λ r. ⌜ r ≡ lengthAnswer 32 level mode k (now (values .entry)) ⌝ }
+{
+    let refused = length_step(32, level as usize, mode as usize, k, values.len());
+    if let Step::Stop(number, detail) = refused {
+        return Answer::Refused(number, detail);
+    }
+    Answer::Done(measured32(mode, k, values))
+}
+
 pub fn length64(level: u32, mode: u32, k: i32, values: &[u64]) -> Answer
     ensures { λ r. ⌜ r ≡ lengthAnswer 64 level mode k (now (values .entry)) ⌝ }
 {
@@ -292,6 +276,22 @@ pub fn length64(level: u32, mode: u32, k: i32, values: &[u64]) -> Answer
         return Answer::Refused(number, detail);
     }
     Answer::Done(measured64(mode, k, values))
+}
+
+// The packed stream at the front of `out`; on a refusal the output is as it was.
+pub fn pack32(level: u32, mode: u32, k: i32, values: &[u32], out: &mut [u8]) -> Answer
+    ensures { λ r. ⌜ r ≡ packAnswer 32 level mode k (now (values .entry)) (length (now (out .entry))) ⌝ }
+    ensures { λ _. ⌜ now (out .exit) ≡ packOut 32 level mode k (now (values .entry)) (now (out .entry)) ⌝ }
+{
+    let refused = length_step(32, level as usize, mode as usize, k, values.len());
+    if let Step::Stop(number, detail) = refused {
+        return Answer::Refused(number, detail);
+    }
+    let short = room_step32(mode, k, values, out.len());
+    if let Step::Stop(number, detail) = short {
+        return Answer::Refused(number, detail);
+    }
+    Answer::Done(written32(level, mode, k, values, out))
 }
 
 pub fn pack64(level: u32, mode: u32, k: i32, values: &[u64], out: &mut [u8]) -> Answer

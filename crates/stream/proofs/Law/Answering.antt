@@ -1,6 +1,6 @@
 -- What length and pack answer, from what their steps find. Over the width.
-use mathlib.Core.Path.{_≡_, refl, sym, ap, ap₂, _∙_}
-use mathlib.Core.Bool.{true, false, _||_, not}
+use mathlib.Core.Path.{_≡_, sym, ap, _∙_}
+use mathlib.Core.Bool.{true, _||_, not}
 use mathlib.Core.List.{List, [], _∷_, _++_}
 use Prim.Native.Nat.{ℕ, _+_, _*_, _≤_, _<_}
 use native.Mathlib.Omega.{arith}
@@ -10,9 +10,9 @@ use lib.IntN.{ℤ}
 use lib.ListN.{length, drop, length-append}
 use Rattle.stream.specs.Setting.{knownLevel, need, allowedSetting}
 use Rattle.stream.specs.Header.{chunksIn, tooMany}
-use Rattle.stream.specs.Rows.{Row, row, first, answer, after}
+use Rattle.stream.specs.Rows.{row, first, answer, after}
 use Rattle.stream.specs.Writing.{spell, dataOf, startsOf, headerNumbers, endOf, body, stream}
-use Rattle.stream.specs.Packing.{shortRow}
+use Rattle.stream.specs.Packing.{Packable, shortRow}
 use Rattle.stream.specs.Operations.{lengthRows, lengthAnswer, packRows, packAnswer, packOut}
 use Rattle.stream.specs.declared.answers.Answer.the-variants.{Done, Refused}
 use Rattle.stream.specs.declared.answers.Step.the-variants.{Pass, Stop}
@@ -43,6 +43,10 @@ length-passed W level mode k n e =
       needs = ltb-false level (need W mode) (both .1);
       few = ltb-false 1048576 n (not-given 3 0 (ltb 1048576 n) (two .1));
     }
+
+pub rows-pass : (W level mode : ℕ) (k : ℤ) (vs : List ℕ) → Packable W level mode k vs → first (lengthRows W level mode k (length vs)) ≡ Pass
+unfolding lengthRows tooMany first
+rows-pass W level mode k vs p = rw (p .known, p .allowed, le-ltb level (need W mode) (p .needs), le-ltb 1048576 (length vs) (p .few))
 
 -- ---- row 4
 

@@ -20,7 +20,7 @@ everywhere P [] z h i = z
 everywhere P (x ∷ xs) z h zero = h 0 (zero-lt-suc (length xs))
 everywhere P (x ∷ xs) z h (suc i) = everywhere P xs z (λ k l. h (suc k) (suc-le-suc l)) i
 
-below-cons : (b x : ℕ) (xs : List ℕ) → x < b → Below b xs → Below b (x ∷ xs)
+pub below-cons : (b x : ℕ) (xs : List ℕ) → x < b → Below b xs → Below b (x ∷ xs)
 below-cons b x xs h t zero = h
 below-cons b x xs h t (suc i) = t i
 

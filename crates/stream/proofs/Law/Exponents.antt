@@ -1,12 +1,12 @@
 -- An allowed k is a number of 32 bits in two's complement, and the header gives it back.
-use mathlib.Core.Path.{_≡_, refl, sym, ap, _∙_, subst}
-use mathlib.Core.Logic.{_⊎_, inl, inr, ⊎-elim}
-use mathlib.Core.Bool.{Bool, true, false, _&&_, cond}
-use Prim.Native.Nat.{ℕ, suc, _+_, _-_, _^_, _≤_, _<_}
+use mathlib.Core.Path.{_≡_, refl, ap}
+use mathlib.Core.Logic.{_⊎_, inl, inr}
+use mathlib.Core.Bool.{Bool, true, false, _&&_}
+use Prim.Native.Nat.{ℕ, suc, _-_, _^_, _<_}
 use native.Mathlib.Omega.{arith}
 use borrow.Author.Tests.{leb-true, eqb-true, lt-ltb, le-ltb}
 use lib.Dec.{leb, eqb}
-use lib.IntN.{ℤ, pos, negsuc, negℤ, subℕ}
+use lib.IntN.{ℤ, pos, negsuc}
 use lib.Signed.{mag, leZ}
 use Rattle.numbers.specs.Signed.{signedView, bitsOf}
 use Rattle.numbers.specs.Tolerance.{leastK, lastBin, allowedK}

@@ -1,20 +1,19 @@
 -- The header of a written stream, with any side parts behind its data: read back, its numbers are those that were written, and keep every
 -- rule of refusal 8.
-use mathlib.Core.Path.{_≡_, refl, sym, ap, ap₂, _∙_}
-use mathlib.Core.Bool.{Bool, true, false, _&&_, not, cond}
-use mathlib.Core.List.{List, [], _∷_, _++_, append-assoc}
-use Prim.Native.Nat.{ℕ, zero, suc, _+_, _-_, _*_, _/_, _^_, _≤_, _<_, max}
-use native.Mathlib.Nat.{le-trans, lt-of-le-of-lt}
+use mathlib.Core.Path.{_≡_, refl, ap, _∙_}
+use mathlib.Core.Bool.{Bool, true, false, cond}
+use mathlib.Core.List.{List, [], _∷_, _++_}
+use Prim.Native.Nat.{ℕ, zero, suc, _+_, _*_, _^_, _≤_, _<_, max}
 use native.Mathlib.Omega.{arith}
 use borrow.Author.Tests.{leb-true, le-ltb, le-leb, eq-eqb}
-use lib.Dec.{eqb, leb, ltb, lit<, lit≤}
+use lib.Dec.{eqb, leb, lit<, lit≤}
 use lib.IntN.{ℤ}
 use lib.ListN.{length, getD, length-append}
-use Rattle.numbers.specs.Signed.{signedView, bitsOf}
+use Rattle.numbers.specs.Signed.{bitsOf}
 use Rattle.stream.specs.Bytes.{Below}
-use Rattle.stream.specs.Setting.{knownLevel, knownWidth, widthNeed, modeNeed, need, allowedSetting}
+use Rattle.stream.specs.Setting.{knownLevel, widthNeed, modeNeed, need}
 use Rattle.stream.specs.Header.{word, headerOf, kOf, chunksIn, tooMany, needRight, settingRight, layoutRight}
-use Rattle.stream.specs.Writing.{spell, dataOf, startsOf, headerNumbers, endOf, body, Side, entries, parts, withSides, WellFormedSides}
+use Rattle.stream.specs.Writing.{spell, dataOf, startsOf, headerNumbers, endOf}
 use Rattle.stream.specs.Packing.{Packable}
 use Rattle.stream.specs.declared.header.Header.{Header}
 use Rattle.stream.proofs.Law.Bytes.{everywhere}
@@ -23,8 +22,7 @@ use Rattle.stream.proofs.Law.Settings.{width-most, mode-small}
 use Rattle.stream.proofs.Law.Widths.{need-small}
 use Rattle.stream.proofs.Law.Exponents.{exponent-bits, exponent-back}
 use Rattle.stream.proofs.Law.Joining.{length-singles, singles-at}
-use Rattle.stream.proofs.Law.Spelling.{length-spell, word-spelled}
-use Rattle.stream.proofs.Law.Answering.{length-body}
+use Rattle.stream.proofs.Law.Spelling.{word-spelled}
 use Rattle.stream.proofs.Law.Pieces.{end-is, end-grows, end-small}
 
 -- the header of a list's stream with so many side parts

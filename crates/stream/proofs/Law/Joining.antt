@@ -7,7 +7,7 @@ use native.Mathlib.Nat.{add-zero, add-suc}
 use native.Mathlib.Numerals.{add-one}
 use native.Mathlib.Omega.{arith}
 use lib.ListN.{length, take, drop, getD, length-append, List·getD-append}
-use lib.Seq.{take-at, drop-at, drop-append-le, take-append-le, getD-at}
+use lib.Seq.{take-at, drop-at, getD-at}
 use Rattle.stream.specs.Bytes.{Below}
 use Rattle.stream.specs.Stream.{joined}
 use Rattle.numbers.proofs.Law.Number.{le-or-lt}

@@ -1,16 +1,15 @@
 -- A list cut into chunks of 1,024 values, the chunks' bytes, and where they end. Over the width and the setting.
-use mathlib.Core.Path.{_≡_, refl, sym, ap, ap₂, _∙_}
-use mathlib.Core.Logic.{_⊎_, inl, inr}
+use mathlib.Core.Path.{_≡_, refl, sym, ap, _∙_}
 use mathlib.Core.Bool.{true}
-use mathlib.Core.List.{List, [], _∷_, _++_}
+use mathlib.Core.List.{List, _++_}
 use Prim.Native.Nat.{ℕ, zero, suc, _+_, _-_, _*_, _/_, _^_, _≤_, _<_, min, zero-le}
 use native.Mathlib.Nat.{add-zero, mul-suc, mul-add, mul-comm, mul-left-comm, mul-le-mul}
 use native.Mathlib.Numerals.{add-one}
 use native.Mathlib.Omega.{arith}
 use lib.Dec.{lit<}
 use lib.IntN.{ℤ}
-use lib.ListN.{length, take, drop, getD, length-append, length-take, length-drop}
-use lib.Seq.{take-all, take-add, take-take, drop-drop}
+use lib.ListN.{length, take, drop, length-take, length-drop}
+use lib.Seq.{take-all, take-add}
 use Rattle.stream.specs.Bytes.{Below}
 use Rattle.stream.specs.Setting.{knownWidth, binFor, groupSize, codesOf}
 use Rattle.stream.specs.Chunk.{groupsIn, chunkBytes}
@@ -20,7 +19,7 @@ use Rattle.stream.specs.Writing.{piece, pieceBytes, dataOf, endOf}
 use Rattle.stream.specs.Packing.{mostBytes}
 use Rattle.stream.proofs.Law.Bytes.{below-take, below-drop}
 use Rattle.stream.proofs.Law.Stepping.{take-there, bytes-small}
-use Rattle.stream.proofs.Law.Widths.{WidthBytes, width-bytes}
+use Rattle.stream.proofs.Law.Widths.{width-bytes}
 use Rattle.stream.proofs.Law.Joining.{length-joined, joined-grows}
 
 -- ---- the pieces
@@ -58,6 +57,10 @@ piece-is vs j from to e l =
     ∙ ap (λ (n : ℕ). take 1024 (drop n vs)) e
 
 -- ---- their bytes
+
+-- n values of some bytes each
+pub whole-values : (n size : ℕ) → n * (8 * size) / 8 ≡ n * size
+whole-values n size = ap (λ (x : ℕ). x / 8) (mul-left-comm n 8 size) ∙ (let q : 8 * (n * size) / 8 ≡ n * size = omega arith in q)
 
 module _ (W mode : ℕ) (k : ℤ) (vs : List ℕ) where
   -- one chunk more
@@ -121,8 +124,7 @@ module _ (W mode : ℕ) (k : ℤ) (vs : List ℕ) where
     unfolding mostBytes groupSize
     end-most =
         let whole : length vs * W / 8 ≡ size * length vs =
-        ap (λ (x : ℕ). length vs * x / 8) (width-bytes W known .whole) ∙ ap (λ (x : ℕ). x / 8) (mul-left-comm (length vs) 8 size)
-        ∙ (let q : 8 * (length vs * size) / 8 ≡ length vs * size = omega arith in q) ∙ mul-comm (length vs) size in
+        ap (λ (x : ℕ). length vs * x / 8) (width-bytes W known .whole) ∙ whole-values (length vs) size ∙ mul-comm (length vs) size in
         omega (arith, all-most)
 
     -- so it is a number of 32 bits, and so is the end of the first chunks

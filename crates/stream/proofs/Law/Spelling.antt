@@ -5,7 +5,7 @@ use Prim.Native.Nat.{ℕ, zero, suc, _+_, _-_, _*_, _/_, _%_, _^_, _≤_, _<_}
 use native.Mathlib.Nat.{div-div-eq-div-mul}
 use native.Mathlib.Numerals.{towards-suc, add-one}
 use native.Mathlib.Omega.{arith}
-use lib.ListN.{length, take, drop, set, getD, replicate, length-append, length-drop, length-replicate}
+use lib.ListN.{length, take, drop, set, getD, replicate, length-append, length-replicate}
 use lib.Seq.{sets, sets-eq, split-at, take-suc, take-at, take-all, drop-at, drop-drop, length-take-le}
 use Rattle.stream.specs.Bytes.{Below, number, digits}
 use Rattle.stream.specs.Header.{word}
@@ -112,19 +112,16 @@ one-spelled ns base out i n h is e =
     ∙ drop-drop 4 (4 * i) base ∙ ap (λ (k : ℕ). drop k base) (let q : 4 * i + 4 ≡ 4 * (i + 1) = omega arith in q))
     ∙ ap (λ (l : List ℕ). l ++ drop (4 * (i + 1)) base) (sym more)
 
-pub spelled-room : (ns base out : List ℕ) (i : ℕ) → i ≤ length ns → 4 * i ≤ length base → out ≡ spell (take i ns) ++ drop (4 * i) base → length out ≡ length base
-spelled-room ns base out i h l e =
-    ap length e ∙ length-append (spell (take i ns)) (drop (4 * i) base)
-    ∙ ap₂ _+_ (length-spell (take i ns) ∙ ap (λ (k : ℕ). 4 * k) (length-take-le i ns h)) (length-drop (4 * i) base)
-    ∙ (let q : 4 * i + (length base - 4 * i) ≡ length base = omega arith in q)
-
 pub all-spelled : (ns base out : List ℕ) (i count : ℕ) → length ns ≡ count → i ≡ count → out ≡ spell (take i ns) ++ drop (4 * i) base
     → out ≡ spell ns ++ drop (4 * count) base
 all-spelled ns base out i count l e is =
     is ∙ ap₂ (λ (a : List ℕ) (n : ℕ). spell a ++ drop (4 * n) base) (take-all i ns (omega arith)) e
 
 -- a list and zeros behind it, `count` elements in all
-pub length-padded : (ns : List ℕ) (count : ℕ) → length ns ≤ count → length (ns ++ replicate (count - length ns) 0) ≡ count
+abbrev pub padded : List ℕ → ℕ → List ℕ
+padded ns count = ns ++ replicate (count - length ns) 0
+
+pub length-padded : (ns : List ℕ) (count : ℕ) → length ns ≤ count → length (padded ns count) ≡ count
 length-padded ns count h =
     length-append ns (replicate (count - length ns) 0) ∙ ap (λ (n : ℕ). length ns + n) (length-replicate (count - length ns) 0)
     ∙ (let q : length ns + (count - length ns) ≡ count = omega arith in q)

@@ -1,7 +1,7 @@
 -- The chunk table and the chunks of a written stream, whatever stands behind its data: each chunk is found, good, and read back.
-use mathlib.Core.Path.{_≡_, refl, sym, ap, ap₂, _∙_}
+use mathlib.Core.Path.{_≡_, refl, sym, ap, _∙_}
 use mathlib.Core.Logic.{_⊎_, inl, inr}
-use mathlib.Core.Bool.{Bool, true, false, _&&_, cond}
+use mathlib.Core.Bool.{Bool, true, false, cond}
 use mathlib.Core.List.{List, [], _∷_, _++_, map}
 use Prim.Native.Nat.{ℕ, zero, suc, _+_, _-_, _*_, _/_, _^_, _≤_, _<_, min, zero-le}
 use native.Mathlib.Nat.{mod-lt}
@@ -10,7 +10,7 @@ use borrow.Author.Tests.{lt-ltb, le-ltb, eq-eqb}
 use lib.Dec.{eqb, lit<}
 use lib.IntN.{ℤ}
 use lib.Pow.{pow-pos}
-use lib.ListN.{length, take, drop, getD, length-append}
+use lib.ListN.{length, take, drop, length-append}
 use lib.Seq.{drop-at, drop-drop, getD-append-add}
 use Rattle.numbers.specs.Lossless.{losslessCode}
 use Rattle.numbers.specs.Tolerance.{ordinal, toleranceCode, largestU}
@@ -35,7 +35,7 @@ use Rattle.stream.proofs.Law.Exact.{Limited}
 use Rattle.stream.proofs.Law.Chunk.{chunk-step, written-is-good, written-is-read}
 use Rattle.stream.proofs.Law.Coding.{bin-in, codes-under}
 use Rattle.stream.proofs.Law.Stepping.{length-codes-of}
-use Rattle.stream.proofs.Law.Widths.{WidthBytes, width-bytes}
+use Rattle.stream.proofs.Law.Widths.{width-bytes}
 use Rattle.stream.proofs.Law.Exponents.{exponent-back}
 use Rattle.stream.proofs.Law.Joining.{joined-part, joined-map, joined-same, singles-at}
 use Rattle.stream.proofs.Law.Spelling.{length-spell}

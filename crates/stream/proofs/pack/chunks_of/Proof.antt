@@ -1,12 +1,10 @@
 -- `stream::pack::chunks_of` meets its contract.
-use Rattle.stream.specs.Header.{chunksIn}
 use mathlib.Core.Path.{refl}
 use native.Mathlib.Omega.{arith}
 use borrow.Author.Needs.{needs}
+use Rattle.stream.specs.Header.{chunksIn}
 use Rattle.stream.proofs.pack.chunks_of.Statement.{statement}
 use Rattle.stream.proofs.pack.chunks_of.Tie as tie
-use Rattle.stream.proofs.pack.chunks_of.Reads as reads
-use Rattle.stream.proofs.pack.chunks_of.Lts as lts
 
 add-result : tie.Need-add-result
 add-result c = search needs

@@ -1,36 +1,29 @@
--- `stream::pack::measured32` meets its contract.
-use Rattle.stream.proofs.Law.Pieces.{length-piece, piece-bytes, end-start, end-next, end-small}
-use Rattle.stream.proofs.Law.Widths.{known-32}
-use Rattle.stream.specs.Writing.{endOf}
-use Rattle.stream.specs.Header.{chunksIn}
-use Rattle.stream.specs.Setting.{allowedSetting, binFor}
-use mir.Facts.{toZ-ofZ}
-use mir.Val.{toZ, ofZ}
-use mir.Syntax.{w32}
-use mathlib.Core.List.{List}
-use lib.ListN.{length}
-use lib.IntN.{ℤ}
+-- `stream::pack::measured32` meets its contract. The loop's invariant: `end` is the end of the first j chunks.
+use mathlib.Core.Path.{_≡_, sym, ap, ap₂, _∙_}
 use Prim.Native.Nat.{ℕ, _+_, _-_, _*_, _≤_, _<_}
-use mathlib.Core.Path.{_≡_, refl, sym, ap, ap₂, _∙_}
 use native.Mathlib.Omega.{arith}
+use lib.IntN.{ℤ}
+use lib.ListN.{length}
+use mir.Syntax.{w32}
+use mir.Val.{toZ, ofZ}
+use mir.Facts.{toZ-ofZ}
+use Rattle.stream.specs.Setting.{allowedSetting}
+use Rattle.stream.specs.Writing.{endOf}
+use Rattle.stream.proofs.Law.Widths.{known-32}
+use Rattle.stream.proofs.Law.Pieces.{length-piece, piece-bytes, end-start, end-next, end-small}
 use Rattle.stream.proofs.pack.measured32.Statement.{statement}
 use Rattle.stream.proofs.pack.measured32.Tie as tie
-use Rattle.stream.proofs.pack.measured32.Reads as reads
-use Rattle.stream.proofs.pack.measured32.Lts as lts
-use Rattle.stream.proofs.chunk.measured32.Reads as measured32-reads
-use Rattle.stream.proofs.pack.chunks_of.Reads as chunks-of-reads
-use Rattle.stream.proofs.pack.piece32.Reads as piece32-reads
-use Rattle.stream.proofs.setting.bin_for.Reads as bin-for-reads
 
 abbrev Inv-loop : tie.InvT-loop
-Inv-loop mode k values bin chunks end₀ j₀ end j =
-    (j ≤ chunks) × (end ≡ endOf 32 mode (toZ w32 k) values j)
+Inv-loop mode k values bin chunks end₀ j₀ end j = (j ≤ chunks) × (end ≡ endOf 32 mode (toZ w32 k) values j)
 
 abbrev μ-loop : tie.MeasureT-loop
 μ-loop mode k values bin chunks end₀ j₀ end j = chunks - j
 
 bin-for-requires : tie.Need-bin-for-requires Inv-loop μ-loop
-bin-for-requires c κs = (known-32, ap (allowedSetting 32 (c .before .args .mode)) (toZ-ofZ (c .before .fits .k)) ∙ c .before .pre .1)
+bin-for-requires c κs =
+    let s = c .before in
+    (known-32, ap (allowedSetting 32 (s .args .mode)) (toZ-ofZ (s .fits .k)) ∙ s .pre .1)
 
 chunks-of-requires : tie.Need-chunks-of-requires Inv-loop μ-loop
 chunks-of-requires c κs = c .before .before .pre .0
@@ -44,33 +37,38 @@ add-end c = omega (arith, c .chunks-of .ensures .1)
 loop-holds : tie.Need-loop-holds Inv-loop μ-loop
 loop-holds c =
     let a = c .before .before .before .args in
-    let vs = a .values .now in
-    let k = toZ w32 (ofZ w32 (a .k)) in
-    (omega arith, ap (λ (n : ℕ). 48 + 4 * n) (c .chunks-of .ensures .0) ∙ end-start 32 (a .mode) k vs)
+    (omega arith, ap (λ (n : ℕ). 48 + 4 * n) (c .chunks-of .ensures .0) ∙ end-start 32 (a .mode) (toZ w32 (ofZ w32 (a .k))) (a .values .now))
 
 piece32-requires : tie.Need-piece32-requires Inv-loop μ-loop
-piece32-requires c κs = (c .before .before .before .before .before .pre .0, (let h : c .before .loop .j < c .before .before .chunks-of .result = c .loop-test .taken in omega (arith, c .before .before .chunks-of .ensures .0)))
+piece32-requires c κs =
+    let chunks = c .before .before .chunks-of in
+    let next : c .before .loop .j < chunks .result = c .loop-test .taken in
+    (c .before .before .before .before .before .pre .0, omega (arith, chunks .ensures .0))
 
 measured32-requires : tie.Need-measured32-requires Inv-loop μ-loop
 measured32-requires c κs = rw (c .piece32 .ensures, length-piece) (omega arith)
 
 -- one chunk more
-next : (c : tie.After-measured32 Inv-loop μ-loop) → let a = c .before .before .before .before .before .before .before .args in
-    c .before .before .before .loop .end + c .measured32 .result ≡ endOf 32 (a .mode) (toZ w32 (ofZ w32 (a .k))) (a .values .now) (c .before .before .before .loop .j + 1)
+next : (c : tie.After-measured32 Inv-loop μ-loop) → let l = c .before .before .before .loop in
+    let a = c .before .before .before .before .before .before .before .args in
+    l .end + c .measured32 .result ≡ endOf 32 (a .mode) (toZ w32 (ofZ w32 (a .k))) (a .values .now) (l .j + 1)
 next c =
+    let l = c .before .before .before .loop in
+    let bin = c .before .before .before .before .before .bin-for in
     let a = c .before .before .before .before .before .before .before .args in
     let vs = a .values .now in
     let k = toZ w32 (ofZ w32 (a .k)) in
-    ap₂ _+_ (c .before .before .before .loop .inv .1) (c .measured32 .ensures ∙ ap length (piece-bytes 32 (a .mode) k vs (c .before .before .before .loop .j) (c .before .before .before .before .before .bin-for .result) _ (c .before .piece32 .ensures) (c .before .before .before .before .before .bin-for .ensures)))
-    ∙ sym (end-next 32 (a .mode) k vs (c .before .before .before .loop .j))
+    ap₂ _+_ (l .inv .1) (c .measured32 .ensures ∙ ap length (piece-bytes 32 (a .mode) k vs (l .j) (bin .result) _ (c .before .piece32 .ensures) (bin .ensures)))
+    ∙ sym (end-next 32 (a .mode) k vs (l .j))
 
 add-end-2 : tie.Need-add-end-2 Inv-loop μ-loop
 add-end-2 c =
-    let a = c .before .before .before .before .before .before .before .args in
-    let vs = a .values .now in
-    let k = toZ w32 (ofZ w32 (a .k)) in
-    let small = end-small 32 (a .mode) k vs known-32 (λ i. c .before .before .before .before .before .before .shared-slice-known .given i .fits) (c .before .before .before .before .before .before .before .pre .0) in
-    omega (arith, next c, small (c .before .before .before .loop .j + 1) (omega (arith, c .before .before .before .before .chunks-of .ensures .0)))
+    let s = c .before .before .before .before .before .before .before in
+    let small =
+    end-small 32 (s .args .mode) (toZ w32 (ofZ w32 (s .args .k))) (s .args .values .now) known-32
+    (λ i. c .before .before .before .before .before .before .shared-slice-known .given i .fits) (s .pre .0) (c .before .before .before .loop .j + 1)
+    (omega (arith, c .before .before .before .before .chunks-of .ensures .0)) in
+    omega (arith, next c)
 
 add-j : tie.Need-add-j Inv-loop μ-loop
 add-j c = omega (arith, c .before .before .before .before .chunks-of .ensures .1)
@@ -83,11 +81,11 @@ loop-again c = (omega arith, next c)
 
 returns : tie.Need-returns Inv-loop μ-loop
 returns c =
-    let a = c .before .before .before .before .before .args in
-    let vs = a .values .now in
-    let k = toZ w32 (ofZ w32 (a .k)) in
+    let chunks = c .before .before .chunks-of in
+    let s = c .before .before .before .before .before in
+    let last : c .before .loop .j ≡ chunks .result = omega arith in
     c .before .loop .inv .1
-    ∙ ap₂ (λ (z : ℤ) (i : ℕ). endOf 32 (a .mode) z vs i) (toZ-ofZ (c .before .before .before .before .before .fits .k)) (let e : c .before .loop .j ≡ c .before .before .chunks-of .result = omega arith in e ∙ c .before .before .chunks-of .ensures .0)
+    ∙ ap₂ (λ (z : ℤ) (i : ℕ). endOf 32 (s .args .mode) z (s .args .values .now) i) (toZ-ofZ (s .fits .k)) (last ∙ chunks .ensures .0)
 
 pub measured32-spec : {M : Type 1} → statement M
 measured32-spec =

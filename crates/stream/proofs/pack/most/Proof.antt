@@ -1,17 +1,15 @@
 -- `stream::pack::most` meets its contract.
-use Rattle.stream.specs.Packing.{mostBytes}
-use Rattle.stream.specs.Chunk.{groupsIn}
-use Rattle.stream.specs.Setting.{groupSize}
-use native.Mathlib.Nat.{mul-le-mul, mul-left-comm}
-use Prim.Native.Nat.{ℕ, _+_, _*_, _/_}
-use mathlib.Core.Path.{_≡_, sym, ap, _∙_}
+use mathlib.Core.Path.{_≡_}
+use Prim.Native.Nat.{_*_, _/_}
+use native.Mathlib.Nat.{mul-le-mul}
 use native.Mathlib.Omega.{arith}
 use borrow.Author.Needs.{needs}
+use Rattle.stream.specs.Setting.{groupSize}
+use Rattle.stream.specs.Chunk.{groupsIn}
+use Rattle.stream.specs.Packing.{mostBytes}
+use Rattle.stream.proofs.Law.Pieces.{whole-values}
 use Rattle.stream.proofs.pack.most.Statement.{statement}
 use Rattle.stream.proofs.pack.most.Tie as tie
-use Rattle.stream.proofs.pack.most.Reads as reads
-use Rattle.stream.proofs.pack.most.Lts as lts
-use Rattle.stream.proofs.pack.chunks_of.Reads as chunks-of-reads
 
 chunks-of-requires : tie.Need-chunks-of-requires
 chunks-of-requires c κs = search needs
@@ -36,11 +34,11 @@ add-result-4 c = omega (arith, mul-le-mul (c .before .pre .1) (c .before .pre .0
 
 returns : tie.Need-returns
 unfolding mostBytes groupSize groupsIn
-returns c = λ mode.
+returns c mode =
     let n = c .before .args .n in
     let size = c .before .args .size in
-    let whole : n * (8 * size) / 8 ≡ n * size = ap (λ (x : ℕ). x / 8) (mul-left-comm n 8 size) ∙ (let q : 8 * (n * size) / 8 ≡ n * size = omega arith in q) in
-    omega (arith, whole, c .chunks-of .ensures .0)
+    let whole : n * (8 * size) / 8 ≡ n * size = whole-values n size in
+    omega (arith, c .chunks-of .ensures .0)
 
 pub most-spec : {M : Type 1} → statement M
 most-spec =

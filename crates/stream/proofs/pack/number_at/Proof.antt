@@ -1,11 +1,9 @@
 -- `stream::pack::number_at` meets its contract.
-use lib.ListN.{List·getD-eq-default}
 use mathlib.Core.Path.{sym}
+use lib.ListN.{List·getD-eq-default}
 use borrow.Author.Needs.{needs}
 use Rattle.stream.proofs.pack.number_at.Statement.{statement}
 use Rattle.stream.proofs.pack.number_at.Tie as tie
-use Rattle.stream.proofs.pack.number_at.Reads as reads
-use Rattle.stream.proofs.pack.number_at.Lts as lts
 
 mul-result : tie.Need-mul-result
 mul-result c = search needs

@@ -1,16 +1,13 @@
--- `stream::pack::piece64` meets its contract.
-use Prim.Native.Nat.{ℕ, _+_, _-_, _*_, min}
-use Rattle.stream.proofs.Law.Pieces.{piece-is}
-use Rattle.stream.specs.Header.{chunksIn}
-use lib.ListN.{length}
-use mathlib.Core.Path.{refl, _≡_}
+-- `stream::pack::piece64` meets its contract: the part between the two places is the piece.
+use mathlib.Core.Path.{_≡_, refl}
+use Prim.Native.Nat.{_+_, _-_, _*_, min}
 use native.Mathlib.Omega.{arith}
+use lib.ListN.{length}
 use borrow.Author.Needs.{needs}
+use Rattle.stream.specs.Header.{chunksIn}
+use Rattle.stream.proofs.Law.Pieces.{piece-is}
 use Rattle.stream.proofs.pack.piece64.Statement.{statement}
 use Rattle.stream.proofs.pack.piece64.Tie as tie
-use Rattle.stream.proofs.pack.piece64.Reads as reads
-use Rattle.stream.proofs.pack.piece64.Lts as lts
-use Rattle.stream.proofs.pack.piece_end.Reads as piece-end-reads
 
 mul-from : tie.Need-mul-from
 unfolding chunksIn
@@ -33,13 +30,15 @@ part-result-start c = search needs
 part-result-end : tie.Need-part-result-end
 unfolding chunksIn
 part-result-end c =
-    let vs = c .before .before .args .values .now in
-    let j = c .before .before .args .j in
-    let to : c .piece-end .result ≡ 1024 * j + min 1024 (length vs - 1024 * j) = c .piece-end .ensures in
-    omega (arith, c .before .before .pre)
+    let s = c .before .before in
+    let from = 1024 * s .args .j in
+    let to : c .piece-end .result ≡ from + min 1024 (length (s .args .values .now) - from) = c .piece-end .ensures in
+    omega (arith, s .pre)
 
 returns : tie.Need-returns
-returns c = piece-is (c .before .before .before .args .values .now) (c .before .before .before .args .j) _ (c .before .piece-end .result) refl (c .before .piece-end .ensures)
+returns c =
+    let a = c .before .before .before .args in
+    piece-is (a .values .now) (a .j) (1024 * a .j) (c .before .piece-end .result) refl (c .before .piece-end .ensures)
 
 pub piece64-spec : {M : Type 1} → statement M
 piece64-spec =

@@ -1,26 +1,43 @@
--- `stream::pack::put_chunk64` meets its contract.
-use Rattle.stream.proofs.Law.Packing.{turn, start-put, chunk-put}
-use Rattle.stream.proofs.Law.Pieces.{length-piece, piece-bytes}
-use Rattle.stream.proofs.Law.Widths.{known-64}
-use Rattle.stream.specs.Setting.{allowedSetting, binFor}
-use mir.Facts.{toZ-ofZ}
-use lib.ListN.{length, take, drop, length-take, length-drop}
-use Prim.Native.Nat.{ℕ, _+_, _-_, _*_, _≤_}
-use mathlib.Core.Path.{_≡_, refl, sym, ap, ap₂, _∙_}
+-- `stream::pack::put_chunk64` meets its contract. `here` says where the chunk goes, and that there is room; its start in the table and its
+-- bytes behind the data take the unfinished stream one chunk further.
+use mathlib.Core.Path.{_≡_, refl, ap, _∙_}
+use Prim.Native.Nat.{ℕ, _+_, _*_, _≤_}
 use native.Mathlib.Omega.{arith}
+use lib.ListN.{length, length-take, length-drop}
+use mir.Facts.{toZ-ofZ}
 use borrow.Author.Needs.{needs}
+use Rattle.stream.specs.Setting.{allowedSetting, binFor, codesOf}
+use Rattle.stream.specs.Chunk.{chunkBytes}
+use Rattle.stream.specs.Writing.{pieceBytes}
+use Rattle.stream.proofs.Law.Widths.{known-64}
+use Rattle.stream.proofs.Law.Pieces.{length-piece, piece-bytes}
+use Rattle.stream.proofs.Law.Packing.{Turn, turn, start-put, chunk-put}
 use Rattle.stream.proofs.pack.put_chunk64.Statement.{statement}
 use Rattle.stream.proofs.pack.put_chunk64.Tie as tie
-use Rattle.stream.proofs.pack.put_chunk64.Reads as reads
-use Rattle.stream.proofs.pack.put_chunk64.Lts as lts
-use Rattle.stream.proofs.chunk.written64.Reads as written64-reads
-use Rattle.stream.proofs.pack.chunks_of.Reads as chunks-of-reads
-use Rattle.stream.proofs.pack.piece64.Reads as piece64-reads
-use Rattle.stream.proofs.pack.put_word.Reads as put-word-reads
-use Rattle.stream.proofs.setting.bin_for.Reads as bin-for-reads
+
+here : (c : tie.After-chunks-of) → let a = c .before .before .before .before .args in
+    Turn 64 (a .mode) (a .k) (a .values .now) (a .j) (a .start) (c .chunks-of .result) (length (a .out .now))
+here c =
+    let s = c .before .before .before .before in
+    let a = s .args in
+    turn 64 (a .mode) (a .k) (a .values .now) (a .j) (a .start) (c .chunks-of .result) (length (a .out .now)) known-64
+    (λ i. c .before .before .before .shared-slice-known .given i .fits) (s .pre .0 .0) (s .pre .0 .2) (s .pre .1 .0) (c .chunks-of .ensures .0) (s .pre .1 .1)
+
+-- what is lent to the chunk's writer is the piece and the bin
+bytes : (c : tie.After-piece64) → let b = c .before .before .before .before .before .before in
+    let a = b .before .before .before .args in
+    chunkBytes 32 (codesOf 64 (a .mode) (b .bin-for .result) (c .piece64 .result .now)) ≡ pieceBytes 64 (a .mode) (a .k) (a .values .now) (a .j)
+bytes c =
+    let b = c .before .before .before .before .before .before in
+    let s = b .before .before .before in
+    let a = s .args in
+    piece-bytes 64 (a .mode) (a .k) (a .values .now) (a .j) (b .bin-for .result) _ (c .piece64 .ensures)
+    (b .bin-for .ensures ∙ ap (binFor 64 (a .mode)) (toZ-ofZ (s .fits .k)))
 
 bin-for-requires : tie.Need-bin-for-requires
-bin-for-requires c κs = (known-64, ap (allowedSetting 64 (c .before .before .args .mode)) (toZ-ofZ (c .before .before .fits .k)) ∙ c .before .before .pre .0 .1)
+bin-for-requires c κs =
+    let s = c .before .before in
+    (known-64, ap (allowedSetting 64 (s .args .mode)) (toZ-ofZ (s .fits .k)) ∙ s .pre .0 .1)
 
 chunks-of-requires : tie.Need-chunks-of-requires
 chunks-of-requires c κs = search needs
@@ -32,12 +49,7 @@ add-at : tie.Need-add-at
 add-at c = search needs
 
 add-at-2 : tie.Need-add-at-2
-add-at-2 c =
-    let a = c .before .before .before .before .args in
-    let vs = a .values .now in
-    let t = turn 64 (a .mode) (a .k) vs (a .j) (a .start) (c .chunks-of .result) (length (a .out .now)) known-64 (λ i. c .before .before .before .shared-slice-known .given i .fits) (c .before .before .before .before .pre .0 .0)
-    (c .before .before .before .before .pre .0 .2) (c .before .before .before .before .pre .1 .0) (c .chunks-of .ensures .0) (c .before .before .before .before .pre .1 .1) in
-    omega (arith, t .next-place, t .small)
+add-at-2 c = omega (arith, here c .next-place, here c .small)
 
 mul-put-word : tie.Need-mul-put-word
 mul-put-word c = search needs
@@ -46,83 +58,60 @@ add-put-word : tie.Need-add-put-word
 add-put-word c = search needs
 
 cast-put-word : tie.Need-cast-put-word
-cast-put-word c =
-    let a = c .before .before .before .before .before .args in
-    let vs = a .values .now in
-    let t = turn 64 (a .mode) (a .k) vs (a .j) (a .start) (c .before .chunks-of .result) (length (a .out .now)) known-64 (λ i. c .before .before .before .before .shared-slice-known .given i .fits) (c .before .before .before .before .before .pre .0 .0)
-    (c .before .before .before .before .before .pre .0 .2) (c .before .before .before .before .before .pre .1 .0) (c .before .chunks-of .ensures .0) (c .before .before .before .before .before .pre .1 .1) in
-    omega (arith, t .next-place, t .small)
+cast-put-word c = omega (arith, here (c .before) .next-place, here (c .before) .small)
 
 put-word-requires : tie.Need-put-word-requires
-put-word-requires c κs =
-    let a = c .before .before .before .before .before .args in
-    let vs = a .values .now in
-    let t = turn 64 (a .mode) (a .k) vs (a .j) (a .start) (c .before .chunks-of .result) (length (a .out .now)) known-64 (λ i. c .before .before .before .before .shared-slice-known .given i .fits) (c .before .before .before .before .before .pre .0 .0)
-    (c .before .before .before .before .before .pre .0 .2) (c .before .before .before .before .before .pre .1 .0) (c .before .chunks-of .ensures .0) (c .before .before .before .before .before .pre .1 .1) in
-    t .table
+put-word-requires c κs = here (c .before) .table
 
 piece64-requires : tie.Need-piece64-requires
 piece64-requires c κs = search needs
 
+-- the place is within the output, which kept its length
+within : (c : tie.After-piece64) → let p = c .before .before .before .before .before in
+    48 + 4 * p .chunks-of .result + p .before .before .before .before .args .start ≤ length (c .before .before .before .put-word .last .0)
+within c =
+    let t = here (c .before .before .before .before .before) in
+    omega (arith, t .next-place, t .fits, c .before .before .before .put-word .kept .0)
+
 sub-written64 : tie.Need-sub-written64
-sub-written64 c =
-    let a = c .before .before .before .before .before .before .before .before .before .args in
-    let vs = a .values .now in
-    let t = turn 64 (a .mode) (a .k) vs (a .j) (a .start) (c .before .before .before .before .before .chunks-of .result) (length (a .out .now)) known-64 (λ i. c .before .before .before .before .before .before .before .before .shared-slice-known .given i .fits) (c .before .before .before .before .before .before .before .before .before .pre .0 .0)
-    (c .before .before .before .before .before .before .before .before .before .pre .0 .2) (c .before .before .before .before .before .before .before .before .before .pre .1 .0) (c .before .before .before .before .before .chunks-of .ensures .0) (c .before .before .before .before .before .before .before .before .before .pre .1 .1) in
-    let room = c .before .before .before .put-word .kept .0 in
-    omega (arith, t .next-place, t .fits)
+sub-written64 c = within c
 
 part-written64-start : tie.Need-part-written64-start
-part-written64-start c =
-    let a = c .before .before .before .before .before .before .before .before .before .args in
-    let vs = a .values .now in
-    let t = turn 64 (a .mode) (a .k) vs (a .j) (a .start) (c .before .before .before .before .before .chunks-of .result) (length (a .out .now)) known-64 (λ i. c .before .before .before .before .before .before .before .before .shared-slice-known .given i .fits) (c .before .before .before .before .before .before .before .before .before .pre .0 .0)
-    (c .before .before .before .before .before .before .before .before .before .pre .0 .2) (c .before .before .before .before .before .before .before .before .before .pre .1 .0) (c .before .before .before .before .before .chunks-of .ensures .0) (c .before .before .before .before .before .before .before .before .before .pre .1 .1) in
-    let room = c .before .before .before .put-word .kept .0 in
-    omega (arith, t .next-place, t .fits)
+part-written64-start c = within c
 
 part-written64-end : tie.Need-part-written64-end
 part-written64-end c = search needs
 
 written64-requires : tie.Need-written64-requires
 written64-requires c κs =
-    let a = c .before .before .before .before .before .before .before .before .before .before .args in
-    let vs = a .values .now in
-    let t = turn 64 (a .mode) (a .k) vs (a .j) (a .start) (c .before .before .before .before .before .before .chunks-of .result) (length (a .out .now)) known-64 (λ i. c .before .before .before .before .before .before .before .before .before .shared-slice-known .given i .fits) (c .before .before .before .before .before .before .before .before .before .before .pre .0 .0)
-    (c .before .before .before .before .before .before .before .before .before .before .pre .0 .2) (c .before .before .before .before .before .before .before .before .before .before .pre .1 .0) (c .before .before .before .before .before .before .chunks-of .ensures .0) (c .before .before .before .before .before .before .before .before .before .before .pre .1 .1) in
-    let room = c .before .before .before .before .put-word .kept .0 in
-    let bytes = piece-bytes 64 (a .mode) (a .k) vs (a .j) (c .before .before .before .before .before .before .before .bin-for .result) _ (c .before .piece64 .ensures) (c .before .before .before .before .before .before .before .bin-for .ensures ∙ ap (binFor 64 (a .mode)) (toZ-ofZ (c .before .before .before .before .before .before .before .before .before .before .fits .k))) in (
-      rw (c .before .piece64 .ensures, length-piece) (omega arith),
-      rw (bytes, length-take, length-drop) (omega (arith, t .next-place, t .fits)),
+    let p = c .before in
+    let t = here (p .before .before .before .before .before) in (
+      rw (p .piece64 .ensures, length-piece) (omega arith),
+      rw (bytes p, length-take, length-drop) (omega (arith, t .next-place, t .fits, p .before .before .before .put-word .kept .0)),
     )
 
 add-result : tie.Need-add-result
 add-result c =
-    let a = c .before .before .before .before .before .before .before .before .before .before .before .before .before .args in
-    let vs = a .values .now in
-    let t = turn 64 (a .mode) (a .k) vs (a .j) (a .start) (c .before .before .before .before .before .before .before .before .before .chunks-of .result) (length (a .out .now)) known-64 (λ i. c .before .before .before .before .before .before .before .before .before .before .before .before .shared-slice-known .given i .fits) (c .before .before .before .before .before .before .before .before .before .before .before .before .before .pre .0 .0)
-    (c .before .before .before .before .before .before .before .before .before .before .before .before .before .pre .0 .2) (c .before .before .before .before .before .before .before .before .before .before .before .before .before .pre .1 .0) (c .before .before .before .before .before .before .before .before .before .chunks-of .ensures .0) (c .before .before .before .before .before .before .before .before .before .before .before .before .before .pre .1 .1) in
-    let bytes = piece-bytes 64 (a .mode) (a .k) vs (a .j) (c .before .before .before .before .before .before .before .before .before .before .bin-for .result) _ (c .before .before .before .before .piece64 .ensures) (c .before .before .before .before .before .before .before .before .before .before .bin-for .ensures ∙ ap (binFor 64 (a .mode)) (toZ-ofZ (c .before .before .before .before .before .before .before .before .before .before .before .before .before .fits .k))) in
-    let r = c .before .before .written64 .ensures .0 ∙ ap length bytes in
-    omega (arith, t .next-place, t .small)
+    let p = c .before .before .before .before in
+    let t = here (p .before .before .before .before .before) in
+    omega (arith, t .next-place, t .small, c .before .before .written64 .ensures .0 ∙ ap length (bytes p))
 
 same-length : tie.Need-same-length
 same-length c = search needs
 
 returns : tie.Need-returns
 returns c =
-    let a = c .before .before .before .before .before .before .before .before .before .before .before .before .before .args in
-    let vs = a .values .now in
-    let t = turn 64 (a .mode) (a .k) vs (a .j) (a .start) (c .before .before .before .before .before .before .before .before .before .chunks-of .result) (length (a .out .now)) known-64 (λ i. c .before .before .before .before .before .before .before .before .before .before .before .before .shared-slice-known .given i .fits) (c .before .before .before .before .before .before .before .before .before .before .before .before .before .pre .0 .0)
-    (c .before .before .before .before .before .before .before .before .before .before .before .before .before .pre .0 .2) (c .before .before .before .before .before .before .before .before .before .before .before .before .before .pre .1 .0) (c .before .before .before .before .before .before .before .before .before .chunks-of .ensures .0) (c .before .before .before .before .before .before .before .before .before .before .before .before .before .pre .1 .1) in
-    let room = c .before .before .before .before .before .before .before .put-word .kept .0 in
-    let bytes = piece-bytes 64 (a .mode) (a .k) vs (a .j) (c .before .before .before .before .before .before .before .before .before .before .bin-for .result) _ (c .before .before .before .before .piece64 .ensures) (c .before .before .before .before .before .before .before .before .before .before .bin-for .ensures ∙ ap (binFor 64 (a .mode)) (toZ-ofZ (c .before .before .before .before .before .before .before .before .before .before .before .before .before .fits .k))) in (
-      ap (λ (n : ℕ). a .start + n) (c .before .before .written64 .ensures .0 ∙ ap length bytes) ∙ t .next,
+    let r = c .before .before .written64 in
+    let p = c .before .before .before .before in
+    let put = p .before .before .before .put-word in
+    let t = here (p .before .before .before .before .before) in
+    let s = p .before .before .before .before .before .before .before .before .before in
+    let a = s .args in (
+      ap (λ (n : ℕ). a .start + n) (r .ensures .0 ∙ ap length (bytes p)) ∙ t .next,
       λ level base e.
-          chunk-put 64 level (a .mode) (a .k) vs base (a .j) (c .before .before .before .before .before .before .before .before .before .before .before .before .before .pre .0 .2) (c .before .before .before .before .before .before .before .put-word .last .0) _ (c .before .before .written64 .last .1 .1 .1 .0) _ (c .before .before .written64 .result)
-          (c .before .before .before .before .before .before .before .put-word .ensures ∙ start-put 64 level (a .mode) (a .k) vs base (a .j) (c .before .before .before .before .before .before .before .before .before .before .before .before .before .pre .0 .2) (48 + 4 * a .j) (a .start) (a .out .now) refl (c .before .before .before .before .before .before .before .before .before .before .before .before .before .pre .1 .0) e)
-          bytes (t .place) (omega (arith, t .fits)) (c .before .before .written64 .ensures .0) (c .before .before .written64 .ensures .1),
+          chunk-put 64 level (a .mode) (a .k) (a .values .now) base (a .j) (s .pre .0 .2) (put .last .0) _ (r .last .1 .1 .1 .0) _ (r .result)
+          (put .ensures ∙ start-put 64 level (a .mode) (a .k) (a .values .now) base (a .j) (s .pre .0 .2) (48 + 4 * a .j) (a .start) (a .out .now) refl (s .pre .1 .0) e)
+          (bytes p) (t .place) (omega (arith, t .fits, put .kept .0)) (r .ensures .0) (r .ensures .1),
     )
 
 pub put-chunk64-spec : {M : Type 1} → statement M

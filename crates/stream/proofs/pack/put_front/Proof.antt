@@ -1,20 +1,13 @@
--- `stream::pack::put_front` meets its contract.
-use Rattle.stream.proofs.Law.Packing.{front-spelled}
-use Rattle.stream.proofs.Law.Widths.{need-small}
-use Rattle.numbers.specs.Signed.{bitsOf}
-use mir.Facts.{toZ-ofZ}
-use Prim.Native.Nat.{ℕ}
+-- `stream::pack::put_front` meets its contract: the twelve numbers are those of the header.
 use mathlib.Core.Path.{_∙_, ap}
 use native.Mathlib.Omega.{arith}
+use mir.Facts.{toZ-ofZ}
 use borrow.Author.Needs.{needs}
+use Rattle.numbers.specs.Signed.{bitsOf}
+use Rattle.stream.proofs.Law.Packing.{front-spelled}
+use Rattle.stream.proofs.Law.Widths.{need-small}
 use Rattle.stream.proofs.pack.put_front.Statement.{statement}
 use Rattle.stream.proofs.pack.put_front.Tie as tie
-use Rattle.stream.proofs.pack.put_front.Reads as reads
-use Rattle.stream.proofs.pack.put_front.Lts as lts
-use Rattle.numbers.proofs.signed.bits32.Reads as bits32-reads
-use Rattle.stream.proofs.pack.chunks_of.Reads as chunks-of-reads
-use Rattle.stream.proofs.pack.put_numbers.Reads as put-numbers-reads
-use Rattle.stream.proofs.setting.need_of.Reads as need-of-reads
 
 chunks-of-requires : tie.Need-chunks-of-requires
 chunks-of-requires c κs = search needs
@@ -23,7 +16,9 @@ need-of-requires : tie.Need-need-of-requires
 need-of-requires c κs = search needs
 
 cast-t12 : tie.Need-cast-t12
-cast-t12 c = omega (arith, c .need-of .ensures, need-small (c .before .before .before .args .width) (c .before .before .before .args .mode))
+cast-t12 c =
+    let a = c .before .before .before .args in
+    omega (arith, c .need-of .ensures, need-small (a .width) (a .mode))
 
 bits32-requires : tie.Need-bits32-requires
 bits32-requires c κs = search needs
@@ -57,10 +52,14 @@ same-length c = search needs
 
 returns : tie.Need-returns
 returns c =
-    let a = c .before .before .before .before .before .before .before .before .before .args in
+    let bits = c .before .before .before .before .before .bits32 in
+    let needed = c .before .before .before .before .before .before .need-of in
+    let chunks = c .before .before .before .before .before .before .before .chunks-of in
+    let s = c .before .before .before .before .before .before .before .before .before in
+    let a = s .args in
     c .before .before .put-numbers .ensures
-    ∙ front-spelled (a .width) (a .level) (a .mode) (a .k) (a .n) (c .before .before .before .before .before .before .before .chunks-of .result) (c .before .before .before .before .before .before .need-of .result) (c .before .before .before .before .before .bits32 .result) (a .out .now)
-    (c .before .before .before .before .before .before .before .chunks-of .ensures .0) (c .before .before .before .before .before .before .need-of .ensures) (c .before .before .before .before .before .bits32 .ensures ∙ ap (bitsOf 32) (toZ-ofZ (c .before .before .before .before .before .before .before .before .before .fits .k)))
+    ∙ front-spelled (a .width) (a .level) (a .mode) (a .k) (a .n) (chunks .result) (needed .result) (bits .result) (a .out .now)
+    (chunks .ensures .0) (needed .ensures) (bits .ensures ∙ ap (bitsOf 32) (toZ-ofZ (s .fits .k)))
 
 pub put-front-spec : {M : Type 1} → statement M
 put-front-spec =

@@ -1,83 +1,72 @@
--- `stream::pack::put_numbers` meets its contract.
-use Rattle.stream.proofs.Law.Spelling.{none-spelled, one-spelled, all-spelled, spelled-room, length-padded, getD-padded}
-use Rattle.stream.specs.Writing.{spell}
-use lib.ListN.{length, take, drop, replicate}
-use Prim.Native.Nat.{_-_, _*_, _≤_}
+-- `stream::pack::put_numbers` meets its contract. The loop's invariant: the first i of the numbers and zeros are spelled over what was there.
+use mathlib.Core.Path.{_≡_, refl, sym, _∙_}
 use mathlib.Core.List.{_++_}
-use mathlib.Core.Path.{_≡_, sym, _∙_}
-use borrow.Author.Needs.{needs}
+use Prim.Native.Nat.{_-_, _*_, _≤_}
 use native.Mathlib.Omega.{arith}
+use lib.ListN.{length, take, drop}
+use borrow.Author.Needs.{needs}
+use Rattle.stream.specs.Writing.{spell}
+use Rattle.stream.proofs.Law.Spelling.{padded, length-padded, getD-padded, none-spelled, one-spelled, all-spelled}
 use Rattle.stream.proofs.pack.put_numbers.Statement.{statement}
 use Rattle.stream.proofs.pack.put_numbers.Tie as tie
-use Rattle.stream.proofs.pack.put_numbers.Reads as reads
-use Rattle.stream.proofs.pack.put_numbers.Lts as lts
-use Rattle.stream.proofs.pack.number_at.Reads as number-at-reads
-use Rattle.stream.proofs.pack.put_word.Reads as put-word-reads
 
 abbrev Inv-loop : tie.InvT-loop
 Inv-loop numbers count out₀ i₀ out i =
-    (i ≤ count) × (out ≡ spell (take i (numbers ++ replicate (count - length numbers) 0)) ++ drop (4 * i) out₀)
+    (i ≤ count) × (length out ≡ length out₀) × (out ≡ spell (take i (padded numbers count)) ++ drop (4 * i) out₀)
 
 abbrev μ-loop : tie.MeasureT-loop
 μ-loop numbers count out₀ i₀ out i = count - i
 
 loop-holds : tie.Need-loop-holds Inv-loop μ-loop
-loop-holds c = (omega arith, none-spelled (c .before .before .args .numbers .now ++ replicate (c .before .before .args .count - length (c .before .before .args .numbers .now)) 0) (c .before .before .args .out .now))
+loop-holds c =
+    let a = c .before .before .args in
+    (omega arith, refl, none-spelled (padded (a .numbers .now) (a .count)) (a .out .now))
 
 mul-put-word : tie.Need-mul-put-word Inv-loop μ-loop
-mul-put-word c = omega (arith, c .before .before .before .before .before .pre .1, c .before .before .before .before .before .good)
+mul-put-word c =
+    let s = c .before .before .before .before .before in
+    omega (arith, s .pre .1, s .good)
 
 number-at-requires : tie.Need-number-at-requires Inv-loop μ-loop
 number-at-requires c κs = search needs
 
 put-word-requires : tie.Need-put-word-requires Inv-loop μ-loop
-put-word-requires c κs =
-    let ns = c .before .before .before .before .before .before .args .numbers .now in
-    let count = c .before .before .before .before .before .before .args .count in
-    let base = c .before .before .before .before .before .before .args .out .now in
-    let all = ns ++ replicate (count - length ns) 0 in
-    let long = length-padded ns count (c .before .before .before .before .before .before .pre .0) in
-    let room = spelled-room all base (c .before .before .before .loop .out) (c .before .before .before .loop .i) (omega arith) (omega (arith, c .before .before .before .before .before .before .pre .1)) (c .before .before .before .loop .inv .1) in
-    omega (arith, c .before .before .before .before .before .before .pre .1)
+put-word-requires c κs = omega (arith, c .before .before .before .loop .inv .1, c .before .before .before .before .before .before .pre .1)
 
 add-i : tie.Need-add-i Inv-loop μ-loop
-add-i c = omega (arith, c .before .before .before .before .before .before .before .before .before .pre .1, c .before .before .before .before .before .before .before .before .before .good)
+add-i c =
+    let s = c .before .before .before .before .before .before .before .before .before in
+    omega (arith, s .pre .1, s .good)
 
 loop-less : tie.Need-loop-less Inv-loop μ-loop
 loop-less c = omega arith
 
 loop-again : tie.Need-loop-again Inv-loop μ-loop
 loop-again c =
-    let ns = c .before .before .before .before .before .before .before .before .before .args .numbers .now in
-    let count = c .before .before .before .before .before .before .before .before .before .args .count in
-    let base = c .before .before .before .before .before .before .before .before .before .args .out .now in
-    let all = ns ++ replicate (count - length ns) 0 in
-    let long = length-padded ns count (c .before .before .before .before .before .before .before .before .before .pre .0) in
-    let room = spelled-room all base (c .before .before .before .before .before .before .loop .out) (c .before .before .before .before .before .before .loop .i) (omega arith) (omega (arith, c .before .before .before .before .before .before .before .before .before .pre .1)) (c .before .before .before .before .before .before .loop .inv .1) in (
+    let put = c .before .before .put-word in
+    let number = c .before .before .before .number-at in
+    let l = c .before .before .before .before .before .before .loop in
+    let s = c .before .before .before .before .before .before .before .before .before in
+    let ns = s .args .numbers .now in
+    let count = s .args .count in
+    let long = length-padded ns count (s .pre .0) in (
       omega arith,
-      c .before .before .put-word .ensures
-          ∙ one-spelled all base (c .before .before .before .before .before .before .loop .out) (c .before .before .before .before .before .before .loop .i) (c .before .before .before .number-at .result) (omega arith) (c .before .before .before .number-at .ensures ∙ sym (getD-padded ns (count - length ns) (c .before .before .before .before .before .before .loop .i))) (c .before .before .before .before .before .before .loop .inv .1),
+      put .kept .0 ∙ l .inv .1,
+      put .ensures
+          ∙ one-spelled (padded ns count) (s .args .out .now) (l .out) (l .i) (number .result) (omega arith)
+          (number .ensures ∙ sym (getD-padded ns (count - length ns) (l .i))) (l .inv .2),
     )
 
 same-length : tie.Need-same-length Inv-loop μ-loop
-same-length c =
-    let ns = c .before .before .before .before .args .numbers .now in
-    let count = c .before .before .before .before .args .count in
-    let base = c .before .before .before .before .args .out .now in
-    let all = ns ++ replicate (count - length ns) 0 in
-    let long = length-padded ns count (c .before .before .before .before .pre .0) in
-    let room = spelled-room all base (c .before .loop .out) (c .before .loop .i) (omega arith) (omega (arith, c .before .before .before .before .pre .1)) (c .before .loop .inv .1) in
-    room
+same-length c = c .before .loop .inv .1
 
 returns : tie.Need-returns Inv-loop μ-loop
 returns c =
-    let ns = c .before .before .before .before .args .numbers .now in
-    let count = c .before .before .before .before .args .count in
-    let base = c .before .before .before .before .args .out .now in
-    let all = ns ++ replicate (count - length ns) 0 in
-    let long = length-padded ns count (c .before .before .before .before .pre .0) in
-    let room = spelled-room all base (c .before .loop .out) (c .before .loop .i) (omega arith) (omega (arith, c .before .before .before .before .pre .1)) (c .before .loop .inv .1) in
-    all-spelled all base (c .before .loop .out) (c .before .loop .i) count long (omega arith) (c .before .loop .inv .1)
+    let l = c .before .loop in
+    let s = c .before .before .before .before in
+    let ns = s .args .numbers .now in
+    let count = s .args .count in
+    all-spelled (padded ns count) (s .args .out .now) (l .out) (l .i) count (length-padded ns count (s .pre .0)) (omega arith) (l .inv .2)
 
 pub put-numbers-spec : {M : Type 1} → statement M
 put-numbers-spec =

@@ -1,12 +1,10 @@
 -- `stream::pack::put_word` meets its contract.
-use Rattle.stream.proofs.Law.Spelling.{four-stores}
-use lib.ListN.{length-set}
 use native.Mathlib.Omega.{arith}
+use lib.ListN.{length-set}
 use borrow.Author.Needs.{needs}
+use Rattle.stream.proofs.Law.Spelling.{four-stores}
 use Rattle.stream.proofs.pack.put_word.Statement.{statement}
 use Rattle.stream.proofs.pack.put_word.Tie as tie
-use Rattle.stream.proofs.pack.put_word.Reads as reads
-use Rattle.stream.proofs.pack.put_word.Lts as lts
 
 cast-out : tie.Need-cast-out
 cast-out c = search needs

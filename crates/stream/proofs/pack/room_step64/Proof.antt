@@ -1,23 +1,25 @@
--- `stream::pack::room_step64` meets its contract.
-use Rattle.stream.proofs.Law.Answering.{room-enough, room-short}
-use Rattle.stream.proofs.Law.Pieces.{end-most}
-use Rattle.stream.proofs.Law.Widths.{known-64}
-use Rattle.stream.specs.Writing.{endOf}
-use Rattle.stream.specs.Header.{chunksIn}
-use Rattle.stream.specs.Setting.{allowedSetting}
-use mir.Facts.{toZ-ofZ}
-use lib.IntN.{ℤ}
-use mathlib.Core.List.{[], _∷_}
-use lib.ListN.{length}
-use mathlib.Core.Path.{_≡_, sym, ap, _∙_}
+-- `stream::pack::room_step64` meets its contract: no stream is longer than `most`, and any other room is compared with the length.
+use mathlib.Core.Path.{_≡_, ap, _∙_}
 use native.Mathlib.Omega.{arith}
+use lib.IntN.{ℤ}
+use lib.ListN.{length}
+use mir.Facts.{toZ-ofZ}
 use borrow.Author.Needs.{needs}
+use Rattle.stream.specs.Setting.{allowedSetting}
+use Rattle.stream.specs.Header.{chunksIn}
+use Rattle.stream.specs.Writing.{endOf}
+use Rattle.stream.proofs.Law.Widths.{known-64}
+use Rattle.stream.proofs.Law.Pieces.{end-most}
+use Rattle.stream.proofs.Law.Answering.{room-enough, room-short}
 use Rattle.stream.proofs.pack.room_step64.Statement.{statement}
 use Rattle.stream.proofs.pack.room_step64.Tie as tie
-use Rattle.stream.proofs.pack.room_step64.Reads as reads
-use Rattle.stream.proofs.pack.room_step64.Lts as lts
-use Rattle.stream.proofs.pack.measured64.Reads as measured64-reads
-use Rattle.stream.proofs.pack.most.Reads as most-reads
+
+needed : (c : tie.After-measured64) → let a = c .before .before .before .before .args in
+    c .measured64 .result ≡ endOf 64 (a .mode) (a .k) (a .values .now) (chunksIn (length (a .values .now)))
+needed c =
+    let s = c .before .before .before .before in
+    let vs = s .args .values .now in
+    c .measured64 .ensures ∙ ap (λ (z : ℤ). endOf 64 (s .args .mode) z vs (chunksIn (length vs))) (toZ-ofZ (s .fits .k))
 
 most-requires : tie.Need-most-requires
 most-requires c κs = search needs
@@ -25,26 +27,24 @@ most-requires c κs = search needs
 returns : tie.Need-returns
 returns c =
     let a = c .before .before .before .args in
-    let vs = a .values .now in
-    let most = end-most 64 (a .mode) (a .k) vs known-64 (λ i. c .before .before .shared-slice-known .given i .fits) in
-    room-enough 64 (a .mode) (a .k) vs (a .room) (omega (arith, c .before .most .ensures (a .mode)))
+    let most = end-most 64 (a .mode) (a .k) (a .values .now) known-64 (λ i. c .before .before .shared-slice-known .given i .fits) in
+    room-enough 64 (a .mode) (a .k) (a .values .now) (a .room) (omega (arith, c .before .most .ensures (a .mode)))
 
 measured64-requires : tie.Need-measured64-requires
-measured64-requires c κs = (c .before .before .before .pre .0, ap (allowedSetting 64 (c .before .before .before .args .mode)) (toZ-ofZ (c .before .before .before .fits .k)) ∙ c .before .before .before .pre .1)
+measured64-requires c κs =
+    let s = c .before .before .before in
+    (s .pre .0, ap (allowedSetting 64 (s .args .mode)) (toZ-ofZ (s .fits .k)) ∙ s .pre .1)
 
 returns-2 : tie.Need-returns-2
 returns-2 c =
     let a = c .before .before .before .before .before .args in
-    let vs = a .values .now in
-    let is = c .before .measured64 .ensures ∙ ap (λ (z : ℤ). endOf 64 (a .mode) z vs (chunksIn (length vs))) (toZ-ofZ (c .before .before .before .before .before .fits .k)) in
-    rw is (room-short 64 (a .mode) (a .k) vs (a .room) (omega arith))
+    let is = needed (c .before) in
+    rw is (room-short 64 (a .mode) (a .k) (a .values .now) (a .room) (omega arith))
 
 returns-3 : tie.Need-returns-3
 returns-3 c =
     let a = c .before .before .before .before .before .args in
-    let vs = a .values .now in
-    let is = c .before .measured64 .ensures ∙ ap (λ (z : ℤ). endOf 64 (a .mode) z vs (chunksIn (length vs))) (toZ-ofZ (c .before .before .before .before .before .fits .k)) in
-    room-enough 64 (a .mode) (a .k) vs (a .room) (omega arith)
+    room-enough 64 (a .mode) (a .k) (a .values .now) (a .room) (omega (arith, needed (c .before)))
 
 pub room-step64-spec : {M : Type 1} → statement M
 room-step64-spec =
