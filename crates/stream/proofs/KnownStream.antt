@@ -4,6 +4,7 @@ use mathlib.Core.Path.{_≡_, refl}
 use Prim.Native.Nat.{ℕ}
 use mathlib.Core.List.{List, [], _∷_, _++_}
 use lib.IntN.{pos}
+use lib.ListN.{length, replicate}
 use lib.Ieee.{size}
 use Rattle.numbers.specs.Signed.{signedView, folded, unfolded, bitsOf}
 use Rattle.numbers.specs.Lossless.{rotated, field, minus, lowered, stepped, losslessCode, plus, raised, unstepped, unrotated, losslessRestored}
@@ -36,3 +37,11 @@ checked-known = refl
 pub unpacked-known : unpackOut 32 10 theirBytes (7 ∷ 7 ∷ 7 ∷ 7 ∷ []) ≡ threeValues ++ (7 ∷ [])
 unfolding size signedView folded unfolded bitsOf number digits plus raised unstepped unrotated losslessRestored field bytesFor largest widthOf givenWidth groupLength groupNumber groupCodes within goodGroup knownLevel knownWidth fractionBits widthNeed modeNeed need isZero allowedSetting binFor groupSize limitOf patternAt patternsOf groupsIn firstFault chunkAnswer groupsCodes chunkCodes first answer after word headerOf kOf binIn chunksIn tooMany needRight settingRight layoutRight every startAt startRight chunkTableRight partAt sideTableRight joined countOf chunkOf chunkState chunkValues valuesIn values spell headerRows openingRows tableRows faultDetail faultRow rowsFrom chunkRow chunkRows contentRows widthRow roomRow unpackRows unpackOut threeValues theirBytes
 unpacked-known = refl
+
+-- "Lengths at level 8, mode 0: no values, 48 bytes; 1,024 zeros, 84; 1,025 values have two chunks."
+pub lengths : List ℕ
+lengths = length (stream 32 8 0 (pos 0) []) ∷ length (stream 32 8 0 (pos 0) (replicate 1024 0)) ∷ chunksIn 1025 ∷ []
+
+pub lengths-known : lengths ≡ 48 ∷ 84 ∷ 2 ∷ []
+unfolding lengths stream body spell headerNumbers startsOf endOf dataOf joined pieceBytes piece chunksIn need widthNeed modeNeed bitsOf binFor groupSize chunkBytes groupsBytes groupsIn codesOf codeAt fractionBits losslessCode rotated stepped lowered minus field signedView folded groupBytes widthOf largest packed bytesFor digits number size
+lengths-known = refl

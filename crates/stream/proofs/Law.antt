@@ -37,6 +37,7 @@ pub mod Counts
 pub mod Accepted
 pub mod Landing
 pub mod Shown
+pub mod ShownNumber
 pub mod Refused
 pub mod Agreed
 pub mod Elsewhere
@@ -54,3 +55,7 @@ pub mod Tabled
 pub mod Sided
 pub mod Returning
 pub mod Admitted
+--   ListingText, Listing: the listing's text, piece by piece; ListingKnown: document 01's own listing, computed
+pub mod ListingText
+pub mod Listing
+pub mod ListingKnown

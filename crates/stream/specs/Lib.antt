@@ -15,5 +15,6 @@ pub mod Writing
 pub mod Packing
 pub mod Probe
 pub mod Operations
+pub mod Listing
 pub mod Relied
 pub mod Theorem

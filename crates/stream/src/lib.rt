@@ -4,6 +4,7 @@ mod chunk;
 mod chunks;
 mod group;
 mod header;
+pub mod listing;
 pub mod pack;
 pub mod probe;
 pub mod reading;

@@ -18,9 +18,8 @@ use Rattle.stream.specs.declared.answers.Answer.the-variants.{Done, Refu
 use Rattle.stream.specs.declared.answers.Step.the-variants.{Pass, Stop}
 use Rattle.stream.proofs.Law.Truth.{or-false}
 use Rattle.stream.proofs.Law.Order.{opened, shut, passed-both, not-given}
-use Rattle.stream.proofs.Law.Joining.{length-singles}
 use Rattle.stream.proofs.Law.Spelling.{length-spell}
-use Rattle.stream.proofs.Law.Pieces.{end-is}
+use Rattle.stream.proofs.Law.Pieces.{length-front, end-is}
 
 -- ---- rows 1 2 3
 
@@ -69,14 +68,14 @@ module _ (W mode : ℕ) (k : ℤ) (vs : List ℕ) (room : ℕ) where
 
 module _ (W level mode : ℕ) (k : ℤ) (vs : List ℕ) where
   pub length-body : (sides : ℕ) → length (body W level mode k vs sides) ≡ endOf W mode k vs (chunksIn (length vs))
-  unfolding body headerNumbers startsOf
+  unfolding body
   length-body sides =
       let c = chunksIn (length vs) in
       let header = headerNumbers W level mode k (length vs) sides (endOf W mode k vs c) in
       length-append (spell (header ++ startsOf W mode k vs c)) (dataOf W mode k vs c)
       ∙ ap (λ (n : ℕ). n + length (dataOf W mode k vs c))
       (length-spell (header ++ startsOf W mode k vs c)
-      ∙ ap (λ (n : ℕ). 4 * n) (length-append header (startsOf W mode k vs c) ∙ ap (λ (n : ℕ). 12 + n) (length-singles (λ i. length (dataOf W mode k vs i)) c))
+      ∙ ap (λ (n : ℕ). 4 * n) (length-front W mode k vs level (length vs) sides (endOf W mode k vs c) c)
       ∙ (let e : 4 * (12 + c) ≡ 48 + 4 * c = omega arith in e))
       ∙ end-is W mode k vs c
 

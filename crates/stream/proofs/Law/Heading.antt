@@ -1,6 +1,6 @@
 -- The header of a written stream, with any side parts behind its data: read back, its numbers are those that were written, and keep every
 -- rule of refusal 8.
-use mathlib.Core.Path.{_≡_, refl, ap, _∙_}
+use mathlib.Core.Path.{_≡_, refl}
 use mathlib.Core.Bool.{Bool, true, false, cond}
 use mathlib.Core.List.{List, [], _∷_, _++_}
 use Prim.Native.Nat.{ℕ, zero, suc, _+_, _*_, _^_, _≤_, _<_, max}
@@ -8,7 +8,7 @@ use native.Mathlib.Omega.{arith}
 use borrow.Author.Tests.{leb-true, le-ltb, le-leb, eq-eqb}
 use lib.Dec.{eqb, leb, lit<, lit≤}
 use lib.IntN.{ℤ}
-use lib.ListN.{length, getD, length-append}
+use lib.ListN.{length, getD}
 use Rattle.numbers.specs.Signed.{bitsOf}
 use Rattle.stream.specs.Bytes.{Below}
 use Rattle.stream.specs.Setting.{knownLevel, widthNeed, modeNeed, need}
@@ -23,7 +23,7 @@ use Rattle.stream.proofs.Law.Widths.{need-small}
 use Rattle.stream.proofs.Law.Exponents.{exponent-bits, exponent-back}
 use Rattle.stream.proofs.Law.Joining.{length-singles, singles-at}
 use Rattle.stream.proofs.Law.Spelling.{word-spelled}
-use Rattle.stream.proofs.Law.Pieces.{end-is, end-grows, end-small}
+use Rattle.stream.proofs.Law.Pieces.{length-front, end-is, end-grows, end-small}
 
 -- the header of a list's stream with so many side parts
 abbrev pub headerFor : ℕ → ℕ → ℕ → ℤ → List ℕ → ℕ → Header
@@ -75,10 +75,7 @@ module _ (W level mode : ℕ) (k : ℤ) (vs : List ℕ) where
   frontNumbers sides = headerNumbers W level mode k (length vs) sides end ++ startsOf W mode k vs chunks
 
   pub length-numbers : (sides : ℕ) → length (frontNumbers sides) ≡ 12 + chunks
-  unfolding headerNumbers startsOf
-  length-numbers sides =
-      length-append (headerNumbers W level mode k (length vs) sides end) (startsOf W mode k vs chunks)
-      ∙ ap (λ (n : ℕ). 12 + n) (length-singles (λ j. length (dataOf W mode k vs j)) chunks)
+  length-numbers sides = length-front W mode k vs level (length vs) sides end chunks
 
   module _ (p : Packable W level mode k vs) (sides : ℕ) (few : sides ≤ 64) where
     end-below : end < 2 ^ 24

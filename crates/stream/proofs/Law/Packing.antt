@@ -16,9 +16,8 @@ use Rattle.stream.specs.Header.{chunksIn}
 use Rattle.stream.specs.Stream.{joined}
 use Rattle.stream.specs.Writing.{spell, pieceBytes, dataOf, startsOf, headerNumbers, endOf, body, stream, unfinished}
 use Rattle.stream.proofs.Law.Appending.{Appended, one-piece, all-there}
-use Rattle.stream.proofs.Law.Joining.{length-singles}
 use Rattle.stream.proofs.Law.Spelling.{length-spell, spell-put}
-use Rattle.stream.proofs.Law.Pieces.{data-next, end-is, end-next, end-grows, end-start, end-small}
+use Rattle.stream.proofs.Law.Pieces.{length-front, data-next, end-is, end-next, end-grows, end-start, end-small}
 
 -- a piece written into the part behind P
 piece-put : (P Y piece ys : List ℕ) (at r : ℕ) → length P ≡ at → length piece ≤ length Y → r ≡ length piece
@@ -79,13 +78,9 @@ module _ (W level mode : ℕ) (k : ℤ) (vs base : List ℕ) where
   abbrev front : ℕ → List ℕ
   front j = headerNumbers W level mode k (length vs) 0 0 ++ startsOf W mode k vs j
 
-  length-front : (j : ℕ) → length (front j) ≡ 12 + j
-  unfolding headerNumbers startsOf
-  length-front j = length-append (headerNumbers W level mode k (length vs) 0 0) (startsOf W mode k vs j) ∙ ap (λ (n : ℕ). 12 + n) (length-singles (λ i. length (dataOf W mode k vs i)) j)
-
   length-numbers : (j : ℕ) → j ≤ chunks → length (front j ++ replicate (chunks - j) 0) ≡ 12 + chunks
   length-numbers j h =
-      length-append (front j) (replicate (chunks - j) 0) ∙ ap₂ _+_ (length-front j) (length-replicate (chunks - j) 0)
+      length-append (front j) (replicate (chunks - j) 0) ∙ ap₂ _+_ (length-front W mode k vs level (length vs) 0 0 j) (length-replicate (chunks - j) 0)
       ∙ (let e : 12 + j + (chunks - j) ≡ 12 + chunks = omega arith in e)
 
   -- before the first chunk
@@ -123,7 +118,7 @@ module _ (W level mode : ℕ) (k : ℤ) (vs base : List ℕ) where
         (out-is
         ∙ append-assoc (spell (front j ++ replicate (chunks - j) 0)) (dataOf W mode k vs j) (drop (endOf W mode k vs j) base)
         ∙ ap (λ (m : ℕ). spell (front j ++ replicate m 0) ++ behind) (let q : chunks - j ≡ suc (chunks - (j + 1)) = omega arith in q))
-        ∙ spell-put (front j) zeros behind at (e ∙ (let q : 48 + 4 * j ≡ 4 * length (front j) = omega (arith, length-front j) in q)) 0 n
+        ∙ spell-put (front j) zeros behind at (e ∙ (let q : 48 + 4 * j ≡ 4 * length (front j) = omega (arith, length-front W mode k vs level (length vs) 0 0 j) in q)) 0 n
         ∙ ap (λ (l : List ℕ). spell l ++ behind) (ap (λ (m : ℕ). front j ++ m ∷ zeros) is ∙ numbers-next)
         ∙ sym (append-assoc (spell (front (j + 1) ++ zeros)) (dataOf W mode k vs j) (drop (endOf W mode k vs j) base))
 

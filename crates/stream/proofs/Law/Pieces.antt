@@ -8,19 +8,19 @@ use native.Mathlib.Numerals.{add-one}
 use native.Mathlib.Omega.{arith}
 use lib.Dec.{lit<}
 use lib.IntN.{ℤ}
-use lib.ListN.{length, take, drop, length-take, length-drop}
+use lib.ListN.{length, take, drop, length-append, length-take, length-drop}
 use lib.Seq.{take-all, take-add}
 use Rattle.stream.specs.Bytes.{Below}
 use Rattle.stream.specs.Setting.{knownWidth, binFor, groupSize, codesOf}
 use Rattle.stream.specs.Chunk.{groupsIn, chunkBytes}
 use Rattle.stream.specs.Header.{chunksIn}
 use Rattle.stream.specs.Stream.{joined}
-use Rattle.stream.specs.Writing.{piece, pieceBytes, dataOf, endOf}
+use Rattle.stream.specs.Writing.{piece, pieceBytes, dataOf, startsOf, headerNumbers, endOf}
 use Rattle.stream.specs.Packing.{mostBytes}
 use Rattle.stream.proofs.Law.Bytes.{below-take, below-drop}
 use Rattle.stream.proofs.Law.Stepping.{take-there, bytes-small}
 use Rattle.stream.proofs.Law.Widths.{width-bytes}
-use Rattle.stream.proofs.Law.Joining.{length-joined, joined-grows}
+use Rattle.stream.proofs.Law.Joining.{length-joined, joined-grows, length-singles}
 
 -- ---- the pieces
 
@@ -75,6 +75,13 @@ module _ (W mode : ℕ) (k : ℤ) (vs : List ℕ) where
   pub end-grows : (i j : ℕ) → i ≤ j → endOf W mode k vs i ≤ endOf W mode k vs j
   unfolding endOf dataOf
   end-grows i j h = let l = joined-grows (pieceBytes W mode k vs) i j h in omega arith
+
+  -- the numbers of the header and of the first j starts
+  pub length-front : (level n sides end j : ℕ) → length (headerNumbers W level mode k n sides end ++ startsOf W mode k vs j) ≡ 12 + j
+  unfolding headerNumbers startsOf
+  length-front level n sides end j =
+      length-append (headerNumbers W level mode k n sides end) (startsOf W mode k vs j)
+      ∙ ap (λ (m : ℕ). 12 + m) (length-singles (λ i. length (dataOf W mode k vs i)) j)
 
   pub end-is : (j : ℕ) → 48 + 4 * chunksIn (length vs) + length (dataOf W mode k vs j) ≡ endOf W mode k vs j
   unfolding endOf

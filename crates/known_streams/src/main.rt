@@ -1,0 +1,136 @@
+// The known values of document 01 that concern streams, run through the operations; `stdout` beside this folder has what they should be.
+use libc::STDOUT_FILENO;
+use stream::answers::Answer;
+use stream::answers::Probe32;
+use stream::pack;
+use stream::probe;
+use stream::reading;
+
+fn text(t: &[u8]) {
+    io::write_all(STDOUT_FILENO, t);
+}
+
+fn number(n: usize) {
+    text(b" ");
+    io::print_decimal(STDOUT_FILENO, n as u64);
+}
+
+fn told(what: &[u8], answer: Answer) {
+    text(what);
+    match answer {
+        Answer::Done(n) => number(n),
+        Answer::Refused(number_of, detail) => {
+            text(b" refused");
+            number(number_of);
+            text(b" detail");
+            number(detail);
+        }
+    }
+    text(b"\n");
+}
+
+fn shown(what: &[u8], answer: Probe32) {
+    text(what);
+    match answer {
+        Probe32::Finite(_) => text(b" finite"),
+        Probe32::Infinity(_) => text(b" infinity"),
+        Probe32::NotANumber(p) => {
+            text(b" not a number ");
+            io::print_hex(STDOUT_FILENO, p as u64, 8);
+        }
+        Probe32::Refused(number_of, detail) => {
+            text(b" refused");
+            number(number_of);
+            text(b" detail");
+            number(detail);
+        }
+    }
+    text(b"\n");
+}
+
+fn bytes(b: &[u8]) {
+    let mut i: usize = 0;
+    while i < b.len() {
+        text(b" ");
+        io::print_hex(STDOUT_FILENO, b[i] as u64, 2);
+        i += 1;
+    }
+    text(b"\n");
+}
+
+fn patterns(v: &[u32]) {
+    let mut i: usize = 0;
+    while i < v.len() {
+        text(b" ");
+        io::print_hex(STDOUT_FILENO, v[i] as u64, 8);
+        i += 1;
+    }
+    text(b"\n");
+}
+
+// "The list 0, -0, 2^-149, packed at level 8, mode 0, is 55 bytes", and what each operation says of them.
+fn example() {
+    let list: [u32; 3] = [0, 0x8000_0000, 1];
+    let mut out: [u8; 55] = [0xAA; 55];
+    told(b"example packed", pack::pack32(8, 0, 0, &list, &mut out));
+    text(b"example bytes");
+    bytes(&out);
+    told(b"example checked", reading::check(8, &out));
+    let mut back: [u32; 4] = [7; 4];
+    told(b"example unpacked", reading::unpack32(8, &out, &mut back));
+    text(b"example values");
+    patterns(&back);
+    shown(b"example probed", probe::probe32(8, &out, 2));
+    shown(b"example probed past its end", probe::probe32(8, &out, 3));
+    told(b"example cut", reading::check(8, &out[..54]));
+    let mut short: [u8; 54] = [0xAA; 54];
+    told(
+        b"example in 54 bytes",
+        pack::pack32(8, 0, 0, &list, &mut short),
+    );
+}
+
+// "Lengths at level 8, mode 0: no values, 48 bytes; 1,024 zeros, 84; 1,025 values have two chunks."
+fn lengths() {
+    let zeros: [u32; 1025] = [0; 1025];
+    told(b"no values", pack::length32(8, 0, 0, &zeros[..0]));
+    told(b"1024 zeros", pack::length32(8, 0, 0, &zeros[..1024]));
+    let mut out: [u8; 90] = [0; 90];
+    told(b"1025 zeros", pack::pack32(8, 0, 0, &zeros, &mut out));
+    text(b"1025 zeros, chunks and starts");
+    bytes(&out[28..32]);
+    bytes(&out[48..56]);
+}
+
+// "u = 905969663 is read, 905969664 refused 10", at k = -2: that of the last not-a-number, and one more.
+fn largest_u() {
+    let list: [u32; 1] = [0x7FFF_FFFF];
+    let mut out: [u8; 57] = [0; 57];
+    told(b"largest u packed", pack::pack32(9, 1, -2, &list, &mut out));
+    told(b"largest u checked", reading::check(9, &out));
+    shown(b"largest u probed", probe::probe32(9, &out, 0));
+    told(b"largest u at level 8", reading::check(8, &out));
+    out[53] = 0x00;
+    out[54] = 0x00;
+    out[55] = 0x00;
+    out[56] = 0x6C;
+    told(b"one more checked", reading::check(9, &out));
+    shown(b"one more probed", probe::probe32(9, &out, 0));
+}
+
+// "1,048,576 values pass, one more is 3."
+fn limit() {
+    let zeros: [u32; 1048577] = [0; 1048577];
+    told(
+        b"1048576 values",
+        pack::length32(8, 0, 0, &zeros[..1048576]),
+    );
+    told(b"1048577 values", pack::length32(8, 0, 0, &zeros));
+}
+
+fn main() {
+    example();
+    lengths();
+    largest_u();
+    limit();
+}
