@@ -1,7 +1,7 @@
 -- An exported operation returns one number of 64 bits: "refusal number · 2^32 + detail, or 0 · 2^32 + answer (k in two's complement of 32
 -- bits)". What is lent for a second answer is written on success alone.
 use Prim.Native.Nat.{ℕ, _+_, _*_, _%_, _^_}
-use mathlib.Core.Bool.{cond}
+use mathlib.Core.Bool.{Bool, cond}
 use lib.Ieee.{binary32, binary64, toBits}
 use Rattle.stream.specs.Rows.{answerNumber, answerDetail}
 use Rattle.stream.specs.declared.answers.Answer.{Answer}
@@ -29,6 +29,9 @@ answerResult a = result (answerNumber a) (answerDetail a)
 
 -- ---- probe: the answer is 0 at a finite number, 1 at an infinity, 2 at a not-a-number; the pattern is lent
 
+unfoldable pub infinity32 : Bool → ℕ
+infinity32 negative = cond negative 0xFF800000 0x7F800000
+
 unfoldable pub probeResult32 : Probe32 → ℕ
 probeResult32 (p32.Finite x) = result 0 0
 probeResult32 (p32.Infinity negative) = result 0 1
@@ -37,9 +40,12 @@ probeResult32 (p32.Refused number detail) = result number detail
 
 unfoldable pub probeOut32 : Probe32 → ℕ → ℕ
 probeOut32 (p32.Finite x) old = toBits binary32 x
-probeOut32 (p32.Infinity negative) old = cond negative 0xFF800000 0x7F800000
+probeOut32 (p32.Infinity negative) old = infinity32 negative
 probeOut32 (p32.NotANumber p) old = p
 probeOut32 (p32.Refused number detail) old = old
+
+unfoldable pub infinity64 : Bool → ℕ
+infinity64 negative = cond negative 0xFFF0000000000000 0x7FF0000000000000
 
 unfoldable pub probeResult64 : Probe64 → ℕ
 probeResult64 (p64.Finite x) = result 0 0
@@ -49,7 +55,7 @@ probeResult64 (p64.Refused number detail) = result number detail
 
 unfoldable pub probeOut64 : Probe64 → ℕ → ℕ
 probeOut64 (p64.Finite x) old = toBits binary64 x
-probeOut64 (p64.Infinity negative) old = cond negative 0xFFF0000000000000 0x7FF0000000000000
+probeOut64 (p64.Infinity negative) old = infinity64 negative
 probeOut64 (p64.NotANumber p) old = p
 probeOut64 (p64.Refused number detail) old = old
 

@@ -2,7 +2,7 @@
 ghost use mathlib.Core.Path.{_≡_};
 ghost use lib.ListN.{length};
 ghost use Rattle.stream.specs.Operations.{lengthAnswer, packAnswer, packOut, unpackAnswer, unpackOut, checkAnswer, probeAnswer32, probeAnswer64};
-ghost use Rattle.exports.specs.Result.{answerResult, probeResult32, probeOut32, probeResult64, probeOut64};
+ghost use Rattle.exports.specs.Result.{answerResult, infinity32, probeResult32, probeOut32, infinity64, probeResult64, probeOut64};
 use crate::result;
 use stream::answers::Probe32;
 use stream::answers::Probe64;
@@ -40,6 +40,13 @@ pub extern "C" fn gwz_unpack32(level: u32, bytes: &[u8], out: &mut [u32]) -> u64
     result::result_of_answer(reading::unpack32(level, bytes, out))
 }
 
+// The pattern of an infinity.
+fn infinity32(negative: bool) -> u32
+    ensures { λ p. ⌜ p ≡ infinity32 negative ⌝ }
+{
+    if negative { 0xFF80_0000 } else { 0x7F80_0000 }
+}
+
 // The answer says what kind of value it is, and the pattern goes through the pointer; a refusal leaves it as it was.
 #[no_mangle]
 pub extern "C" fn gwz_probe32(level: u32, bytes: &[u8], index: u64, pattern: &mut u32) -> u64
@@ -53,7 +60,7 @@ pub extern "C" fn gwz_probe32(level: u32, bytes: &[u8], index: u64, pattern: &mu
             result::result_of(0, 0)
         }
         Probe32::Infinity(negative) => {
-            *pattern = if negative { 0xFF80_0000 } else { 0x7F80_0000 };
+            *pattern = infinity32(negative);
             result::result_of(0, 1)
         }
         Probe32::NotANumber(p) => {
@@ -87,6 +94,17 @@ pub extern "C" fn gwz_unpack64(level: u32, bytes: &[u8], out: &mut [u64]) -> u64
     result::result_of_answer(reading::unpack64(level, bytes, out))
 }
 
+// The pattern of an infinity.
+fn infinity64(negative: bool) -> u64
+    ensures { λ p. ⌜ p ≡ infinity64 negative ⌝ }
+{
+    if negative {
+        0xFFF0_0000_0000_0000
+    } else {
+        0x7FF0_0000_0000_0000
+    }
+}
+
 // The answer says what kind of value it is, and the pattern goes through the pointer; a refusal leaves it as it was.
 #[no_mangle]
 pub extern "C" fn gwz_probe64(level: u32, bytes: &[u8], index: u64, pattern: &mut u64) -> u64
@@ -100,11 +118,7 @@ pub extern "C" fn gwz_probe64(level: u32, bytes: &[u8], index: u64, pattern: &mu
             result::result_of(0, 0)
         }
         Probe64::Infinity(negative) => {
-            *pattern = if negative {
-                0xFFF0_0000_0000_0000
-            } else {
-                0x7FF0_0000_0000_0000
-            };
+            *pattern = infinity64(negative);
             result::result_of(0, 1)
         }
         Probe64::NotANumber(p) => {
