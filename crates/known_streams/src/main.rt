@@ -1,0 +1,316 @@
+// The known values of document 01 that concern streams, run through the operations; `stdout` beside this folder has what they should be.
+use libc::STDOUT_FILENO;
+use stream::answers::Answer;
+use stream::answers::Probe32;
+use stream::pack;
+use stream::probe;
+use stream::reading;
+
+fn text(t: &[u8]) {
+    io::write_all(STDOUT_FILENO, t);
+}
+
+fn number(n: usize) {
+    text(b" ");
+    io::print_decimal(STDOUT_FILENO, n as u64);
+}
+
+fn told(what: &[u8], answer: Answer) {
+    text(what);
+    match answer {
+        Answer::Done(n) => number(n),
+        Answer::Refused(number_of, detail) => {
+            text(b" refused");
+            number(number_of);
+            text(b" detail");
+            number(detail);
+        }
+    }
+    text(b"\n");
+}
+
+fn shown(what: &[u8], answer: Probe32) {
+    text(what);
+    match answer {
+        Probe32::Finite(_) => text(b" finite"),
+        Probe32::Infinity(_) => text(b" infinity"),
+        Probe32::NotANumber(p) => {
+            text(b" not a number ");
+            io::print_hex(STDOUT_FILENO, p as u64, 8);
+        }
+        Probe32::Refused(number_of, detail) => {
+            text(b" refused");
+            number(number_of);
+            text(b" detail");
+            number(detail);
+        }
+    }
+    text(b"\n");
+}
+
+fn pattern(p: u32) {
+    text(b" ");
+    io::print_hex(STDOUT_FILENO, p as u64, 8);
+}
+
+// "The list 0, -0, 2^-149, packed at level 8, mode 0, is 55 bytes", and what each operation says of them.
+fn example() {
+    let list: [u32; 3] = [0, 0x8000_0000, 1];
+    let mut out: [u8; 55] = [0xAA; 55];
+    told(b"example packed", pack::pack32(8, 0, 0, &list, &mut out));
+    text(b"example bytes ");
+    text(&out);
+    text(b"\n");
+}
+
+fn example_too_short() {
+    let list: [u32; 3] = [0, 0x8000_0000, 1];
+    let mut short: [u8; 54] = [0x2E; 54];
+    told(
+        b"example in 54 bytes",
+        pack::pack32(8, 0, 0, &list, &mut short),
+    );
+    text(b"left as it was ");
+    text(&short);
+    text(b"\n");
+}
+
+// The same bytes read: "the numbers 1 8 8 32 0 0 3 1 48 52 0 55, the table 0, then bytes 03 10 01".
+fn example_read() {
+    let stream: [u8; 55] = [
+        1,
+        0,
+        0,
+        0,
+        8,
+        0,
+        0,
+        0,
+        8,
+        0,
+        0,
+        0,
+        32,
+        0,
+        0,
+        0,
+        0,
+        0,
+        0,
+        0,
+        0,
+        0,
+        0,
+        0,
+        3,
+        0,
+        0,
+        0,
+        1,
+        0,
+        0,
+        0,
+        48,
+        0,
+        0,
+        0,
+        52,
+        0,
+        0,
+        0,
+        0,
+        0,
+        0,
+        0,
+        55,
+        0,
+        0,
+        0,
+        0,
+        0,
+        0,
+        0,
+        3,
+        16,
+        1,
+    ];
+    told(b"example checked", reading::check(8, &stream));
+    shown(b"example probed", probe::probe32(8, &stream, 2));
+    shown(
+        b"example probed past its end",
+        probe::probe32(8, &stream, 3),
+    );
+    told(b"example cut", reading::check(8, &stream[..54]));
+    let mut back: [u32; 4] = [7; 4];
+    told(
+        b"example unpacked",
+        reading::unpack32(8, &stream, &mut back),
+    );
+    text(b"example values");
+    pattern(back[0]);
+    pattern(back[1]);
+    pattern(back[2]);
+    pattern(back[3]);
+    text(b"\n");
+}
+
+// "Lengths at level 8, mode 0: no values, 48 bytes; 1,024 zeros, 84; 1,025 values have two chunks."
+fn lengths() {
+    let zeros: [u32; 1025] = [0; 1025];
+    told(b"no values", pack::length32(8, 0, 0, &zeros[..0]));
+    told(b"1024 zeros", pack::length32(8, 0, 0, &zeros[..1024]));
+    let mut out: [u8; 89] = [0; 89];
+    told(b"1025 zeros", pack::pack32(8, 0, 0, &zeros, &mut out));
+    text(b"1025 zeros, bytes ");
+    text(&out);
+    text(b"\n");
+}
+
+// "u = 905969663 is read, 905969664 refused 10", at k = -2: that of the last not-a-number, and one more.
+fn largest_u() {
+    let list: [u32; 1] = [0x7FFF_FFFF];
+    let mut out: [u8; 57] = [0; 57];
+    told(b"largest u packed", pack::pack32(9, 1, -2, &list, &mut out));
+    text(b"largest u bytes ");
+    text(&out);
+    text(b"\n");
+}
+
+fn largest_u_read() {
+    let stream: [u8; 57] = [
+        1,
+        0,
+        0,
+        0,
+        9,
+        0,
+        0,
+        0,
+        9,
+        0,
+        0,
+        0,
+        32,
+        0,
+        0,
+        0,
+        1,
+        0,
+        0,
+        0,
+        254,
+        255,
+        255,
+        255,
+        1,
+        0,
+        0,
+        0,
+        1,
+        0,
+        0,
+        0,
+        48,
+        0,
+        0,
+        0,
+        52,
+        0,
+        0,
+        0,
+        0,
+        0,
+        0,
+        0,
+        57,
+        0,
+        0,
+        0,
+        0,
+        0,
+        0,
+        0,
+        31,
+        0xFE,
+        0xFF,
+        0xFF,
+        0x6B,
+    ];
+    told(b"largest u checked", reading::check(9, &stream));
+    shown(b"largest u probed", probe::probe32(9, &stream, 0));
+    told(b"largest u at level 8", reading::check(8, &stream));
+}
+
+fn one_more_read() {
+    let stream: [u8; 57] = [
+        1,
+        0,
+        0,
+        0,
+        9,
+        0,
+        0,
+        0,
+        9,
+        0,
+        0,
+        0,
+        32,
+        0,
+        0,
+        0,
+        1,
+        0,
+        0,
+        0,
+        254,
+        255,
+        255,
+        255,
+        1,
+        0,
+        0,
+        0,
+        1,
+        0,
+        0,
+        0,
+        48,
+        0,
+        0,
+        0,
+        52,
+        0,
+        0,
+        0,
+        0,
+        0,
+        0,
+        0,
+        57,
+        0,
+        0,
+        0,
+        0,
+        0,
+        0,
+        0,
+        31,
+        0x00,
+        0x00,
+        0x00,
+        0x6C,
+    ];
+    told(b"one more checked", reading::check(9, &stream));
+    shown(b"one more probed", probe::probe32(9, &stream, 0));
+}
+
+fn main() {
+    example();
+    example_too_short();
+    example_read();
+    lengths();
+    largest_u();
+    largest_u_read();
+    one_more_read();
+}
