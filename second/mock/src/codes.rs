@@ -1,0 +1,92 @@
+//! The lower library, with the faults of the codes and of bound.
+
+use crate::faults::{planted, Fault};
+use second::numbers::{self, Tolerance, Width, WIDTH_64};
+use second::Refusal;
+
+pub fn lossless_code(width: Width, pattern: u64) -> u64 {
+    let two = (width.greatest_field().div_ceil(2)) << width.fraction_bits();
+    if planted(Fault::one_subtraction) && pattern == two {
+        return 0;
+    }
+    numbers::lossless_code(width, pattern)
+}
+
+pub fn lossless_restored(width: Width, code: u64) -> u64 {
+    numbers::lossless_pattern(width, code)
+}
+
+pub fn tolerance_code(t: Tolerance, pattern: u64) -> u64 {
+    let code = t.code(pattern);
+    if planted(Fault::nan_quantized) && is_nan(t.width(), pattern) {
+        return code % 2;
+    }
+    if planted(Fault::half_to_even) && is_half(t, pattern) && code / 2 % 2 == 1 {
+        return code - 2;
+    }
+    if planted(Fault::half_added_in_floats) && just_below_first_half(t, pattern) {
+        return code + 2;
+    }
+    code
+}
+
+pub fn tolerance_restored(t: Tolerance, code: u64) -> Result<u64, Refusal> {
+    let largest = t.largest_magnitude_code();
+    if is_refused_code(t, code) {
+        return Err(Refusal::bare(10));
+    }
+    if planted(Fault::past_largest_u_read) && code / 2 == largest + 1 {
+        return Ok(0);
+    }
+    let restored = t.restored(code).ok_or(Refusal::bare(10));
+    restored.map(|pattern| restored_pattern(t.width(), pattern))
+}
+
+/// Whether a planted fault refuses the code although it is allowed.
+pub fn is_refused_code(t: Tolerance, code: u64) -> bool {
+    let u = code / 2;
+    planted(Fault::code_2m_refused) && u == 1 << t.width().fraction_bits()
+        || planted(Fault::largest_u_refused) && u == t.largest_magnitude_code()
+}
+
+/// What a planted fault makes of a restored pattern.
+pub fn restored_pattern(width: Width, pattern: u64) -> u64 {
+    if planted(Fault::minus_zero_lost) && width.ordinal(pattern) == 0 {
+        0
+    } else {
+        pattern
+    }
+}
+
+pub fn is_nan(width: Width, pattern: u64) -> bool {
+    width.ordinal(pattern) > width.greatest_field() << width.fraction_bits()
+}
+
+/// Whether the value lies in the middle between two bins: it is the first
+/// pattern of its bin, and below the bin's own value.
+fn is_half(t: Tolerance, pattern: u64) -> bool {
+    let code = t.code(pattern);
+    t.width().ordinal(pattern) < t.threshold_ordinal()
+        && code >= 2
+        && t.code(pattern - 1) == code - 2
+        && t.restored(code) != Some(pattern)
+}
+
+fn just_below_first_half(t: Tolerance, pattern: u64) -> bool {
+    t.code(pattern) < 2 && t.code(pattern + 1) == t.code(pattern) + 2
+}
+
+pub fn bound(width: u32, tolerance: u64) -> Result<i32, Refusal> {
+    let answer = numbers::bound(width, tolerance);
+    if planted(Fault::order_12_before_2) && answer == Err(Refusal::bare(2)) {
+        return numbers::bound(32, tolerance).and(answer);
+    }
+    let fraction = tolerance % (1 << WIDTH_64.fraction_bits());
+    if planted(Fault::bound_rounds_up) && fraction != 0 {
+        return answer.map(|k| (k + 1).min(if width == 32 { 103 } else { 970 }));
+    }
+    if planted(Fault::bound_without_subnormals) && answer.is_ok() && tolerance < 1 << 52 {
+        return Err(Refusal::bare(12));
+    }
+    answer
+}

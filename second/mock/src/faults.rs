@@ -1,0 +1,131 @@
+//! The faults that can be planted, and which one is.
+
+use std::sync::OnceLock;
+
+macro_rules! faults {
+    ($($(#[$doc:meta])* $name:ident,)*) => {
+        #[allow(non_camel_case_types)]
+        #[derive(Clone, Copy, PartialEq, Eq)]
+        pub enum Fault {
+            $($(#[$doc])* $name,)*
+        }
+
+        const FAULTS: &[(&str, Fault)] = &[$((stringify!($name), Fault::$name),)*];
+    };
+}
+
+faults! {
+    // The codes.
+    /// A half goes to the even bin.
+    half_to_even,
+    /// 0.5 is added to v/E as floats, and the sum cut.
+    half_added_in_floats,
+    /// A not-a-number is quantized.
+    nan_quantized,
+    /// The second subtraction forgotten for exponent 128: 2.0 is zero.
+    one_subtraction,
+    /// -0 is restored as 0.
+    minus_zero_lost,
+    /// u = 2^m is refused.
+    code_2m_refused,
+    /// The largest u is refused.
+    largest_u_refused,
+    /// The u above the largest is read by the lower library.
+    past_largest_u_read,
+    /// The least k is refused.
+    least_k_refused,
+    /// Bound answers the k whose power is not below the tolerance.
+    bound_rounds_up,
+    /// Bound takes subnormal tolerances for 0.
+    bound_without_subnormals,
+    /// Bound looks at the tolerance before the width.
+    order_12_before_2,
+
+    // Pack and length.
+    /// Refusal 4 has the room as its detail.
+    detail_of_4,
+    /// The written minor is 10 at any level.
+    written_is_10,
+    /// The needed minor is the level.
+    need_is_level,
+    /// 1,048,576 values are refused.
+    limit_one_less,
+    /// Too many values are refused before the setting.
+    order_3_before_2,
+    /// A short room is refused before too many values.
+    order_4_before_3,
+
+    // Reading.
+    /// Level 11 is known.
+    level_11_known,
+    /// A need of 10 counts as 0, its last digit.
+    minor_by_last_digit,
+    /// A written minor above 10 is refused 8.
+    written_limited,
+    /// Padding bits are not looked at.
+    padding_ignored,
+    /// A width byte need not be smallest.
+    smallest_width_ignored,
+    /// Bytes after a chunk's last group are not looked at.
+    leftover_ignored,
+    /// Unpack fills all chunks but the first with zeros.
+    first_chunk_only,
+    /// Check looks at the first chunk only.
+    first_chunk_checked,
+    /// Refusal 10 has detail 0.
+    detail_of_10,
+    /// Refusal 10 of unpack leaves the chunks before the fault written, and a
+    /// refused probe a zero.
+    output_touched_on_refusal,
+    /// The element after the last value is written, if there is room.
+    past_n_written,
+    /// The element after the room is written.
+    past_room_written,
+    /// Probe refuses because of any chunk.
+    probe_all_chunks,
+    /// Probe looks at an index's low 32 bits.
+    index_in_32_bits,
+    /// Probe loses an infinity's sign.
+    infinity_without_sign,
+    /// Probe answers not-a-numbers as quiet ones.
+    nan_made_quiet,
+    /// The side table's places are added modulo 2^32.
+    side_sums_in_32_bits,
+    /// Equal ids of side parts are read.
+    equal_ids_read,
+    /// Two equal starts are a fault of the chunk.
+    equal_starts_are_10,
+    /// Data without chunks is a header's fault.
+    data_without_chunks_is_8,
+    /// A short stream is refused before the level.
+    order_5_before_1,
+    /// The needed minor is refused before the major.
+    order_7_before_6,
+    /// The other width is refused before other header rules.
+    order_14_before_8,
+    /// The tables are refused before a short room.
+    order_9_before_4,
+    /// The tables are refused before the index.
+    order_9_before_11,
+    /// The index is refused before the other width.
+    order_11_before_14,
+}
+
+/// Whether this is the planted fault.
+pub fn planted(fault: Fault) -> bool {
+    static PLANTED: OnceLock<Option<Fault>> = OnceLock::new();
+    *PLANTED.get_or_init(named_in_environment) == Some(fault)
+}
+
+/// The fault FAULT names. An unknown name ends the program with the names.
+fn named_in_environment() -> Option<Fault> {
+    let name = std::env::var("FAULT").ok()?;
+    let known = FAULTS.iter().find(|(known, _)| *known == name);
+    if known.is_none() {
+        for (known, _) in FAULTS {
+            eprintln!("{known}");
+        }
+        std::process::exit(3);
+    }
+    known.map(|&(_, fault)| fault)
+}

@@ -1,0 +1,332 @@
+//! Check, unpack and probe, with their faults.
+//!
+//! A fault that reads what should be refused is planted by mending the stream
+//! first; one that refuses otherwise, by changing the refusal afterwards.
+
+use crate::codes;
+use crate::faults::{planted, Fault};
+use crate::Word;
+use second::numbers::{bit_length, Tolerance, Width};
+use second::stream::{self, Probed};
+use second::{plain, Answer, Refusal};
+use std::ops::Range;
+
+fn number(stream: &[u8], order: usize) -> u32 {
+    let bytes = stream.get(4 * order..4 * order + 4);
+    bytes.map_or(0, |b| u32::from_le_bytes([b[0], b[1], b[2], b[3]]))
+}
+
+fn put(stream: &mut [u8], order: usize, number: u32) {
+    stream[4 * order..4 * order + 4].copy_from_slice(&number.to_le_bytes());
+}
+
+fn count(stream: &[u8]) -> u64 {
+    number(stream, 6) as u64
+}
+
+// --------------------------------------------------------- operations
+
+pub fn check(level: u32, stream: &[u8]) -> Answer {
+    let (level, mended) = faced(level, stream);
+    let answer = match number(stream, 3) {
+        64 => checked::<u64>(level, &mended),
+        _ => checked::<u32>(level, &mended),
+    };
+    match answer {
+        Err(Refusal { number: 10, detail })
+            if planted(Fault::first_chunk_checked) && detail > 0 =>
+        {
+            Ok(count(stream))
+        }
+        answer => changed(level, stream, answer),
+    }
+}
+
+pub fn unpack<P: Word>(level: u32, stream: &[u8], out: &mut [P]) -> Answer {
+    let (level, mended) = faced(level, stream);
+    let mut values = out.to_vec();
+    let answer = plain::unpack(level, &mended, &mut values).and_then(|n| {
+        codes_allowed(&mended, &values[..n as usize])?;
+        Ok(n)
+    });
+    match answer {
+        Ok(n) => {
+            out.copy_from_slice(&values);
+            touch_values(&mended, out, n as usize);
+        }
+        Err(Refusal { number: 10, detail }) if planted(Fault::output_touched_on_refusal) => {
+            out[..1024 * detail as usize].fill(P::default());
+        }
+        Err(Refusal { number: 4, .. }) if planted(Fault::detail_of_4) => {
+            return Err(Refusal::with_detail(4, out.len() as u64));
+        }
+        Err(_) => {}
+    }
+    let tables = refused_tables(level, stream);
+    match answer {
+        Err(Refusal { number: 4, .. }) if planted(Fault::order_9_before_4) && tables => {
+            Err(Refusal::bare(9))
+        }
+        answer => changed(level, stream, width_first::<P>(stream, answer)),
+    }
+}
+
+/// The answer with the pattern, or the refusal.
+pub fn probe<P: Word>(level: u32, stream: &[u8], index: u64) -> Result<(u64, u64), Refusal> {
+    let (level, mended) = faced(level, stream);
+    let index = if planted(Fault::index_in_32_bits) { index as u32 as u64 } else { index };
+    let answer = match stream::probe::<P>(level, &mended, index) {
+        Probed::Refused(refusal) => Err(refusal),
+        Probed::Finite(pattern) => Ok((0, pattern.number())),
+        Probed::Infinity { negative } => Ok((1, infinity(P::WIDTH, negative))),
+        Probed::NotANumber(pattern) => Ok((2, quiet(P::WIDTH, pattern.number()))),
+    };
+    let answer = answer.and_then(|(kind, pattern)| {
+        let allowed = codes_allowed(&mended, &[P::of_number(pattern)]);
+        allowed.map_err(|_| Refusal::with_detail(10, index / 1024))?;
+        Ok((kind, restored(&mended, pattern)))
+    });
+    if planted(Fault::probe_all_chunks) && answer.is_ok() {
+        plain::check(level, &mended)?;
+    }
+    let beyond = index >= count(stream);
+    match answer.map_err(|refusal| refusal.number) {
+        Err(14) if planted(Fault::order_11_before_14) && beyond => Err(Refusal::bare(11)),
+        Err(11) if planted(Fault::order_9_before_11) && refused_tables(level, stream) => {
+            Err(Refusal::bare(9))
+        }
+        _ => match width_first::<P>(stream, answer.map(|_| 0)) {
+            Ok(_) => answer,
+            refused => changed(level, stream, refused).and(answer),
+        },
+    }
+}
+
+fn refused_tables(level: u32, stream: &[u8]) -> bool {
+    plain::check(level, stream) == Err(Refusal::bare(9))
+}
+
+// ---------------------------------------------- refusals changed afterwards
+
+/// What a planted fault makes of a reader's answer.
+fn changed(level: u32, stream: &[u8], answer: Answer) -> Answer {
+    let Err(refusal) = answer else {
+        let limited = planted(Fault::written_limited) && number(stream, 1) > 10;
+        return if limited { Err(Refusal::bare(8)) } else { answer };
+    };
+    let changed = match refusal.number {
+        1 if planted(Fault::order_5_before_1) && stream.len() < 48 => Refusal::bare(5),
+        6 if planted(Fault::order_7_before_6) && number(stream, 2) > level => {
+            Refusal::with_detail(7, number(stream, 2) as u64)
+        }
+        9 if planted(Fault::data_without_chunks_is_8) && count(stream) == 0 => Refusal::bare(8),
+        9 if planted(Fault::equal_starts_are_10) => {
+            equal_starts(stream).map_or(refusal, |chunk| Refusal::with_detail(10, chunk))
+        }
+        10 if planted(Fault::detail_of_10) => Refusal::bare(10),
+        _ => refusal,
+    };
+    Err(changed)
+}
+
+fn width_first<P: Word>(stream: &[u8], answer: Answer) -> Answer {
+    let other = 96 - P::WIDTH.bits();
+    match answer {
+        Err(Refusal { number: 8, .. })
+            if planted(Fault::order_14_before_8) && number(stream, 3) == other =>
+        {
+            Err(Refusal::bare(14))
+        }
+        answer => answer,
+    }
+}
+
+/// The first chunk that starts where the next one does.
+fn equal_starts(stream: &[u8]) -> Option<u64> {
+    let c = number(stream, 7) as usize;
+    let chunks = 0..c.saturating_sub(1);
+    let equal = |&chunk: &usize| number(stream, 12 + chunk) == number(stream, 13 + chunk);
+    chunks.into_iter().find(equal).map(|chunk| chunk as u64)
+}
+
+// ---------------------------------------------------- what success leaves
+
+fn touch_values<P: Word>(stream: &[u8], out: &mut [P], n: usize) {
+    for value in &mut out[..n] {
+        *value = P::of_number(restored(stream, value.number()));
+    }
+    if planted(Fault::first_chunk_only) && n > 1024 {
+        out[1024..n].fill(P::default());
+    }
+    if planted(Fault::past_n_written) && out.len() > n {
+        out[n] = P::default();
+    }
+}
+
+/// What a planted fault makes of a value restored from a stream.
+fn restored(stream: &[u8], pattern: u64) -> u64 {
+    match (Width::numbered(number(stream, 3)), number(stream, 4)) {
+        (Some(width), 1) => codes::restored_pattern(width, pattern),
+        _ => pattern,
+    }
+}
+
+fn infinity(width: Width, negative: bool) -> u64 {
+    let sign = negative && !planted(Fault::infinity_without_sign);
+    width.greatest_field() << width.fraction_bits() | (sign as u64) << (width.bits() - 1)
+}
+
+fn quiet(width: Width, pattern: u64) -> u64 {
+    let quiet = 1 << (width.fraction_bits() - 1);
+    pattern | if planted(Fault::nan_made_quiet) { quiet } else { 0 }
+}
+
+// ------------------------------------------------------ codes refused
+
+/// Refusal 10 for the first chunk with a code that a planted fault refuses.
+fn codes_allowed<P: Word>(stream: &[u8], values: &[P]) -> Result<(), Refusal> {
+    let k = number(stream, 5) as i32;
+    let tolerance = Tolerance::allowed(P::WIDTH, k).filter(|_| number(stream, 4) == 1);
+    let refused =
+        |value: &P| tolerance.is_some_and(|t| codes::is_refused_code(t, t.code(value.number())));
+    match values.iter().position(refused) {
+        Some(index) => Err(Refusal::with_detail(10, index as u64 / 1024)),
+        None => Ok(()),
+    }
+}
+
+/// The same for a stream whose values nobody has asked for.
+fn checked<P: Word>(level: u32, stream: &[u8]) -> Answer {
+    let n = plain::check(level, stream)?;
+    let mut values = vec![P::default(); n as usize];
+    plain::unpack(level, stream, &mut values)?;
+    codes_allowed(stream, &values)?;
+    Ok(n)
+}
+
+// --------------------------------------------- streams mended beforehand
+
+/// Level and stream as a planted fault sees them.
+fn faced(level: u32, stream: &[u8]) -> (u32, Vec<u8>) {
+    let mut level = level;
+    if planted(Fault::level_11_known) && level == 11 {
+        level = 10;
+    }
+    let need_of_0 = number(stream, 2) == 10 && (8..10).contains(&level);
+    if planted(Fault::minor_by_last_digit) && need_of_0 {
+        level = 10;
+    }
+    let mended = match plain::check(level, stream).map_err(|refusal| refusal.number) {
+        Err(9) => without_sides(stream),
+        Err(10) => rebuilt(stream),
+        _ => None,
+    };
+    (level, mended.unwrap_or_else(|| stream.to_vec()))
+}
+
+/// The stream without its side table and parts, if a planted fault lets the
+/// table pass.
+fn without_sides(stream: &[u8]) -> Option<Vec<u8>> {
+    let modulo = planted(Fault::side_sums_in_32_bits);
+    let equal = planted(Fault::equal_ids_read);
+    let (sides, end) = (number(stream, 10) as usize, number(stream, 11) as usize);
+    if !modulo && !equal || stream.len() < end + 12 * sides || sides == 0 {
+        return None;
+    }
+    let mut place = (end + 12 * sides) as u64;
+    let mut least_id = 0;
+    for entry in stream[end..end + 12 * sides].chunks_exact(12) {
+        let (id, stated, length) = (number(entry, 0), number(entry, 1), number(entry, 2));
+        if (id as u64) < least_id || stated as u64 != place {
+            return None;
+        }
+        least_id = id as u64 + if equal { 0 } else { 1 };
+        place += length as u64;
+        place %= if modulo { 1 << 32 } else { u64::MAX };
+    }
+    if place != stream.len() as u64 {
+        return None;
+    }
+    let mut cut = stream[..end].to_vec();
+    put(&mut cut, 10, 0);
+    Some(cut)
+}
+
+/// The stream with its chunks written again as a planted fault reads them.
+fn rebuilt(stream: &[u8]) -> Option<Vec<u8>> {
+    let faults = [Fault::padding_ignored, Fault::smallest_width_ignored, Fault::leftover_ignored];
+    if !faults.into_iter().any(planted) {
+        return None;
+    }
+    let (n, c) = (count(stream) as usize, number(stream, 7) as usize);
+    let (place, end) = (number(stream, 9) as usize, number(stream, 11) as usize);
+    let mut front = stream[..place].to_vec();
+    let mut data = Vec::new();
+    for chunk in 0..c {
+        let values = (n - 1024 * chunk).min(1024);
+        let bytes = &stream[stretch(stream, chunk, c)];
+        put(&mut front, 12 + chunk, data.len() as u32);
+        data.extend(chunk_again(bytes, values, number(stream, 3)));
+    }
+    let moved = (place + data.len()) as u32;
+    if moved as usize != end && number(stream, 10) != 0 {
+        return None; // side parts would have to move, too
+    }
+    put(&mut front, 11, moved);
+    Some([&front, &data[..], &stream[end..]].concat())
+}
+
+fn stretch(stream: &[u8], chunk: usize, c: usize) -> Range<usize> {
+    let place = number(stream, 9) as usize;
+    let start = place + number(stream, 12 + chunk) as usize;
+    match chunk + 1 < c {
+        true => start..place + number(stream, 13 + chunk) as usize,
+        false => start..number(stream, 11) as usize,
+    }
+}
+
+/// A chunk's bytes with each group written again; from the first group that
+/// cannot be read on, as they stand.
+fn chunk_again(mut bytes: &[u8], values: usize, width: u32) -> Vec<u8> {
+    let mut again = Vec::new();
+    for from in (0..values).step_by(32) {
+        let count = (values - from).min(32);
+        let Some((group, rest)) = group_again(bytes, count, width) else {
+            break;
+        };
+        again.extend(group);
+        bytes = rest;
+    }
+    if !planted(Fault::leftover_ignored) {
+        again.extend(bytes);
+    }
+    again
+}
+
+fn group_again(bytes: &[u8], count: usize, width: u32) -> Option<(Vec<u8>, &[u8])> {
+    let (&w, rest) = bytes.split_first()?;
+    let length = (count * w as usize).div_ceil(8);
+    let packed = rest.get(..length).filter(|_| w as u32 <= width)?;
+    let bit = |place: usize| (packed[place / 8] >> (place % 8) & 1) as u64;
+    let w = w as usize;
+    let code = |index: usize| (0..w).map(|b| bit(index * w + b) << b).sum::<u64>();
+    let codes: Vec<u64> = (0..count).map(code).collect();
+    let smallest = bit_length(codes.iter().copied().max()?) as usize;
+    let w_again = if planted(Fault::smallest_width_ignored) { smallest } else { w };
+    let mut again = written(&codes, w_again);
+    if !planted(Fault::padding_ignored) && w_again == w {
+        again = bytes[..1 + length].to_vec();
+    }
+    Some((again, &rest[length..]))
+}
+
+fn written(codes: &[u64], w: usize) -> Vec<u8> {
+    let mut bytes = vec![0; 1 + (codes.len() * w).div_ceil(8)];
+    bytes[0] = w as u8;
+    for (index, code) in codes.iter().enumerate() {
+        for bit in (0..w).filter(|bit| code >> bit & 1 == 1) {
+            bytes[1 + (index * w + bit) / 8] |= 1 << ((index * w + bit) % 8);
+        }
+    }
+    bytes
+}

@@ -1,0 +1,34 @@
+#!/bin/sh
+# Tries the comparison harness on the mock: it must pass on the clean one and
+# find every fault that can be planted. Arguments go to `compare`; without
+# any, the quick run is taken. Needs some minutes.
+set -eu
+cd "$(dirname "$0")/.."
+[ $# -gt 0 ] || set -- --quick
+
+cargo build -j1 --quiet --release --manifest-path mock/Cargo.toml
+GWZ_LIB_DIR=mock/target/release \
+    cargo build -j1 --quiet --release --features linked --bin compare
+compare=target/release/compare
+
+# The sections that found differences, with the number of cases.
+findings() {
+    sed -n 's/^\(.*[^ ]\)  *[0-9]* cases  *\([1-9][0-9]*\) different$/\1 \2/p' | paste -s -d ';' -
+}
+
+missed=0
+if report=$("$compare" "$@"); then
+    echo "clean: $(echo "$report" | tail -n 1)"
+else
+    echo "clean: NOT PASSED"
+    missed=1
+fi
+for fault in $(FAULT='?' "$compare" 2>&1 >/dev/null || true); do
+    if report=$(FAULT=$fault "$compare" "$@"); then
+        echo "$fault: NOT FOUND"
+        missed=1
+    else
+        echo "$fault: $(echo "$report" | findings)"
+    fi
+done
+exit $missed

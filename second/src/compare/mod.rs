@@ -1,0 +1,95 @@
+//! The comparison harness: puts many calls to the reference and to another
+//! library, and compares answers and every element of the lent outputs.
+//!
+//! * [`call`]: one call with its whole input; [`outcome`]: what it leaves.
+//! * [`judge`]: compares and counts; `shrink`: shortens a differing input.
+//! * [`random`]: the seeded generator of patterns and lists.
+//! * `known`, `rules`, `lists`, `orders`, `damage`, `tables`, `groups`: the
+//!   sections, each a source of calls.
+
+pub mod call;
+pub mod judge;
+pub mod outcome;
+pub mod random;
+pub mod reference;
+
+mod damage;
+mod groups;
+mod known;
+mod lists;
+mod orders;
+mod readings;
+mod rules;
+mod shrink;
+mod streams;
+mod tables;
+
+use judge::{Judge, Library};
+use random::XorShift;
+use std::io::Write;
+
+/// How much is run.
+#[derive(Clone, Copy, Debug, PartialEq, Eq)]
+pub enum Extent {
+    Quick,
+    Usual,
+    Long,
+}
+
+impl Extent {
+    /// The rounds of a random section that has this many usually.
+    fn rounds(self, usual: u64) -> u64 {
+        match self {
+            Extent::Quick => usual.div_ceil(10),
+            Extent::Usual => usual,
+            Extent::Long => usual * 10,
+        }
+    }
+}
+
+#[derive(Clone, Copy, Debug)]
+pub struct Options {
+    pub seed: u64,
+    pub extent: Extent,
+    /// Print every call before the library is asked, to see which one ends a
+    /// run that breaks off.
+    pub trace: bool,
+}
+
+type Section = fn(&mut Judge, &mut XorShift, Extent);
+
+const SECTIONS: [(&str, Section); 21] = [
+    ("known values", known::known_values),
+    ("lossless codes", rules::lossless_codes),
+    ("tolerance codes", rules::tolerance_codes),
+    ("tolerance codes, any k", rules::tolerance_codes_any_k),
+    ("bound", rules::bounds),
+    ("settings of pack and length", lists::settings),
+    ("lists of every length", lists::every_length),
+    ("lists for every k", lists::every_k),
+    ("random lists", lists::random_lists),
+    ("streams read at every level", lists::every_level),
+    ("the value limit", lists::value_limit),
+    ("orders of pack and length", orders::packing),
+    ("orders of the readers", orders::reading),
+    ("header numbers altered", damage::header_numbers),
+    ("several header numbers altered", damage::several_header_numbers),
+    ("bytes altered", damage::bytes_altered),
+    ("cuts and additions", damage::cuts_and_additions),
+    ("chunk tables", tables::chunk_tables),
+    ("side parts", tables::side_parts),
+    ("groups", groups::groups),
+    ("random damage", damage::random_damage),
+];
+
+/// Runs every section and writes what was compared; answers whether nothing
+/// failed.
+pub fn run(options: &Options, library: Library, out: &mut dyn Write) -> bool {
+    let mut judge = Judge::new(library, out, options.seed, options.trace);
+    for (usage, (name, section)) in (1..).zip(SECTIONS) {
+        judge.begin(name);
+        section(&mut judge, &mut XorShift::seeded(options.seed, usage), options.extent);
+        judge.end();
+    }
+    judge.finish()
+}

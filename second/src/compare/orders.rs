@@ -1,0 +1,253 @@
+//! The orders of refusals: for each two rules of an operation, calls that
+//! break both at once, and calls that break the later one alone.
+
+use super::call::{Call, List};
+use super::judge::Judge;
+use super::random::{XorShift, WIDTHS};
+use super::streams::*;
+use super::Extent;
+use crate::numbers::{Width, WIDTH_32, WIDTH_64};
+use crate::stream::MOST_VALUES;
+
+// ------------------------------------------------------ pack and length
+
+/// What pack is told. It is sound as it stands, but for what is broken.
+#[derive(Clone)]
+struct Packing {
+    level: u32,
+    mode: u32,
+    k: i32,
+    list: List,
+    room: usize,
+}
+
+type PackingBreak = (u32, fn(&mut Packing));
+
+/// Each breaks the rule of the refusal with its number, in the order of pack.
+const PACKING_BREAKS: [PackingBreak; 14] = [
+    (1, |packing| packing.level = 7),
+    (1, |packing| packing.level = 11),
+    (1, |packing| packing.level = 0),
+    (1, |packing| packing.level = u32::MAX),
+    (2, |packing| packing.mode = 2),
+    (2, |packing| packing.mode = u32::MAX),
+    (2, |packing| packing.k = 971),
+    (2, |packing| packing.k = -1076),
+    (2, |packing| (packing.mode, packing.k) = (0, -2)),
+    (2, |packing| {
+        // The need exceeds the level: width 64 needs 10, mode 1 needs 9.
+        packing.level = 8;
+        packing.mode = 1;
+        packing.k = -2;
+    }),
+    (3, |packing| packing.list = zeros(packing.list.values().width(), MOST_VALUES + 1)),
+    (4, |packing| packing.room = 0),
+    (4, |packing| packing.room = 47),
+    (4, |packing| packing.room = 48),
+];
+
+fn zeros(width: Width, n: u64) -> List {
+    List::of(width, (0..n).map(|_| 0))
+}
+
+pub fn packing(judge: &mut Judge, _: &mut XorShift, _: Extent) {
+    for width in WIDTHS {
+        for (mode, k) in [(0, 0), (1, -2)] {
+            let list = zeros(width, 3);
+            let sound = Packing { level: 10, mode, k, list, room: 60 };
+            pack_as_meant(judge, &sound, 0);
+            for (later, second) in PACKING_BREAKS {
+                let mut once = sound.clone();
+                second(&mut once);
+                pack_as_meant(judge, &once, later);
+                for (earlier, first) in PACKING_BREAKS.into_iter().filter(|b| b.0 < later) {
+                    let mut twice = once.clone();
+                    first(&mut twice);
+                    pack_as_meant(judge, &twice, earlier);
+                }
+            }
+        }
+    }
+}
+
+/// Length does not know refusal 4.
+fn pack_as_meant(judge: &mut Judge, packing: &Packing, number: u32) {
+    let Packing { level, mode, k, ref list, room } = *packing;
+    let values = list.values();
+    judge.compare_meant(Call::Pack { level, mode, k, values, room }, number);
+    let number = if number == 4 { 0 } else { number };
+    judge.compare_meant(Call::Length { level, mode, k, values }, number);
+}
+
+// --------------------------------------------------------------- readers
+
+/// What a reader is told: check only level and stream, unpack also the room,
+/// probe also the index.
+#[derive(Clone)]
+struct Reading {
+    width: Width,
+    level: u32,
+    stream: Vec<u8>,
+    room: usize,
+    index: u64,
+}
+
+type ReadingBreak = (u32, fn(&mut Reading));
+
+/// Each breaks one rule of the refusal with its number in a sound reading.
+const READING_BREAKS: [ReadingBreak; 46] = [
+    (1, |r| r.level = 7),
+    (1, |r| r.level = 11),
+    (1, |r| r.level = 0),
+    (1, |r| r.level = u32::MAX),
+    (5, |r| r.stream.truncate(47)),
+    (5, |r| r.stream.truncate(4)),
+    (5, |r| r.stream.clear()),
+    (6, |r| put(&mut r.stream, MAJOR, 0)),
+    (6, |r| put(&mut r.stream, MAJOR, 2)),
+    (6, |r| put(&mut r.stream, MAJOR, 257)),
+    (6, |r| put(&mut r.stream, MAJOR, (1 << 31) + 1)),
+    (7, |r| put(&mut r.stream, NEEDED, 11)),
+    (7, |r| put(&mut r.stream, NEEDED, 100)),
+    (7, |r| put(&mut r.stream, NEEDED, u32::MAX)),
+    (8, |r| put(&mut r.stream, NEEDED, 7)),
+    (8, |r| put(&mut r.stream, NEEDED, 0)),
+    (8, |r| put(&mut r.stream, WRITTEN, 7)),
+    (8, |r| put(&mut r.stream, WRITTEN, 0)),
+    (8, |r| put(&mut r.stream, WIDTH, 0)),
+    (8, |r| put(&mut r.stream, WIDTH, 33)),
+    (8, |r| put(&mut r.stream, WIDTH, 96)),
+    (8, |r| put(&mut r.stream, MODE, 2)),
+    (8, |r| put(&mut r.stream, K, 971)),
+    (8, |r| put(&mut r.stream, K, -1076i32 as u32)),
+    (8, |r| put(&mut r.stream, COUNT, MOST_VALUES as u32 + 1)),
+    (8, |r| add(&mut r.stream, CHUNKS, 1)),
+    (8, |r| add(&mut r.stream, CHUNKS, 1 << 30)),
+    (8, |r| add(&mut r.stream, TABLE_PLACE, 4)),
+    (8, |r| add(&mut r.stream, DATA_PLACE, 4)),
+    (8, |r| put(&mut r.stream, SIDES, 65)),
+    (8, |r| put(&mut r.stream, DATA_END, 47)),
+    (8, |r| put(&mut r.stream, DATA_END, u32::MAX)),
+    (14, |r| r.width = other(r.width)),
+    (4, |r| r.room = 0),
+    (4, |r| r.room -= 1),
+    (11, |r| r.index = stated_count(&r.stream)),
+    (11, |r| r.index = 1 << 32),
+    (11, |r| r.index = u64::MAX),
+    (9, |r| put(&mut r.stream, STARTS, 1)),
+    (9, |r| put(&mut r.stream, STARTS, u32::MAX)),
+    (9, |r| r.stream.push(0)),
+    (9, |r| add(&mut r.stream, DATA_END, u32::MAX)), // one byte earlier
+    (10, |r| put_width_byte(&mut r.stream, 255)),
+    (10, |r| put_width_byte(&mut r.stream, 65)),
+    (10, |r| put_width_byte(&mut r.stream, 0)),
+    (10, |r| put_width_byte(&mut r.stream, 9)),
+];
+
+fn add(stream: &mut [u8], order: usize, step: u32) {
+    if let Some(old) = number_at(stream, order) {
+        put(stream, order, old.wrapping_add(step));
+    }
+}
+
+fn other(width: Width) -> Width {
+    if width == WIDTH_32 {
+        WIDTH_64
+    } else {
+        WIDTH_32
+    }
+}
+
+/// Sets the width byte of the first group.
+fn put_width_byte(stream: &mut [u8], w: u8) {
+    if let Some(place) = number_at(stream, DATA_PLACE) {
+        stream[place as usize] = w;
+    }
+}
+
+/// A reader, its order of refusals, and its call.
+struct Reader {
+    order: &'static [u32],
+    call: fn(&Reading) -> Call,
+}
+
+const READERS: [Reader; 3] = [
+    Reader {
+        order: &[1, 5, 6, 7, 8, 9, 10],
+        call: |r| Call::Check { level: r.level, stream: &r.stream },
+    },
+    Reader {
+        order: &[1, 5, 6, 7, 8, 14, 4, 9, 10],
+        call: |r| Call::Unpack { width: r.width, level: r.level, stream: &r.stream, room: r.room },
+    },
+    Reader {
+        order: &[1, 5, 6, 7, 8, 14, 11, 9, 10],
+        call: |r| Call::Probe { width: r.width, level: r.level, stream: &r.stream, index: r.index },
+    },
+];
+
+impl Reader {
+    /// The breaks this reader can meet, each with its rank in the order.
+    fn breaks(&self) -> impl Iterator<Item = (usize, ReadingBreak)> + '_ {
+        READING_BREAKS.into_iter().filter_map(|broken| {
+            let rank = self.order.iter().position(|&number| number == broken.0)?;
+            Some((rank, broken))
+        })
+    }
+}
+
+pub fn reading(judge: &mut Judge, _: &mut XorShift, _: Extent) {
+    for sound in sound_readings() {
+        for reader in READERS {
+            judge.compare_meant((reader.call)(&sound), 0);
+            for (rank, (later, second)) in reader.breaks() {
+                let mut once = sound.clone();
+                second(&mut once);
+                judge.compare_meant((reader.call)(&once), later);
+                for (_, (earlier, first)) in reader.breaks().filter(|b| b.0 < rank) {
+                    let mut twice = once.clone();
+                    first(&mut twice);
+                    judge.compare_meant((reader.call)(&twice), earlier);
+                }
+            }
+        }
+    }
+}
+
+/// A sound reading for both widths and modes, of one chunk and of three, with
+/// and without side parts. The first group holds one code of 8 bits.
+fn sound_readings() -> Vec<Reading> {
+    let mut readings = Vec::new();
+    for width in WIDTHS {
+        for (mode, k) in [(0, 0), (1, -2)] {
+            for n in [3, 2049] {
+                for sides in [vec![], vec![(7, vec![1, 2]), (9, vec![])]] {
+                    let chunks = sound_chunks(n);
+                    let draft = Draft { width, mode, k, n, chunks, sides };
+                    readings.push(Reading {
+                        width,
+                        level: 10,
+                        stream: draft.stream(),
+                        room: n as usize,
+                        index: 1,
+                    });
+                }
+            }
+        }
+    }
+    readings
+}
+
+/// Chunks of n zeros, but for one code of 8 bits at index 0.
+fn sound_chunks(n: u32) -> Vec<Vec<u8>> {
+    let mut codes = vec![0; n as usize];
+    codes[0] = 255;
+    let groups = |chunk: &[u64]| {
+        let bytes = chunk.chunks(32).map(|codes| {
+            let w = if codes[0] == 0 { 0 } else { 8 };
+            group(w, codes)
+        });
+        bytes.collect::<Vec<_>>().concat()
+    };
+    codes.chunks(VALUES_IN_CHUNK as usize).map(groups).collect()
+}

@@ -1,0 +1,136 @@
+//! Streams made up by hand: a sound header and sound tables around any bytes,
+//! and single numbers put in place of others.
+
+use crate::numbers::Width;
+
+/// The header numbers, by their order.
+pub const MAJOR: usize = 0;
+pub const WRITTEN: usize = 1;
+pub const NEEDED: usize = 2;
+pub const WIDTH: usize = 3;
+pub const MODE: usize = 4;
+pub const K: usize = 5;
+pub const COUNT: usize = 6;
+pub const CHUNKS: usize = 7;
+pub const TABLE_PLACE: usize = 8;
+pub const DATA_PLACE: usize = 9;
+pub const SIDES: usize = 10;
+pub const DATA_END: usize = 11;
+/// The start of chunk 0; those of the others follow.
+pub const STARTS: usize = 12;
+
+pub const HEADER_BYTES: usize = 48;
+pub const VALUES_IN_CHUNK: u64 = 1024;
+
+/// The 32-bit number with this order, if the stream has its bytes.
+pub fn number_at(stream: &[u8], order: usize) -> Option<u32> {
+    let bytes = stream.get(4 * order..4 * order + 4)?;
+    Some(u32::from_le_bytes(bytes.try_into().ok()?))
+}
+
+/// Puts a number at a byte place, if the stream has the bytes.
+pub fn put_at(stream: &mut [u8], place: usize, number: u32) {
+    let end = place.saturating_add(4);
+    if let Some(bytes) = stream.get_mut(place..end) {
+        bytes.copy_from_slice(&number.to_le_bytes());
+    }
+}
+
+/// Puts a number in place of the one with this order.
+pub fn put(stream: &mut [u8], order: usize, number: u32) {
+    put_at(stream, 4 * order, number);
+}
+
+/// The stream with some numbers replaced.
+pub fn with(stream: &[u8], replaced: &[(usize, u32)]) -> Vec<u8> {
+    let mut stream = stream.to_vec();
+    for &(order, number) in replaced {
+        put(&mut stream, order, number);
+    }
+    stream
+}
+
+/// The value count the header states, 0 if it is cut off.
+pub fn stated_count(stream: &[u8]) -> u64 {
+    number_at(stream, COUNT).unwrap_or(0) as u64
+}
+
+/// Width 64 needs 10; else mode 1 needs 9; else 8.
+pub fn need(width: Width, mode: u32) -> u32 {
+    match (width.bits(), mode) {
+        (64, _) => 10,
+        (_, 1) => 9,
+        _ => 8,
+    }
+}
+
+/// A side part: its id and its bytes.
+pub type Side = (u32, Vec<u8>);
+
+/// A stream with sound header and tables, whatever its chunks hold.
+#[derive(Clone)]
+pub struct Draft {
+    pub width: Width,
+    pub mode: u32,
+    pub k: i32,
+    pub n: u32,
+    pub chunks: Vec<Vec<u8>>,
+    pub sides: Vec<Side>,
+}
+
+impl Draft {
+    pub fn stream(&self) -> Vec<u8> {
+        let need = need(self.width, self.mode);
+        let c = self.chunks.len() as u32;
+        let data = self.chunks.concat();
+        let place = 48 + 4 * c;
+        let end = place + data.len() as u32;
+        let sides = self.sides.len() as u32;
+        let mut numbers = vec![1, 10, need, self.width.bits(), self.mode, self.k as u32];
+        numbers.extend([self.n, c, 48, place, sides, end]);
+        numbers.extend(starts(&self.chunks));
+        let mut stream = bytes_of(&numbers);
+        stream.extend(data);
+        append_sides(&mut stream, &self.sides);
+        stream
+    }
+}
+
+/// Each chunk's start, counted from the data.
+fn starts(chunks: &[Vec<u8>]) -> Vec<u32> {
+    let before = |chunk: usize| chunks[..chunk].iter().map(Vec::len).sum::<usize>() as u32;
+    (0..chunks.len()).map(before).collect()
+}
+
+pub fn bytes_of(numbers: &[u32]) -> Vec<u8> {
+    numbers.iter().flat_map(|number| number.to_le_bytes()).collect()
+}
+
+/// Appends a sound side table and its parts to a stream that ends with its
+/// data, and puts their count in the header.
+pub fn append_sides(stream: &mut Vec<u8>, sides: &[Side]) {
+    put(stream, SIDES, sides.len() as u32);
+    let mut place = stream.len() + 12 * sides.len();
+    for (id, bytes) in sides {
+        stream.extend(bytes_of(&[*id, place as u32, bytes.len() as u32]));
+        place += bytes.len();
+    }
+    for (_, bytes) in sides {
+        stream.extend(bytes);
+    }
+}
+
+/// A group: the width byte w, then w bits of each code with zero bits after
+/// them, whether w is the smallest or even allowed.
+pub fn group(w: u8, codes: &[u64]) -> Vec<u8> {
+    let w = w as usize;
+    let mut bytes = vec![0; 1 + (codes.len() * w).div_ceil(8)];
+    bytes[0] = w as u8;
+    for (index, code) in codes.iter().enumerate() {
+        for bit in (0..w.min(64)).filter(|bit| code >> bit & 1 == 1) {
+            let place = index * w + bit;
+            bytes[1 + place / 8] |= 1 << (place % 8);
+        }
+    }
+    bytes
+}

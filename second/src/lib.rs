@@ -1,0 +1,45 @@
+//! The second program: packed float fields written again, from the scope
+//! document alone, to judge another implementation.
+//!
+//! * [`numbers`]: the lossless code, the tolerance code and bound.
+//! * [`stream`]: pack, length, unpack, check and probe, as simply as possible.
+//! * [`listing`]: the text the listing program prints.
+//! * [`plain`]: pack, length, check and unpack once more, written for speed.
+//!   It shares nothing with the others but the types of this page.
+//! * [`compare`]: puts many calls to the reference and to another library.
+
+#![forbid(unsafe_code)]
+
+pub mod compare;
+pub mod listing;
+pub mod numbers;
+pub mod plain;
+pub mod stream;
+
+/// A refusal: its number in the refusal table, and its detail.
+#[derive(Clone, Copy, Debug, PartialEq, Eq)]
+pub struct Refusal {
+    pub number: u32,
+    pub detail: u32,
+}
+
+impl Refusal {
+    /// A refusal for which the table states detail 0.
+    pub const fn bare(number: u32) -> Refusal {
+        Refusal { number, detail: 0 }
+    }
+
+    /// A refusal for which the table states a detail. Every detail of the
+    /// table fits 32 bits: lengths are bounded by the value limit, the needed
+    /// minor is a header number, chunk numbers are below 1,024.
+    pub const fn with_detail(number: u32, detail: u64) -> Refusal {
+        Refusal {
+            number,
+            detail: detail as u32,
+        }
+    }
+}
+
+/// What pack, length, unpack and check answer: the bytes written, the length
+/// or n on success (the document's number 0), else the refusal.
+pub type Answer = Result<u64, Refusal>;

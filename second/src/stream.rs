@@ -1,0 +1,516 @@
+//! The stream: pack, length, unpack, check and probe.
+//!
+//! Each operation applies its refusals in the order the document states. All
+//! places and lengths are added as `u64`: the largest sum, the 64 lengths of a
+//! side table, stays far below 2^64.
+
+use crate::numbers::{self, bit_length, Tolerance, Width, WIDTH_32, WIDTH_64};
+use crate::{Answer, Refusal};
+use std::ops::Range;
+
+pub const MOST_VALUES: u64 = 1_048_576;
+pub const HIGHEST_LEVEL: u32 = 10;
+
+const HEADER_BYTES: u64 = 48;
+const TABLE_ENTRY_BYTES: u64 = 4;
+const SIDE_ENTRY_BYTES: u64 = 12;
+const MOST_SIDES: u64 = 64;
+const VALUES_IN_CHUNK: u64 = 1024;
+const VALUES_IN_GROUP: u64 = 32;
+
+/// A bit pattern of one of the two widths.
+pub trait Pattern: Copy {
+    const WIDTH: Width;
+    fn number(self) -> u64;
+    /// The pattern with this number; it is below 2^W wherever this is called.
+    fn of_number(number: u64) -> Self;
+}
+
+impl Pattern for u32 {
+    const WIDTH: Width = WIDTH_32;
+    fn number(self) -> u64 {
+        self as u64
+    }
+    fn of_number(number: u64) -> u32 {
+        number as u32
+    }
+}
+
+impl Pattern for u64 {
+    const WIDTH: Width = WIDTH_64;
+    fn number(self) -> u64 {
+        self
+    }
+    fn of_number(number: u64) -> u64 {
+        number
+    }
+}
+
+/// What probe answers. A finite number is given by its pattern, so that two
+/// answers can be compared exactly, -0 included.
+#[derive(Clone, Copy, Debug, PartialEq, Eq)]
+pub enum Probed<P> {
+    Finite(P),
+    Infinity { negative: bool },
+    NotANumber(P),
+    Refused(Refusal),
+}
+
+/// An allowed setting of width, mode and k.
+#[derive(Clone, Copy, Debug)]
+pub(crate) enum Setting {
+    Lossless(Width),
+    Tolerance(Tolerance),
+}
+
+impl Setting {
+    /// The setting, if width, mode and k are allowed together.
+    fn allowed(width: u32, mode: u32, k: i32) -> Option<Setting> {
+        let width = Width::numbered(width)?;
+        match mode {
+            0 if k == 0 => Some(Setting::Lossless(width)),
+            1 => Tolerance::allowed(width, k).map(Setting::Tolerance),
+            _ => None,
+        }
+    }
+
+    pub(crate) fn width(self) -> Width {
+        match self {
+            Setting::Lossless(width) => width,
+            Setting::Tolerance(tolerance) => tolerance.width(),
+        }
+    }
+
+    pub(crate) fn mode(self) -> u32 {
+        match self {
+            Setting::Lossless(_) => 0,
+            Setting::Tolerance(_) => 1,
+        }
+    }
+
+    pub(crate) fn k(self) -> i32 {
+        match self {
+            Setting::Lossless(_) => 0,
+            Setting::Tolerance(tolerance) => tolerance.k(),
+        }
+    }
+
+    /// Width 64 needs 10; else mode 1 needs 9; else 8.
+    fn need(self) -> u32 {
+        if self.width() == WIDTH_64 {
+            10
+        } else if self.mode() == 1 {
+            9
+        } else {
+            8
+        }
+    }
+
+    fn code(self, pattern: u64) -> u64 {
+        match self {
+            Setting::Lossless(width) => numbers::lossless_code(width, pattern),
+            Setting::Tolerance(tolerance) => tolerance.code(pattern),
+        }
+    }
+
+    /// The pattern of a code, or nothing if u is above its largest.
+    fn restored(self, code: u64) -> Option<u64> {
+        match self {
+            Setting::Lossless(width) => Some(numbers::lossless_pattern(width, code)),
+            Setting::Tolerance(tolerance) => tolerance.restored(code),
+        }
+    }
+}
+
+/// Refusal 1, first in every operation.
+fn level_known(level: u32) -> Result<(), Refusal> {
+    match level {
+        8..=HIGHEST_LEVEL => Ok(()),
+        _ => Err(Refusal::bare(1)),
+    }
+}
+
+// ------------------------------------------------------- pack and length
+
+/// Writes the packed stream to the front of the output. Order 1 2 3 4.
+pub fn pack<P: Pattern>(
+    level: u32,
+    mode: u32,
+    k: i32,
+    values: &[P],
+    output: &mut [u8],
+) -> Answer {
+    let stream = packed(level, mode, k, values)?;
+    let length = stream.len() as u64;
+    match output.get_mut(..stream.len()) {
+        Some(front) => front.copy_from_slice(&stream),
+        None => return Err(Refusal::with_detail(4, length)),
+    }
+    Ok(length)
+}
+
+/// The bytes pack would use. Order 1 2 3.
+pub fn length<P: Pattern>(level: u32, mode: u32, k: i32, values: &[P]) -> Answer {
+    packed(level, mode, k, values).map(|stream| stream.len() as u64)
+}
+
+/// The whole packed stream, or one of the refusals 1 2 3.
+fn packed<P: Pattern>(
+    level: u32,
+    mode: u32,
+    k: i32,
+    values: &[P],
+) -> Result<Vec<u8>, Refusal> {
+    level_known(level)?;
+    let setting = Setting::allowed(P::WIDTH.bits(), mode, k)
+        .filter(|setting| setting.need() <= level)
+        .ok_or(Refusal::bare(2))?;
+    if values.len() as u64 > MOST_VALUES {
+        return Err(Refusal::bare(3));
+    }
+
+    let mut starts: Vec<u32> = Vec::new();
+    let mut data: Vec<u8> = Vec::new();
+    for chunk in values.chunks(VALUES_IN_CHUNK as usize) {
+        starts.push(data.len() as u32);
+        for group in chunk.chunks(VALUES_IN_GROUP as usize) {
+            let codes: Vec<u64> = group.iter().map(|v| setting.code(v.number())).collect();
+            append_group(&mut data, &codes);
+        }
+    }
+
+    let n = values.len() as u32;
+    let c = starts.len() as u32;
+    let data_place = 48 + 4 * c;
+    let data_end = data_place + data.len() as u32;
+    let header: [u32; 12] = [
+        1,
+        level,
+        setting.need(),
+        setting.width().bits(),
+        setting.mode(),
+        setting.k() as u32, // two's complement
+        n,
+        c,
+        48,
+        data_place,
+        0,
+        data_end,
+    ];
+    let mut stream: Vec<u8> = Vec::new();
+    for number in header.iter().chain(&starts) {
+        stream.extend(number.to_le_bytes());
+    }
+    stream.extend(data);
+    Ok(stream)
+}
+
+/// Appends one group: its width byte, then its codes bit by bit.
+fn append_group(data: &mut Vec<u8>, codes: &[u64]) {
+    let w = smallest_width(codes);
+    data.push(w as u8);
+    let start = data.len();
+    data.resize(start + bytes_of_codes(codes.len(), w), 0);
+    let packed = &mut data[start..];
+    let mut place = 0;
+    for code in codes {
+        for bit in 0..w {
+            packed[place / 8] |= ((code >> bit & 1) as u8) << (place % 8);
+            place += 1;
+        }
+    }
+}
+
+/// The bit length of the largest code, 0 if all are 0.
+fn smallest_width(codes: &[u64]) -> u32 {
+    bit_length(codes.iter().copied().max().unwrap_or(0))
+}
+
+/// The bytes that `count` codes of w bits fill, the padding included.
+fn bytes_of_codes(count: usize, w: u32) -> usize {
+    (count * w as usize).div_ceil(8)
+}
+
+// --------------------------------------------------- the header, 5 6 7 8
+
+/// The header of a stream that passed refusals 5 6 7 8: so `data_place` is at
+/// most `data_end`, and that at most the stream's length.
+pub(crate) struct Header {
+    pub(crate) written: u32,
+    pub(crate) needed: u32,
+    pub(crate) setting: Setting,
+    pub(crate) n: u64,
+    pub(crate) c: u64,
+    pub(crate) sides: u64,
+    data_place: u64,
+    data_end: u64,
+}
+
+impl Header {
+    fn data_length(&self) -> u64 {
+        self.data_end - self.data_place
+    }
+
+    /// 1,024, or for the last chunk the remainder.
+    fn values_in_chunk(&self, chunk: u64) -> u64 {
+        (self.n - chunk * VALUES_IN_CHUNK).min(VALUES_IN_CHUNK)
+    }
+
+    pub(crate) fn groups_in_chunk(&self, chunk: u64) -> u64 {
+        self.values_in_chunk(chunk).div_ceil(VALUES_IN_GROUP)
+    }
+}
+
+/// The 32-bit little-endian number at a place, if the stream has its bytes.
+fn number_at(stream: &[u8], place: u64) -> Option<u32> {
+    let place = usize::try_from(place).ok()?;
+    let bytes = stream.get(place..place.checked_add(4)?)?;
+    Some(u32::from_le_bytes(bytes.try_into().ok()?))
+}
+
+/// The twelve header numbers, if there are 48 bytes.
+fn header_numbers(stream: &[u8]) -> Option<[u32; 12]> {
+    let mut numbers = [0; 12];
+    for (place, number) in (0..HEADER_BYTES).step_by(4).zip(&mut numbers) {
+        *number = number_at(stream, place)?;
+    }
+    Some(numbers)
+}
+
+fn read_header(level: u32, stream: &[u8]) -> Result<Header, Refusal> {
+    let numbers = header_numbers(stream).ok_or(Refusal::bare(5))?;
+    let [major, written, needed, width, mode, k, n, c, table, data, sides, end] = numbers;
+    if major != 1 {
+        return Err(Refusal::bare(6));
+    }
+    if needed > level {
+        return Err(Refusal::with_detail(7, needed as u64));
+    }
+    // k is stored in two's complement, which the cast reads back.
+    let setting = Setting::allowed(width, mode, k as i32).ok_or(Refusal::bare(8))?;
+    let header = Header {
+        written,
+        needed,
+        setting,
+        n: n as u64,
+        c: c as u64,
+        sides: sides as u64,
+        data_place: data as u64,
+        data_end: end as u64,
+    };
+    let rules = [
+        needed == setting.need(), // so it is not below 8 either
+        written >= needed,
+        header.n <= MOST_VALUES,
+        header.c == header.n.div_ceil(VALUES_IN_CHUNK),
+        table as u64 == HEADER_BYTES,
+        header.data_place == HEADER_BYTES + TABLE_ENTRY_BYTES * header.c,
+        header.sides <= MOST_SIDES,
+        header.data_place <= header.data_end,
+        header.data_end <= stream.len() as u64,
+    ];
+    if rules.contains(&false) {
+        return Err(Refusal::bare(8));
+    }
+    Ok(header)
+}
+
+// -------------------------------------------------------- the tables, 9
+
+/// The chunks as stretches of the data, if both tables keep their rules.
+fn read_tables(stream: &[u8], header: &Header) -> Result<Vec<Range<u64>>, Refusal> {
+    if !side_table_holds(stream, header) {
+        return Err(Refusal::bare(9));
+    }
+    chunk_stretches(stream, header).ok_or(Refusal::bare(9))
+}
+
+/// Each chunk's stretch of the data, counted from the data, or nothing if the
+/// chunk table breaks a rule.
+fn chunk_stretches(stream: &[u8], header: &Header) -> Option<Vec<Range<u64>>> {
+    let mut starts: Vec<u64> = Vec::new();
+    for chunk in 0..header.c {
+        let start = number_at(stream, HEADER_BYTES + TABLE_ENTRY_BYTES * chunk)? as u64;
+        let in_order = match starts.last() {
+            None => start == 0,
+            Some(&last) => start > last,
+        };
+        if !in_order || start >= header.data_length() {
+            return None;
+        }
+        starts.push(start);
+    }
+    if starts.is_empty() && header.data_length() != 0 {
+        return None;
+    }
+    let ends = starts.iter().copied().skip(1).chain([header.data_length()]);
+    Some(starts.iter().zip(ends).map(|(&start, end)| start..end).collect())
+}
+
+/// Ids increase strictly; the parts follow the table and each other without a
+/// gap; the last, or with none the data, ends with the stream.
+fn side_table_holds(stream: &[u8], header: &Header) -> bool {
+    let mut next_place = header.data_end + SIDE_ENTRY_BYTES * header.sides;
+    let mut last_id = None;
+    for side in 0..header.sides {
+        let entry = header.data_end + SIDE_ENTRY_BYTES * side;
+        let (Some(id), Some(place), Some(length)) = (
+            number_at(stream, entry),
+            number_at(stream, entry + 4),
+            number_at(stream, entry + 8),
+        ) else {
+            return false; // the table runs past the bytes
+        };
+        if last_id.is_some_and(|last| id <= last) || place as u64 != next_place {
+            return false;
+        }
+        last_id = Some(id);
+        next_place += length as u64;
+    }
+    next_place == stream.len() as u64
+}
+
+// -------------------------------------------------------- the chunks, 10
+
+/// The patterns of one chunk, or refusal 10 with that chunk's number.
+fn read_chunk(
+    stream: &[u8],
+    header: &Header,
+    stretch: &Range<u64>,
+    chunk: u64,
+) -> Result<Vec<u64>, Refusal> {
+    // Both ends are at most data_end, which is at most the stream's length.
+    let start = (header.data_place + stretch.start) as usize;
+    let end = (header.data_place + stretch.end) as usize;
+    stream
+        .get(start..end)
+        .and_then(|bytes| patterns_of_chunk(bytes, header.values_in_chunk(chunk), header.setting))
+        .ok_or(Refusal::with_detail(10, chunk))
+}
+
+/// The patterns in a chunk's bytes, or nothing if a rule is broken.
+fn patterns_of_chunk(mut bytes: &[u8], values: u64, setting: Setting) -> Option<Vec<u64>> {
+    let mut patterns = Vec::new();
+    let mut left = values;
+    while left > 0 {
+        let count = left.min(VALUES_IN_GROUP);
+        let (codes, rest) = codes_of_group(bytes, count as usize, setting.width())?;
+        for code in codes {
+            patterns.push(setting.restored(code)?);
+        }
+        bytes = rest;
+        left -= count;
+    }
+    // A chunk ends with its last group: nothing may be left over.
+    bytes.is_empty().then_some(patterns)
+}
+
+/// The codes of the group at the front of the bytes, and the bytes after it;
+/// nothing if w is above W or not smallest, bytes are missing or a padding bit
+/// is set.
+fn codes_of_group(bytes: &[u8], count: usize, width: Width) -> Option<(Vec<u64>, &[u8])> {
+    let (&w, bytes) = bytes.split_first()?;
+    let w = w as u32;
+    if w > width.bits() {
+        return None;
+    }
+    let length = bytes_of_codes(count, w);
+    let packed = bytes.get(..length)?;
+    let rest = bytes.get(length..)?;
+
+    let bit_at = |place: usize| (packed[place / 8] >> (place % 8) & 1) as u64;
+    let mut place = 0;
+    let mut codes = Vec::with_capacity(count);
+    for _ in 0..count {
+        let mut code = 0;
+        for bit in 0..w {
+            code |= bit_at(place) << bit;
+            place += 1;
+        }
+        codes.push(code);
+    }
+    let padding_is_zero = (place..8 * length).all(|place| bit_at(place) == 0);
+    (padding_is_zero && smallest_width(&codes) == w).then_some((codes, rest))
+}
+
+// ------------------------------------------------ check, unpack and probe
+
+/// A whole stream's header and chunk stretches, every rule checked. Order
+/// 1 5 6 7 8 9 10.
+pub(crate) fn checked(level: u32, stream: &[u8]) -> Result<(Header, Vec<Range<u64>>), Refusal> {
+    level_known(level)?;
+    let header = read_header(level, stream)?;
+    let stretches = read_tables(stream, &header)?;
+    for (chunk, stretch) in (0..).zip(&stretches) {
+        read_chunk(stream, &header, stretch, chunk)?;
+    }
+    Ok((header, stretches))
+}
+
+/// Checks a whole stream of either width and answers n.
+pub fn check(level: u32, stream: &[u8]) -> Answer {
+    checked(level, stream).map(|(header, _)| header.n)
+}
+
+/// Writes the n values to the front of the output and answers n. Order
+/// 1 5 6 7 8 14 4 9 10. The output is written only once nothing can be
+/// refused any more.
+pub fn unpack<P: Pattern>(level: u32, stream: &[u8], output: &mut [P]) -> Answer {
+    level_known(level)?;
+    let header = read_header(level, stream)?;
+    if header.setting.width() != P::WIDTH {
+        return Err(Refusal::bare(14));
+    }
+    if (output.len() as u64) < header.n {
+        return Err(Refusal::with_detail(4, header.n));
+    }
+    let stretches = read_tables(stream, &header)?;
+    let mut patterns = Vec::new();
+    for (chunk, stretch) in (0..).zip(&stretches) {
+        patterns.extend(read_chunk(stream, &header, stretch, chunk)?);
+    }
+    for (element, pattern) in output.iter_mut().zip(patterns) {
+        *element = P::of_number(pattern);
+    }
+    Ok(header.n)
+}
+
+/// One value by index. Order 1 5 6 7 8 14 11 9 10, the last for the index's
+/// own chunk only.
+pub fn probe<P: Pattern>(level: u32, stream: &[u8], index: u64) -> Probed<P> {
+    match pattern_at(level, stream, index, P::WIDTH) {
+        Ok(pattern) => told_apart(pattern),
+        Err(refusal) => Probed::Refused(refusal),
+    }
+}
+
+fn pattern_at(level: u32, stream: &[u8], index: u64, width: Width) -> Result<u64, Refusal> {
+    level_known(level)?;
+    let header = read_header(level, stream)?;
+    if header.setting.width() != width {
+        return Err(Refusal::bare(14));
+    }
+    if index >= header.n {
+        return Err(Refusal::bare(11));
+    }
+    let stretches = read_tables(stream, &header)?;
+    let chunk = index / VALUES_IN_CHUNK;
+    let patterns = read_chunk(stream, &header, &stretches[chunk as usize], chunk)?;
+    Ok(patterns[(index % VALUES_IN_CHUNK) as usize])
+}
+
+/// The kinds of IEEE 754: the greatest field with fraction 0 is an infinity,
+/// with another fraction a not-a-number, all else is finite.
+fn told_apart<P: Pattern>(pattern: u64) -> Probed<P> {
+    let infinity = P::WIDTH.greatest_field() << P::WIDTH.fraction_bits();
+    let ordinal = P::WIDTH.ordinal(pattern);
+    if ordinal < infinity {
+        Probed::Finite(P::of_number(pattern))
+    } else if ordinal == infinity {
+        Probed::Infinity {
+            negative: P::WIDTH.sign(pattern) == 1,
+        }
+    } else {
+        Probed::NotANumber(P::of_number(pattern))
+    }
+}

@@ -1,0 +1,137 @@
+//! The comparison harness, tried on libraries made of the plain version and
+//! the reference. With a really linked one it is tried in `mock`.
+
+use second::compare::call::{Call, Values};
+use second::compare::judge::{Judge, Library};
+use second::compare::outcome::{answered, lend, Lent, Outcome, MARGIN};
+use second::compare::random::XorShift;
+use second::compare::reference::by_reference;
+use second::compare::{run, Extent, Options};
+use second::numbers::{WIDTH_32, WIDTH_64};
+use second::plain;
+
+/// The plain version where it has the operation, else the reference.
+fn by_plain(call: &Call) -> Outcome {
+    match *call {
+        Call::Pack { level, mode, k, values, room } => lend(room, |buffer, room| {
+            let output = &mut buffer[room];
+            answered(match values {
+                Values::Singles(values) => plain::pack(level, mode, k, values, output),
+                Values::Doubles(values) => plain::pack(level, mode, k, values, output),
+            })
+        }),
+        Call::Length { level, mode, k, values } => Outcome::bare(answered(match values {
+            Values::Singles(values) => plain::length(level, mode, k, values),
+            Values::Doubles(values) => plain::length(level, mode, k, values),
+        })),
+        Call::Check { level, stream } => Outcome::bare(answered(plain::check(level, stream))),
+        Call::Unpack { width, level, stream, room } if width == WIDTH_32 => {
+            lend(room, |buffer: &mut [u32], room| {
+                answered(plain::unpack(level, stream, &mut buffer[room]))
+            })
+        }
+        Call::Unpack { level, stream, room, .. } => lend(room, |buffer: &mut [u64], room| {
+            answered(plain::unpack(level, stream, &mut buffer[room]))
+        }),
+        _ => by_reference(call),
+    }
+}
+
+#[test]
+fn the_plain_version_passes_a_quick_run() {
+    let options = Options { seed: 2, extent: Extent::Quick, trace: false };
+    let mut text = Vec::new();
+    let passed = run(&options, &by_plain, &mut text);
+    let text = String::from_utf8(text).unwrap();
+    assert!(passed, "{text}");
+    let last = text.lines().last().unwrap();
+    let cases: u64 = last.strip_suffix(" passed, 0 failed").unwrap().parse().unwrap();
+    assert!(cases >= 100_000, "{last}");
+}
+
+/// What the judge prints of one call, and that it does not pass.
+fn report_of(library: Library, call: Call) -> String {
+    let mut text = Vec::new();
+    let mut judge = Judge::new(library, &mut text, 7, false);
+    judge.begin("one call");
+    judge.compare(call);
+    judge.end();
+    assert!(!judge.finish());
+    String::from_utf8(text).unwrap()
+}
+
+/// A library that answers wrongly for lists in which 7 comes after 5.
+fn wrong_for_5_then_7(call: &Call) -> Outcome {
+    let mut outcome = by_reference(call);
+    if let Call::Length { values: Values::Singles(values), .. } = *call {
+        let five = values.iter().position(|&value| value == 5);
+        if five.is_some_and(|five| values[five..].contains(&7)) {
+            outcome.answer += 1;
+        }
+    }
+    outcome
+}
+
+#[test]
+fn a_differing_list_is_cut_short() {
+    let mut values: Vec<u32> = (100..1500).collect();
+    values[300] = 5;
+    values[1200] = 7;
+    let values = Values::Singles(&values);
+    let call = Call::Length { level: 8, mode: 0, k: 0, values };
+    let text = report_of(&wrong_for_5_then_7, call);
+    assert!(text.contains("DIFFERENCE in one call, case 1, seed 7\n"), "{text}");
+    assert!(text.contains("operation: length32\n"), "{text}");
+    assert!(text.contains("values (2): 00000005 00000007\n"), "{text}");
+    assert!(text.contains("\none call                                 1 cases       1 different\n"));
+}
+
+/// A library whose unpack writes 0 for a value of 9.
+fn loses_9(call: &Call) -> Outcome {
+    let mut outcome = by_reference(call);
+    if let (Call::Unpack { .. }, Lent::Doubles(values)) = (call, &mut outcome.lent) {
+        for value in values.iter_mut().filter(|value| **value == 9) {
+            *value = 0;
+        }
+    }
+    outcome
+}
+
+#[test]
+fn a_differing_stream_is_packed_again_from_a_shorter_list() {
+    let mut values: Vec<u64> = (1000..3000).collect();
+    values[1700] = 9;
+    let mut stream = vec![0; 20_000];
+    let length = plain::pack(10, 0, 0, &values, &mut stream).unwrap() as usize;
+    let stream = &stream[..length];
+    let call = Call::Unpack { width: WIDTH_64, level: 10, stream, room: 2003 };
+    let text = report_of(&loses_9, call);
+    assert!(text.contains("input: level 10 room 4 stream (54 bytes): 01000000"), "{text}");
+    assert!(text.contains("first differs at element 0: "), "{text}");
+}
+
+/// A library that writes right after the room.
+fn writes_past_room(call: &Call) -> Outcome {
+    let mut outcome = by_reference(call);
+    if let (Call::Pack { room, .. }, Lent::Bytes(bytes)) = (call, &mut outcome.lent) {
+        bytes[MARGIN + room] ^= 1;
+    }
+    outcome
+}
+
+#[test]
+fn a_write_past_the_room_is_found() {
+    let values = Values::Singles(&[]);
+    let call = Call::Pack { level: 8, mode: 0, k: 0, values, room: 48 };
+    let text = report_of(&writes_past_room, call);
+    assert!(text.contains("room 48, first differs at element 48: "), "{text}");
+}
+
+#[test]
+fn a_seed_repeats_and_its_uses_differ() {
+    let first = |seed, usage| XorShift::seeded(seed, usage).next();
+    assert_eq!(first(1, 1), first(1, 1));
+    assert_ne!(first(1, 1), first(1, 2));
+    assert_ne!(first(1, 1), first(2, 1));
+    assert_ne!(first(0, 0), 0);
+}

@@ -1,0 +1,10 @@
+//! All tests in one program: they share the generator and the helpers.
+
+mod big;
+mod damage;
+mod example;
+mod harness;
+mod known;
+mod numbers;
+mod random;
+mod streams;

@@ -1,0 +1,3 @@
+//! The seeded generator is that of the comparison harness.
+
+pub use second::compare::random::*;
