@@ -53,6 +53,15 @@ fn pattern(p: u32) {
     io::print_hex(STDOUT_FILENO, p as u64, 8);
 }
 
+fn cut(stream: &[u8]) {
+    if 0 < stream.len() {
+        told(
+            b"example cut",
+            reading::check(8, &stream[..stream.len() - 1]),
+        );
+    }
+}
+
 // "The list 0, -0, 2^-149, packed at level 8, mode 0, is 55 bytes", and what each operation says of them.
 fn example() {
     let list: [u32; 3] = [0, 0x8000_0000, 1];
@@ -60,6 +69,18 @@ fn example() {
     told(b"example packed", pack::pack32(8, 0, 0, &list, &mut out));
     text(b"example bytes ");
     text(&out);
+    text(b"\n");
+    told(b"example checked", reading::check(8, &out));
+    shown(b"example probed", probe::probe32(8, &out, 2));
+    shown(b"example probed past its end", probe::probe32(8, &out, 3));
+    cut(&out);
+    let mut back: [u32; 4] = [7; 4];
+    told(b"example unpacked", reading::unpack32(8, &out, &mut back));
+    text(b"example values");
+    pattern(back[0]);
+    pattern(back[1]);
+    pattern(back[2]);
+    pattern(back[3]);
     text(b"\n");
 }
 
@@ -75,85 +96,6 @@ fn example_too_short() {
     text(b"\n");
 }
 
-// The same bytes read: "the numbers 1 8 8 32 0 0 3 1 48 52 0 55, the table 0, then bytes 03 10 01".
-fn example_read() {
-    let stream: [u8; 55] = [
-        1,
-        0,
-        0,
-        0,
-        8,
-        0,
-        0,
-        0,
-        8,
-        0,
-        0,
-        0,
-        32,
-        0,
-        0,
-        0,
-        0,
-        0,
-        0,
-        0,
-        0,
-        0,
-        0,
-        0,
-        3,
-        0,
-        0,
-        0,
-        1,
-        0,
-        0,
-        0,
-        48,
-        0,
-        0,
-        0,
-        52,
-        0,
-        0,
-        0,
-        0,
-        0,
-        0,
-        0,
-        55,
-        0,
-        0,
-        0,
-        0,
-        0,
-        0,
-        0,
-        3,
-        16,
-        1,
-    ];
-    told(b"example checked", reading::check(8, &stream));
-    shown(b"example probed", probe::probe32(8, &stream, 2));
-    shown(
-        b"example probed past its end",
-        probe::probe32(8, &stream, 3),
-    );
-    told(b"example cut", reading::check(8, &stream[..54]));
-    let mut back: [u32; 4] = [7; 4];
-    told(
-        b"example unpacked",
-        reading::unpack32(8, &stream, &mut back),
-    );
-    text(b"example values");
-    pattern(back[0]);
-    pattern(back[1]);
-    pattern(back[2]);
-    pattern(back[3]);
-    text(b"\n");
-}
-
 // "Lengths at level 8, mode 0: no values, 48 bytes; 1,024 zeros, 84; 1,025 values have two chunks."
 fn lengths() {
     let zeros: [u32; 1025] = [0; 1025];
@@ -166,6 +108,16 @@ fn lengths() {
     text(b"\n");
 }
 
+// The code of the one value in a stream of 57 bytes, one u up.
+fn raise(stream: &mut [u8]) {
+    if stream.len() == 57 {
+        stream[53] = 0x00;
+        stream[54] = 0x00;
+        stream[55] = 0x00;
+        stream[56] = 0x6C;
+    }
+}
+
 // "u = 905969663 is read, 905969664 refused 10", at k = -2: that of the last not-a-number, and one more.
 fn largest_u() {
     let list: [u32; 1] = [0x7FFF_FFFF];
@@ -174,143 +126,17 @@ fn largest_u() {
     text(b"largest u bytes ");
     text(&out);
     text(b"\n");
-}
-
-fn largest_u_read() {
-    let stream: [u8; 57] = [
-        1,
-        0,
-        0,
-        0,
-        9,
-        0,
-        0,
-        0,
-        9,
-        0,
-        0,
-        0,
-        32,
-        0,
-        0,
-        0,
-        1,
-        0,
-        0,
-        0,
-        254,
-        255,
-        255,
-        255,
-        1,
-        0,
-        0,
-        0,
-        1,
-        0,
-        0,
-        0,
-        48,
-        0,
-        0,
-        0,
-        52,
-        0,
-        0,
-        0,
-        0,
-        0,
-        0,
-        0,
-        57,
-        0,
-        0,
-        0,
-        0,
-        0,
-        0,
-        0,
-        31,
-        0xFE,
-        0xFF,
-        0xFF,
-        0x6B,
-    ];
-    told(b"largest u checked", reading::check(9, &stream));
-    shown(b"largest u probed", probe::probe32(9, &stream, 0));
-    told(b"largest u at level 8", reading::check(8, &stream));
-}
-
-fn one_more_read() {
-    let stream: [u8; 57] = [
-        1,
-        0,
-        0,
-        0,
-        9,
-        0,
-        0,
-        0,
-        9,
-        0,
-        0,
-        0,
-        32,
-        0,
-        0,
-        0,
-        1,
-        0,
-        0,
-        0,
-        254,
-        255,
-        255,
-        255,
-        1,
-        0,
-        0,
-        0,
-        1,
-        0,
-        0,
-        0,
-        48,
-        0,
-        0,
-        0,
-        52,
-        0,
-        0,
-        0,
-        0,
-        0,
-        0,
-        0,
-        57,
-        0,
-        0,
-        0,
-        0,
-        0,
-        0,
-        0,
-        31,
-        0x00,
-        0x00,
-        0x00,
-        0x6C,
-    ];
-    told(b"one more checked", reading::check(9, &stream));
-    shown(b"one more probed", probe::probe32(9, &stream, 0));
+    told(b"largest u checked", reading::check(9, &out));
+    shown(b"largest u probed", probe::probe32(9, &out, 0));
+    told(b"largest u at level 8", reading::check(8, &out));
+    raise(&mut out);
+    told(b"one more checked", reading::check(9, &out));
+    shown(b"one more probed", probe::probe32(9, &out, 0));
 }
 
 fn main() {
     example();
     example_too_short();
-    example_read();
     lengths();
     largest_u();
-    largest_u_read();
-    one_more_read();
 }

@@ -3,7 +3,7 @@
 // The functions at a bin are the solver's inner loop; they take every j, and one past the last counts as the last.
 ghost use mathlib.Core.Path.{_≡_};
 ghost use Prim.Native.Nat.{_+_, _*_, _^_, _≤_, _<_, min};
-ghost use Rattle.numbers.specs.Tolerance.{lastBin, near, magnitude, threshold, thresholdOrdinal, ordinalOf, toleranceCode, toleranceRestored, largestU};
+ghost use Rattle.numbers.specs.Tolerance.{lastBin, near, magnitude, thresholdOrdinal, ordinalOf, toleranceCode, toleranceRestored, largestU};
 ghost use Rattle.numbers.specs.Answers.{binAnswer, codeAnswer, patternAnswer};
 
 // The bin of an exponent k.

@@ -1,6 +1,6 @@
 // A chunk: its values coded and cut into groups, its bytes checked, and its values restored.
 ghost use mathlib.Core.Path.{_≡_};
-ghost use mathlib.Core.List.{List, _++_, map};
+ghost use mathlib.Core.List.{_++_};
 ghost use Prim.Native.Nat.{_≤_, _<_, _-_, _+_, _^_, min};
 ghost use lib.ListN.{length, take, drop, getD};
 ghost use Rattle.stream.specs.Bytes.{Below};

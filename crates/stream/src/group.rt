@@ -59,7 +59,7 @@ pub(crate) fn measured(g: Group) -> usize
     1 + (w * n + 7) / 8
 }
 
-// Eight bytes, lowest first. The stores are one store of the machine.
+// Eight bytes, lowest first, side by side, so that a compiler can make one store of them.
 fn store(out: &mut [u8], at: usize, word: u64)
     requires { ⌜ at + 8 ≤ length (now out) ⌝ }
     ensures { λ _. ⌜ now (out .exit) ≡ take at (now (out .entry)) ++ digits 256 8 word ++ drop (at + 8) (now (out .entry)) ⌝ }
@@ -160,7 +160,7 @@ fn wide(x: u8) -> u64
     x as u64
 }
 
-// Two bytes, lowest first; then four and eight. The loads of all eight are one load of the machine.
+// Two bytes, lowest first; then four and eight, side by side, so that a compiler can make one load of them.
 fn pair(s: &[u8], at: usize) -> u64
     requires { ⌜ at + 2 ≤ length (now s) ⌝ }
     ensures { λ r. ⌜ (r ≡ number 256 (take 2 (drop at (now (s .entry))))) × (r < 65536) ⌝ }

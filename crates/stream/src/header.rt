@@ -33,7 +33,7 @@ fn byte(b: u8) -> usize
     b as usize
 }
 
-// The 32-bit little-endian number at a byte place. The four loads are one load of the machine.
+// The 32-bit little-endian number at a byte place.
 pub(crate) fn word_at(bytes: &[u8], at: usize) -> usize
     requires { ⌜ at + 4 ≤ length (now bytes) ⌝ }
     ensures { λ r. ⌜ (r ≡ word (now (bytes .entry)) at) × (r < 2 ^ 32) ⌝ }

@@ -58,7 +58,7 @@ fn piece_end(from: usize, n: usize) -> usize
     if n - from < 1024 { n } else { from + 1024 }
 }
 
-// A number in 4 bytes, lowest first. The stores are one store of the machine.
+// A number in 4 bytes, lowest first.
 fn put_word(out: &mut [u8], at: usize, n: u32)
     requires { ⌜ at + 4 ≤ length (now out) ⌝ }
     ensures { λ _. ⌜ now (out .exit) ≡ take at (now (out .entry)) ++ digits 256 4 n ++ drop (at + 4) (now (out .entry)) ⌝ }
