@@ -187,6 +187,7 @@ fn put_listing(bytes: &[u8], text: &mut [u8]) -> usize
 pub fn listing(bytes: &[u8], text: &mut [u8; 82432]) -> usize
     ensures { λ r. ⌜ r ≡ length (listing (now (bytes .entry))) ⌝ }
     ensures { λ _. ⌜ now (text .exit) ≡ listing (now (bytes .entry)) ++ drop (length (listing (now (bytes .entry)))) (now (text .entry)) ⌝ }
+    ensures { λ r. ⌜ r ≤ length (now (text .exit)) ⌝ }
 {
     put_listing(bytes, text)
 }
