@@ -10,14 +10,16 @@ use lib.IntN.{ℤ}
 use lib.Pow.{pow-pos}
 use lib.Ieee.{binary32, binary64, inf, nan, ofBits}
 use lib.Ieee.Exact.{HasValue}
+use Rattle.numbers.specs.declared.tolerance.BinAnswer.the-variants.{Bin, NotAllowed}
 use Rattle.numbers.specs.declared.bound.BoundAnswer.the-variants.{Exponent, NoTolerance, TooSmall}
 use Rattle.numbers.specs.Lossless.{losslessCode, losslessRestored}
 use Rattle.numbers.specs.Tolerance.{leastK, lastBin, allowedK, binOf, sign, ordinal, magnitude, threshold, magnitudeCode, restoredOrdinal, toleranceCode, toleranceRestored, largestU}
+use Rattle.numbers.specs.Answers.{binAnswer}
 use Rattle.numbers.specs.Bound.{isTolerance, notAbove, boundAt}
 use Rattle.numbers.specs.Theorem.{Format, distance, Within, IsBound}
 use Rattle.numbers.proofs.Law.Lossless as Lossless
 use Rattle.numbers.proofs.Law.Tolerance as Tolerance
-use Rattle.numbers.proofs.Law.Answers.{bin-small}
+use Rattle.numbers.proofs.Law.Answers.{bin-small, allowed, bin-is, refused-is}
 use Rattle.numbers.proofs.Law.Exponent.{leZ-both}
 use Rattle.numbers.proofs.Law.Bound as Bound
 use Rattle.numbers.proofs.Law.Ieee as Ieee
@@ -35,6 +37,14 @@ format-64 = record { room = lit≤ tt; least = lit< tt; order = lit≤ tt }
 pub format-16 : Format 16 10
 unfolding leastK lastBin
 format-16 = record { room = lit≤ tt; least = lit< tt; order = lit≤ tt }
+
+-- ---- the answers of `bin32` and `bin64`: the bin of an allowed k, or none
+
+pub a-bin-is-that-of-k : (W m : ℕ) (k : ℤ) (j : ℕ) → binAnswer W m k ≡ Bin j → (allowedK W m k ≡ true) × (binOf W m k ≡ j)
+a-bin-is-that-of-k W m k j e = (allowed W m k j e, bin-is W m k j e)
+
+pub no-bin-means-not-allowed : (W m : ℕ) (k : ℤ) → binAnswer W m k ≡ NotAllowed → allowedK W m k ≡ false
+no-bin-means-not-allowed W m k e = refused-is W m k (allowedK W m k) refl e
 
 -- ---- lossless
 
@@ -73,9 +83,16 @@ module _ (W m : ℕ) (format : Format W m) where
     pub tolerance-pattern-has-W-bits : (c : ℕ) → toleranceRestored W m j c < 2 ^ W
     tolerance-pattern-has-W-bits = Tolerance.pattern-under W m (format .room) j in-range
 
-  module _ (k : ℤ) (allowed : allowedK W m k ≡ true) where
-    bin : binOf W m k ≤ lastBin W m
-    bin = bin-small W m k (format .least) (format .order) allowed
+    -- "The largest u": no pattern has a larger one ..
+    pub no-u-is-larger : (p : ℕ) → p < 2 ^ W → toleranceCode W m j p / 2 ≤ largestU W m j
+    unfolding ordinal
+    no-u-is-larger p h =
+        rw (Tolerance.code-half W m (format .room) j in-range p h)
+        (Tolerance.code-largest W m (format .room) j in-range (ordinal W p) (mod-lt p (pow-pos (W - 1))))
+
+  module _ (k : ℤ) (is-allowed : allowedK W m k ≡ true) where
+    pub an-allowed-k-has-a-bin : binOf W m k ≤ lastBin W m
+    an-allowed-k-has-a-bin = bin-small W m k (format .least) (format .order) is-allowed
 
     -- Demand 2: under tolerance 2^k, a value whose magnitude is below the threshold returns at most 2^k off, exactly; all else returns bit
     -- for bit.
@@ -85,47 +102,41 @@ module _ (W m : ℕ) (format : Format W m) where
     every-pattern-returns-within p h =
         let j = binOf W m k in
         record {
-          signed = Tolerance.sign-returns W m (format .room) j bin p h;
+          signed = Tolerance.sign-returns W m (format .room) j an-allowed-k-has-a-bin p h;
           close = λ l.
-              rw (Tolerance.ordinal-returned W m (format .room) j bin p h)
+              rw (Tolerance.ordinal-returned W m (format .room) j an-allowed-k-has-a-bin p h)
               (let near = Tolerance.returns-close m j (ordinal W p) l in omega (arith, near .0, near .1));
-          exact = Tolerance.pattern-returns W m (format .room) j bin p h;
+          exact = Tolerance.pattern-returns W m (format .room) j an-allowed-k-has-a-bin p h;
         }
 
     -- infinities and not-a-numbers too: their ordinals are those from the largest exponent on
     pub specials-return : (p : ℕ) → p < 2 ^ W → (2 ^ (W - 1 - m) - 1) * 2 ^ m ≤ ordinal W p
         → toleranceRestored W m (binOf W m k) (toleranceCode W m (binOf W m k) p) ≡ p
     specials-return p h l =
-        Tolerance.pattern-returns W m (format .room) (binOf W m k) bin p h (Tolerance.special-above W m (format .room) (binOf W m k) bin (ordinal W p) l)
+        Tolerance.pattern-returns W m (format .room) (binOf W m k) an-allowed-k-has-a-bin p h (Tolerance.special-above W m (format .room) (binOf W m k) an-allowed-k-has-a-bin (ordinal W p) l)
 
-    -- "The largest u": no pattern has a larger one, and each u up to it is that of the pattern it restores
-    pub no-u-is-larger : (p : ℕ) → p < 2 ^ W → toleranceCode W m (binOf W m k) p / 2 ≤ largestU W m (binOf W m k)
-    unfolding ordinal
-    no-u-is-larger p h =
-        rw (Tolerance.code-half W m (format .room) (binOf W m k) bin p h)
-        (Tolerance.code-largest W m (format .room) (binOf W m k) bin (ordinal W p) (mod-lt p (pow-pos (W - 1))))
-
+    -- .. and each u up to it is that of the pattern it restores
     pub nothing-read-is-lost : (c : ℕ) → c / 2 ≤ largestU W m (binOf W m k)
         → toleranceCode W m (binOf W m k) (toleranceRestored W m (binOf W m k) c) ≡ c
-    nothing-read-is-lost = Tolerance.code-returns W m (format .room) (binOf W m k) bin
+    nothing-read-is-lost = Tolerance.code-returns W m (format .room) (binOf W m k) an-allowed-k-has-a-bin
 
     -- "Restored: u·E if u < 2^m", and at u = 2^m the threshold, which is 2^m·E: the magnitude, and the sign beside it
     module _ (c : ℕ) (small : c / 2 ≤ 2 ^ m) (read : c / 2 ≤ largestU W m (binOf W m k)) where
       parts : toleranceRestored W m (binOf W m k) c ≡ restoredOrdinal m (binOf W m k) (c / 2) + c % 2 * 2 ^ (W - 1)
-      parts = Tolerance.restored-parts W m (format .room) (binOf W m k) bin c read
+      parts = Tolerance.restored-parts W m (format .room) (binOf W m k) an-allowed-k-has-a-bin c read
 
       ordinal-room : restoredOrdinal m (binOf W m k) (c / 2) < 2 ^ (W - 1)
-      ordinal-room = Tolerance.restored-small W m (format .room) (binOf W m k) bin (c / 2) read
+      ordinal-room = Tolerance.restored-small W m (format .room) (binOf W m k) an-allowed-k-has-a-bin (c / 2) read
 
       pub u-restores-u-bins : magnitude m (ordinal W (toleranceRestored W m (binOf W m k) c)) ≡ c / 2 * 2 ^ binOf W m k
       u-restores-u-bins =
           ap (λ (p : ℕ). magnitude m (ordinal W p)) parts
-          ∙ ap (magnitude m) (Tolerance.joined-ordinal W m (format .room) (binOf W m k) bin (restoredOrdinal m (binOf W m k) (c / 2)) (c % 2) ordinal-room)
+          ∙ ap (magnitude m) (Tolerance.joined-ordinal W m (format .room) (binOf W m k) an-allowed-k-has-a-bin (restoredOrdinal m (binOf W m k) (c / 2)) (c % 2) ordinal-room)
           ∙ Tolerance.restored-magnitude m (binOf W m k) (c / 2) small
 
       pub the-sign-is-put-back : sign W (toleranceRestored W m (binOf W m k) c) ≡ c % 2
       the-sign-is-put-back =
-          ap (sign W) parts ∙ Tolerance.joined-sign W m (format .room) (binOf W m k) bin (restoredOrdinal m (binOf W m k) (c / 2)) (c % 2) ordinal-room
+          ap (sign W) parts ∙ Tolerance.joined-sign W m (format .room) (binOf W m k) an-allowed-k-has-a-bin (restoredOrdinal m (binOf W m k) (c / 2)) (c % 2) ordinal-room
 
   -- ---- bound
 

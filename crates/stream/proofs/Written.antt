@@ -19,13 +19,13 @@ use Rattle.stream.specs.Header.{word, headerOf, chunksIn, settingRight, 
 use Rattle.stream.specs.Tables.{chunkTableRight, sideTableRight}
 use Rattle.stream.specs.Stream.{chunkState, values}
 use Rattle.stream.specs.Writing.{headerNumbers, endOf, stream, Side, withSides, WellFormedSides}
-use Rattle.stream.specs.Packing.{Packable, Sent, mostBytes}
+use Rattle.stream.specs.Packing.{Packable, firstPart, Sent, mostBytes}
 use Rattle.stream.specs.Operations.{checkRows, checkAnswer, unpackRows, unpackAnswer, unpackOut, lengthAnswer, packAnswer, packOut}
 use Rattle.stream.specs.declared.answers.Answer.the-variants.{Done, Refused}
 use Rattle.stream.specs.declared.answers.Step.the-variants.{Pass, Stop}
 use Rattle.stream.specs.declared.chunk.ChunkAnswer.the-variants.{Good}
 use Rattle.stream.specs.declared.header.Header.{Header}
-use Rattle.numbers.proofs.Law.Number.{le-or-lt}
+use Rattle.stream.proofs.Law.Truth.{le-or-lt}
 use Rattle.stream.proofs.Law.Pieces.{end-most}
 use Rattle.stream.proofs.Law.Answering.{rows-pass, room-enough, length-stream, length-done, pack-done}
 use Rattle.stream.proofs.Law.Admitted.{plain-sent, bytes-sent, header-words, header-read, setting-kept, layout-kept, chunk-table-kept, side-table-kept, chunks-kept, values-read, check-pass, check-stop, unpack-pass, unpack-stop}
@@ -35,17 +35,17 @@ use Rattle.stream.proofs.Law.Returning.{lossless-back, tolerance-back}
 module _ (W level mode : ℕ) (k : ℤ) (vs : List ℕ) (p : Packable W level mode k vs) where
   -- ---- writing
 
-  -- length answers the stream's length
-  pub length-is-answered : lengthAnswer W level mode k vs ≡ Done (length (stream W level mode k vs))
-  length-is-answered = sym (length-done W level mode k vs (length (stream W level mode k vs)) (rows-pass W level mode k vs p) (length-stream W level mode k vs))
+  -- length answers the stream's length, at a level that we know
+  pub length-is-answered : knownLevel level ≡ true → lengthAnswer W level mode k vs ≡ Done (length (stream W level mode k vs))
+  length-is-answered known = sym (length-done W level mode k vs (length (stream W level mode k vs)) (rows-pass W level mode k vs known p) (length-stream W level mode k vs))
 
   -- pack writes the stream where there is room for it, and alters nothing past it
-  pub the-stream-is-packed : (out : List ℕ) → length (stream W level mode k vs) ≤ length out
+  pub the-stream-is-packed : knownLevel level ≡ true → (out : List ℕ) → length (stream W level mode k vs) ≤ length out
       → (packAnswer W level mode k vs (length out) ≡ Done (length (stream W level mode k vs)))
       × (packOut W level mode k vs out ≡ stream W level mode k vs ++ drop (length (stream W level mode k vs)) out)
-  the-stream-is-packed out room =
+  the-stream-is-packed known out room =
       let done =
-      pack-done W level mode k vs out (rows-pass W level mode k vs p) (length (stream W level mode k vs)) (stream W level mode k vs ++ drop (length (stream W level mode k vs)) out)
+      pack-done W level mode k vs out (rows-pass W level mode k vs known p) (length (stream W level mode k vs)) (stream W level mode k vs ++ drop (length (stream W level mode k vs)) out)
       (sym (room-enough W mode k vs (length out) (rw (length-stream W level mode k vs) at room))) refl refl in
       (sym (done .0), sym (done .1))
 
@@ -58,10 +58,10 @@ module _ (W level mode : ℕ) (k : ℤ) (vs : List ℕ) (p : Packable W level mo
   -- ---- what a reader meets: the plain stream, or one with side parts behind its data
 
   pub the-plain-stream : Sent W level mode k vs (stream W level mode k vs)
-  the-plain-stream = plain-sent W level mode k vs p
+  the-plain-stream = plain-sent W level mode k vs
 
-  pub with-side-parts : (ps : List Side) → WellFormedSides ps → length (withSides W level mode k vs ps) < 2 ^ 32 → Sent W level mode k vs (withSides W level mode k vs ps)
-  with-side-parts ps well short = record { sides = ps; well-formed = well; bytes = refl; short = short }
+  pub with-side-parts : (ps : List Side) → WellFormedSides (firstPart W mode k vs (length ps)) ps → Sent W level mode k vs (withSides W level mode k vs ps)
+  with-side-parts ps well = record { sides = ps; well-formed = well; bytes = refl }
 
   module _ (s : List ℕ) (sent : Sent W level mode k vs s) where
     -- it is bytes

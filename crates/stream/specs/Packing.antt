@@ -7,28 +7,32 @@ use lib.Dec.{ltb}
 use lib.IntN.{ℤ}
 use lib.ListN.{length}
 use Rattle.stream.specs.Bytes.{Below}
-use Rattle.stream.specs.Setting.{knownLevel, knownWidth, need, allowedSetting, groupSize}
+use Rattle.stream.specs.Setting.{knownWidth, need, allowedSetting, groupSize}
 use Rattle.stream.specs.Chunk.{groupsIn}
 use Rattle.stream.specs.Header.{chunksIn}
 use Rattle.stream.specs.Rows.{Row, row}
 use Rattle.stream.specs.Writing.{endOf, Side, withSides, WellFormedSides}
 
--- a list of values, W bits wide, at a level and a setting that none of the refusals 1, 2 and 3 is given for
+-- A list of values, W bits wide, with a written minor and a setting that a stream may have: the minor reaches the need. The levels that
+-- pack takes are some of these minors (`knownLevel`); the others are those of later writers: "A stream from a later minor is read if its
+-- need allows."
 pub record Packable (W level mode : ℕ) (k : ℤ) (vs : List ℕ) : Type 0 where
   pub width : knownWidth W ≡ true
-  pub known : knownLevel level ≡ true
+  pub minor : level < 2 ^ 32
   pub allowed : allowedSetting W mode k ≡ true
   pub needs : need W mode ≤ level
   pub few : length vs ≤ 1048576
   pub patterns : Below (2 ^ W) vs
 
--- The bytes s of such a list as a reader may meet them: as pack wrote them, or with well-formed side parts added behind the data. All
--- their places are numbers of 32 bits.
+-- where the first of so many side parts lies: right after the side table, which lies at the end of data
+unfoldable pub firstPart : ℕ → ℕ → ℤ → List ℕ → ℕ → ℕ
+firstPart W mode k vs sides = endOf W mode k vs (chunksIn (length vs)) + 12 * sides
+
+-- The bytes s of such a list as a reader may meet them: as pack wrote them, or with well-formed side parts added behind the data.
 pub record Sent (W level mode : ℕ) (k : ℤ) (vs s : List ℕ) : Type 0 where
   pub sides : List Side
-  pub well-formed : WellFormedSides sides
+  pub well-formed : WellFormedSides (firstPart W mode k vs (length sides)) sides
   pub bytes : s ≡ withSides W level mode k vs sides
-  pub short : length s < 2 ^ 32
 
 -- "Packed length is never above 48 + 4c + (n/32 rounded up) + n·W/8."
 unfoldable pub mostBytes : ℕ → ℕ → ℕ → ℕ

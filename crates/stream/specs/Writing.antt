@@ -6,7 +6,7 @@ use mathlib.Core.Bool.{Bool, true, _&&_}
 use mathlib.Core.List.{List, [], _∷_, _++_}
 use lib.Dec.{leb}
 use lib.IntN.{ℤ}
-use lib.ListN.{length, take, drop, getD, replicate}
+use lib.ListN.{length, take, drop, replicate}
 use Rattle.numbers.specs.Signed.{bitsOf}
 use Rattle.stream.specs.Bytes.{digits, Below}
 use Rattle.stream.specs.Setting.{need, binFor, groupSize, codesOf}
@@ -79,7 +79,7 @@ pub record Side : Type 0 where
   pub id : ℕ
   pub bytes : List ℕ
 
--- "s entries of id, place, length", for parts of which the first lies at the place
+-- "s entries of id, place (counted from the stream's start), length", for parts of which the first lies at the place
 unfoldable pub entries : ℕ → List Side → List ℕ
 entries place [] = []
 entries place (p ∷ ps) = p .id ∷ place ∷ length (p .bytes) ∷ entries (place + length (p .bytes)) ps
@@ -101,10 +101,10 @@ unfoldable pub increasing : ℕ → List Side → Bool
 increasing floor [] = true
 increasing floor (p ∷ ps) = leb floor (p .id) && increasing (suc (p .id)) ps
 
--- Side parts that a stream may have: "at most 64", ids that increase and are numbers of a table, and bytes. That the places are numbers of
--- a table too is said of the stream, whose length is to stay below 2 ^ 32.
-pub record WellFormedSides (ps : List Side) : Type 0 where
+-- Side parts that a stream may have, the first of them at the place: "at most 64", ids that increase, a table of numbers of 32 bits, and
+-- bytes.
+pub record WellFormedSides (place : ℕ) (ps : List Side) : Type 0 where
   pub few : length ps ≤ 64
   pub ordered : increasing 0 ps ≡ true
-  pub ids : (i : ℕ) → getD ps i (record { id = 0; bytes = [] }) .id < 2 ^ 32
+  pub numbers : Below (2 ^ 32) (entries place ps)
   pub are-bytes : Below 256 (parts ps)

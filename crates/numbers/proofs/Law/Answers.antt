@@ -73,7 +73,7 @@ module _ (W m : ℕ) (k : ℤ) where
     pub unclipped : 0 < leastK W m → leastK W m ≤ lastBin W m → min j (lastBin W m) ≡ j
     unclipped some order = min-eq-left (rw bin-is at (bin-small some order allowed))
 
-  refused-is : (b : Bool) → allowedK W m k ≡ b → binAnswer W m k ≡ bin.NotAllowed → allowedK W m k ≡ false
+  pub refused-is : (b : Bool) → allowedK W m k ≡ b → binAnswer W m k ≡ bin.NotAllowed → allowedK W m k ≡ false
   unfolding binAnswer
   refused-is true e is = let z : bin.Bin (binOf W m k) ≡ bin.NotAllowed = sym (ap (λ (b : Bool). cond b (bin.Bin (binOf W m k)) bin.NotAllowed) e) ∙ is in cc
   refused-is false e is = e

@@ -17,7 +17,7 @@ use Rattle.stream.specs.Header.{word, headerOf, chunksIn, settingRight, 
 use Rattle.stream.specs.Tables.{chunkTableRight, sideTableRight}
 use Rattle.stream.specs.Stream.{chunkState, valuesIn, values}
 use Rattle.stream.specs.Writing.{spell, piece, pieceBytes, dataOf, startsOf, headerNumbers, endOf, body, stream, Side, entries, parts, withSides, increasing, WellFormedSides}
-use Rattle.stream.specs.Packing.{Packable, Sent}
+use Rattle.stream.specs.Packing.{Packable, firstPart, Sent}
 use Rattle.stream.specs.Operations.{headerRows, openingRows, tableRows, chunkRow, chunkRows, contentRows, widthRow, roomRow, checkRows, unpackRows}
 use Rattle.stream.specs.declared.answers.Step.the-variants.{Pass, Stop}
 use Rattle.stream.specs.declared.chunk.ChunkAnswer.the-variants.{Good}
@@ -31,8 +31,8 @@ use Rattle.stream.proofs.Law.Widths.{width-bytes}
 use Rattle.stream.proofs.Law.Joining.{joined-below}
 use Rattle.stream.proofs.Law.Spelling.{spell-below}
 use Rattle.stream.proofs.Law.Returning.{chunk-below}
-use Rattle.stream.proofs.Law.Pieces.{piece-below, end-is, end-small}
-use Rattle.stream.proofs.Law.Answering.{length-body, length-stream}
+use Rattle.stream.proofs.Law.Pieces.{piece-below, end-is}
+use Rattle.stream.proofs.Law.Answering.{length-body}
 use Rattle.stream.proofs.Law.Heading.{headerFor, frontNumbers, front-word, header-is, setting-right, layout-right}
 use Rattle.stream.proofs.Law.Tabled.{chunk-table-right, chunk-good, values-back}
 use Rattle.stream.proofs.Law.Sided.{length-sided, side-table-right}
@@ -42,17 +42,12 @@ plain-is : (W level mode : ℕ) (k : ℤ) (vs : List ℕ) → stream W level mod
 unfolding stream withSides entries parts spell
 plain-is W level mode k vs = sym (append-nil (body W level mode k vs 0 ++ []) ∙ append-nil (body W level mode k vs 0))
 
-no-sides : WellFormedSides []
-unfolding increasing parts
-no-sides = record { few = zero-le; ordered = refl; ids = λ i. lit< tt; are-bytes = λ i. byte }
+no-sides : (place : ℕ) → WellFormedSides place []
+unfolding increasing entries parts
+no-sides place = record { few = zero-le; ordered = refl; numbers = λ i. lit< tt; are-bytes = λ i. byte }
 
-pub plain-sent : (W level mode : ℕ) (k : ℤ) (vs : List ℕ) → Packable W level mode k vs → Sent W level mode k vs (stream W level mode k vs)
-plain-sent W level mode k vs p = record {
-  sides = [];
-  well-formed = no-sides;
-  bytes = plain-is W level mode k vs;
-  short = omega (arith, length-stream W level mode k vs, end-small W mode k vs (p .width) (p .patterns) (p .few) (chunksIn (length vs)) (omega arith));
-}
+pub plain-sent : (W level mode : ℕ) (k : ℤ) (vs : List ℕ) → Sent W level mode k vs (stream W level mode k vs)
+plain-sent W level mode k vs = record { sides = []; well-formed = no-sides (firstPart W mode k vs 0); bytes = plain-is W level mode k vs }
 
 -- rows of which none is given
 all-pass : (f : ℕ → Row) (k i : ℕ) → ((j : ℕ) → i ≤ j → j < i + k → first (f j ∷ []) ≡ Pass) → first (rowsFrom f k i) ≡ Pass
@@ -64,7 +59,8 @@ module _ (W level mode : ℕ) (k : ℤ) (vs : List ℕ) (p : Packable W level mo
   abbrev ps : List Side
   ps = sent .sides
 
-  abbrev well : WellFormedSides ps
+  abbrev well : WellFormedSides (endOf W mode k vs (chunksIn (length vs)) + 12 * length ps) ps
+  unfolding firstPart
   well = sent .well-formed
 
   abbrev chunks : ℕ
@@ -125,7 +121,7 @@ module _ (W level mode : ℕ) (k : ℤ) (vs : List ℕ) (p : Packable W level mo
   pub side-table-kept : sideTableRight (headerOf s) s ≡ true
   side-table-kept =
       ap₂ sideTableRight header-read after-body
-      ∙ side-table-right (headerFor W level mode k vs (length ps)) (body W level mode k vs (length ps)) ps well (length-body W level mode k vs (length ps)) refl (rw after-body at (sent .short))
+      ∙ side-table-right (headerFor W level mode k vs (length ps)) (body W level mode k vs (length ps)) ps well (length-body W level mode k vs (length ps)) refl
 
   pub chunks-kept : (j : ℕ) → j < chunks → chunkState (headerOf s) s j ≡ Good
   chunks-kept j h = ap₂ (λ (x : Header) (l : List ℕ). chunkState x l j) header-read after-front ∙ chunk-good W level mode k vs p (length ps) (well .few) behind j h

@@ -43,9 +43,9 @@ length-passed W level mode k n e =
       few = ltb-false 1048576 n (not-given 3 0 (ltb 1048576 n) (two .1));
     }
 
-pub rows-pass : (W level mode : ℕ) (k : ℤ) (vs : List ℕ) → Packable W level mode k vs → first (lengthRows W level mode k (length vs)) ≡ Pass
+pub rows-pass : (W level mode : ℕ) (k : ℤ) (vs : List ℕ) → knownLevel level ≡ true → Packable W level mode k vs → first (lengthRows W level mode k (length vs)) ≡ Pass
 unfolding lengthRows tooMany first
-rows-pass W level mode k vs p = rw (p .known, p .allowed, le-ltb level (need W mode) (p .needs), le-ltb 1048576 (length vs) (p .few))
+rows-pass W level mode k vs known p = rw (known, p .allowed, le-ltb level (need W mode) (p .needs), le-ltb 1048576 (length vs) (p .few))
 
 -- ---- row 4
 

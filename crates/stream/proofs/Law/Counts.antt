@@ -15,8 +15,8 @@ use Rattle.stream.specs.Header.{binIn}
 use Rattle.stream.specs.Stream.{joined, countOf, chunkOf, chunkValues, valuesIn, valueIn}
 use Rattle.stream.specs.Relied.{Layout}
 use Rattle.stream.specs.declared.header.Header.{Header}
+use Rattle.stream.proofs.Law.Truth.{le-or-lt}
 use Rattle.stream.proofs.Law.Bytes.{length-digits}
-use Rattle.numbers.proofs.Law.Number.{le-or-lt}
 
 length-group : (n : ℕ) (s : List ℕ) → length (groupCodes n s) ≡ n
 unfolding groupCodes

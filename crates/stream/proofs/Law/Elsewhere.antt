@@ -18,8 +18,8 @@ use Rattle.stream.specs.Stream.{countOf, chunkOf, chunkState, chunkValue
 use Rattle.stream.specs.Operations.{openingRows, tableRows, faultRow, chunkRow, ownRows, probeRows}
 use Rattle.stream.specs.Relied.{Layout}
 use Rattle.stream.specs.Theorem.{atChunk, Apart, InChunk}
+use Rattle.stream.proofs.Law.Truth.{le-or-lt}
 use Rattle.stream.proofs.Law.Starts.{rising, ends-before, placed}
-use Rattle.numbers.proofs.Law.Number.{le-or-lt}
 
 -- bytes of a front, read from the front
 window : (p k n : ℕ) (l : List ℕ) → p + k ≤ n → take k (drop p (take n l)) ≡ take k (drop p l)

@@ -90,10 +90,6 @@ module _ (W level mode : ℕ) (k : ℤ) (vs : List ℕ) where
         rw (singles-at (λ i. length (dataOf W mode k vs i)) chunks j l)
         (omega (arith, end-below, end-is W mode k vs j, end-grows W mode k vs j chunks (omega arith)))
 
-    level-small : level ≤ 10
-    unfolding knownLevel
-    level-small = leb-true level 10 (and-right (leb 8 level) (leb level 10) (p .known))
-
     -- all have 32 bits
     front-below : Below (2 ^ 32) (frontNumbers sides)
     unfolding headerNumbers chunksIn
@@ -101,7 +97,7 @@ module _ (W level mode : ℕ) (k : ℤ) (vs : List ℕ) where
         each-below (2 ^ 32) (headerNumbers W level mode k (length vs) sides end) (startsOf W mode k vs chunks) (
           lit< tt,
           (
-            omega (arith, level-small),
+            p .minor,
             (
               omega (arith, need-small W mode),
               (

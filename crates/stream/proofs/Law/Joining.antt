@@ -10,7 +10,7 @@ use lib.ListN.{length, take, drop, getD, length-append, List·getD-append}
 use lib.Seq.{take-at, drop-at, getD-at}
 use Rattle.stream.specs.Bytes.{Below}
 use Rattle.stream.specs.Stream.{joined}
-use Rattle.numbers.proofs.Law.Number.{le-or-lt}
+use Rattle.stream.proofs.Law.Truth.{le-or-lt}
 use Rattle.stream.proofs.Law.Bytes.{below-append}
 
 module _ (f : ℕ → List ℕ) where

@@ -9,8 +9,8 @@ use native.Mathlib.Nat.{div-lt-iff-lt-mul, pow-suc}
 use borrow.Author.Tests.{lt-ltb, le-ltb}
 use lib.ListN.{length, getD, take, drop, set, length-append, length-take, length-drop, take-append-drop}
 use lib.Seq.{take-at, take-suc, drop-at, drop-drop, set-split, append-snoc}
-use Rattle.numbers.proofs.Law.Number.{le-or-lt}
 use Rattle.stream.specs.Listing.{digit, decimalIn, decimal, labelled, Appends}
+use Rattle.stream.proofs.Law.Truth.{le-or-lt}
 
 -- ---- decimal
 

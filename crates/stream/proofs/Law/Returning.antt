@@ -10,8 +10,7 @@ use lib.IntN.{ℤ}
 use lib.ListN.{length, take, drop, getD, length-map}
 use Rattle.numbers.specs.Tolerance.{allowedK, binOf}
 use Rattle.numbers.specs.Theorem.{Format, Within}
-use Rattle.numbers.proofs.Theorems.{every-pattern-is-restored, every-pattern-returns-within}
-use Rattle.numbers.proofs.Law.Answers.{bin-small}
+use Rattle.numbers.proofs.Theorems.{every-pattern-is-restored, an-allowed-k-has-a-bin, every-pattern-returns-within}
 use Rattle.stream.specs.Bytes.{Below}
 use Rattle.stream.specs.Group.{widthOf, packed, groupBytes}
 use Rattle.stream.specs.Setting.{knownWidth, fractionBits, allowedSetting, binFor, clipped, codeAt, patternAt, codesOf, patternsOf}
@@ -47,7 +46,7 @@ module _ (W : ℕ) (known : knownWidth W ≡ true) (k : ℤ) (vs : List ℕ) (be
 
     bin-is : clipped W (binFor W mode k) ≡ binOf W (fractionBits W) k
     unfolding clipped binFor
-    bin-is = rw lossy (min-eq-left (bin-small W (fractionBits W) k (format .least) (format .order) allowed-k))
+    bin-is = rw lossy (min-eq-left (an-allowed-k-has-a-bin W (fractionBits W) format k allowed-k))
 
     pub tolerance-back : (i : ℕ) → i < length vs
         → Within W (fractionBits W) (binOf W (fractionBits W) k) (getD vs i 0) (getD (patternsOf W mode (binFor W mode k) (codesOf W mode (binFor W mode k) vs)) i 0)

@@ -11,8 +11,7 @@ use Rattle.stream.specs.Tables.{every}
 use Rattle.stream.specs.Rows.{Row, rowsFrom, first}
 use Rattle.stream.specs.declared.answers.Step.the-variants.{Pass, Stop}
 use Rattle.stream.proofs.Law.Order.{passed, stopped, passed-both}
-use Rattle.numbers.proofs.Law.Number.{le-or-lt}
-use Rattle.stream.proofs.Law.Truth.{and-left, and-right}
+use Rattle.stream.proofs.Law.Truth.{le-or-lt, and-left, and-right}
 
 module _ {A : Type 0} (S : ℕ → ℕ → A) where
   -- the step at i, and then the rest

@@ -12,13 +12,12 @@ use mir.Val.{SFits, ofZ}
 use Rattle.numbers.specs.declared.tolerance.BinAnswer.the-variants as bin
 use Rattle.numbers.specs.Tolerance.{allowedK, binOf}
 use Rattle.numbers.specs.Answers.{binAnswer}
-use Rattle.numbers.proofs.Law.Answers.{bin-is}
+use Rattle.numbers.proofs.Theorems.{a-bin-is-that-of-k, no-bin-means-not-allowed}
 use Rattle.stream.specs.Setting.{knownWidth, fractionBits, widthNeed, modeNeed, need, isZero, allowedSetting, binFor}
 use Rattle.stream.specs.Header.{kOf, needRight, settingRight}
 use Rattle.stream.specs.Relied.{Settled}
 use Rattle.stream.specs.declared.header.Header.{Header}
-use Rattle.numbers.proofs.Law.Number.{le-or-lt}
-use Rattle.stream.proofs.Law.Truth.{and-left, and-right, either}
+use Rattle.stream.proofs.Law.Truth.{le-or-lt, and-left, and-right, either}
 
 -- ---- widths
 
@@ -58,17 +57,6 @@ unfolding isZero
 zero-test (pos n) f = refl
 zero-test (negsuc n) f = let h : n < 2 ^ 31 = f .sfits in ne-eqb (2 ^ 32 - suc n) 0 (λ e. omega arith)
 
--- a refused k is not allowed
-pub bin-refused : (W m : ℕ) (k : ℤ) → binAnswer W m k ≡ bin.NotAllowed → allowedK W m k ≡ false
-unfolding binAnswer
-bin-refused W m k is = go (allowedK W m k) refl
-  where
-    go : (b : Bool) → allowedK W m k ≡ b → allowedK W m k ≡ false
-    go true e =
-        let z : bin.Bin (binOf W m k) ≡ bin.NotAllowed = sym (ap (λ (b : Bool). cond b (bin.Bin (binOf W m k)) bin.NotAllowed) e) ∙ is in
-        cc
-    go false e = e
-
 -- an allowed setting of another mode than 0 is of mode 1, and its k has a bin
 module _ (W mode : ℕ) (k : ℤ) (allowed : allowedSetting W mode k ≡ true) (some : mode ≡ 0 → ⊥) where
   both : eqb mode 1 && allowedK W (fractionBits W) k ≡ true
@@ -77,11 +65,11 @@ module _ (W mode : ℕ) (k : ℤ) (allowed : allowedSetting W mode k ≡ true) (
 
   pub setting-bin : (j : ℕ) → binAnswer W (fractionBits W) k ≡ bin.Bin j → j ≡ binFor W mode k
   unfolding binFor
-  setting-bin j is = rw (and-left (eqb mode 1) (allowedK W (fractionBits W) k) both) (sym (bin-is W (fractionBits W) k j is))
+  setting-bin j is = rw (and-left (eqb mode 1) (allowedK W (fractionBits W) k) both) (sym (a-bin-is-that-of-k W (fractionBits W) k j is .1))
 
   pub setting-has-bin : binAnswer W (fractionBits W) k ≡ bin.NotAllowed → ⊥
   setting-has-bin is =
-      let f : true ≡ false = sym (and-right (eqb mode 1) (allowedK W (fractionBits W) k) both) ∙ bin-refused W (fractionBits W) k is in
+      let f : true ≡ false = sym (and-right (eqb mode 1) (allowedK W (fractionBits W) k) both) ∙ no-bin-means-not-allowed W (fractionBits W) k is in
       let z : _≡_ {A = ℕ} 0 1 = cc in
       omega arith
 

@@ -24,16 +24,6 @@ unfolding entries
 length-entries place [] = refl
 length-entries place (p ∷ ps) = let e = length-entries (place + length (p .bytes)) ps in omega arith
 
-entries-below : (place : ℕ) (ps : List Side) → ((i : ℕ) → getD ps i (record { id = 0; bytes = [] }) .id < 2 ^ 32) → place + length (parts ps) < 2 ^ 32
-    → Below (2 ^ 32) (entries place ps)
-unfolding entries parts
-entries-below place [] ids short i = lit< tt
-entries-below place (p ∷ ps) ids short zero = ids 0
-entries-below place (p ∷ ps) ids short (suc zero) = omega arith
-entries-below place (p ∷ ps) ids short (suc (suc zero)) = omega (arith, length-append (p .bytes) (parts ps))
-entries-below place (p ∷ ps) ids short (suc (suc (suc i))) =
-    entries-below (place + length (p .bytes)) ps (λ j. ids (suc j)) (omega (arith, length-append (p .bytes) (parts ps))) i
-
 -- ---- and as a table
 
 module _ (h : Header) (s : List ℕ) where
@@ -71,7 +61,7 @@ word-behind : (b r : List ℕ) (end n : ℕ) → length b ≡ end → word (b ++
 unfolding word
 word-behind b r end n e = ap (λ (l : List ℕ). number 256 (take 4 l)) (ap (λ (m : ℕ). drop (m + n) (b ++ r)) (sym e) ∙ drop-append-add b r n)
 
-module _ (h : Header) (front : List ℕ) (ps : List Side) (well : WellFormedSides ps) (ends : length front ≡ h .end) (sides : h .sides ≡ length ps) where
+module _ (h : Header) (front : List ℕ) (ps : List Side) (well : WellFormedSides (h .end + 12 * length ps) ps) (ends : length front ≡ h .end) (sides : h .sides ≡ length ps) where
   abbrev place : ℕ
   place = h .end + 12 * length ps
 
@@ -84,9 +74,9 @@ module _ (h : Header) (front : List ℕ) (ps : List Side) (well : WellFormedSide
       ∙ ap₂ _+_ ends (length-append (spell (entries place ps)) (parts ps) ∙ ap (λ (n : ℕ). n + length (parts ps)) (length-spell (entries place ps) ∙ ap (λ (n : ℕ). 4 * n) (length-entries place ps)))
       ∙ (let e : h .end + (4 * (3 * length ps) + length (parts ps)) ≡ place + length (parts ps) = omega arith in e)
 
-  pub side-table-right : length bytes < 2 ^ 32 → sideTableRight h bytes ≡ true
+  pub side-table-right : sideTableRight h bytes ≡ true
   unfolding sideTableRight idFloor partAt
-  side-table-right short =
+  side-table-right =
       rw (
         le-leb (h .end + 12 * h .sides) (length bytes) (omega (arith, length-sided)),
         ap (λ (n : ℕ). every (entryRight h bytes) n 0) sides ∙ table .0,
@@ -99,5 +89,5 @@ module _ (h : Header) (front : List ℕ) (ps : List Side) (well : WellFormedSide
           (λ x l.
           ap (word bytes) (let e : h .end + 12 * 0 + 4 * x ≡ h .end + 4 * x = omega arith in e)
           ∙ word-behind front (spell (entries place ps) ++ parts ps) (h .end) (4 * x) ends
-          ∙ word-spelled (entries place ps) (parts ps) x (entries-below place ps (well .ids) (omega (arith, length-sided))) (omega (arith, length-entries place ps)))
+          ∙ word-spelled (entries place ps) (parts ps) x (well .numbers) (omega (arith, length-entries place ps)))
           (ap (λ (n : ℕ). h .end + 12 * n) sides) refl (well .ordered)

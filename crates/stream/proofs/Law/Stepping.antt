@@ -10,11 +10,11 @@ use lib.Dec.{lit<}
 use lib.ListN.{length, take, drop, length-append, length-map, length-take, length-drop, drop-of-length-le}
 use lib.Seq.{take-all, take-take, drop-drop}
 use Rattle.numbers.specs.Theorem.{Format}
-use Rattle.numbers.proofs.Law.Number.{le-or-lt}
 use Rattle.stream.specs.Bytes.{Below}
 use Rattle.stream.specs.Group.{groupBytes}
 use Rattle.stream.specs.Setting.{fractionBits, codeAt, codesOf}
 use Rattle.stream.specs.Chunk.{groupsIn, chunkBytes}
+use Rattle.stream.proofs.Law.Truth.{le-or-lt}
 use Rattle.stream.proofs.Law.Chunk.{chunk-step, chunk-none, chunk-most}
 use Rattle.stream.proofs.Law.Coding.{map-take, map-drop, codes-under}
 

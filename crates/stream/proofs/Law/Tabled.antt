@@ -4,20 +4,17 @@ use mathlib.Core.Logic.{_⊎_, inl, inr}
 use mathlib.Core.Bool.{Bool, true, false, cond}
 use mathlib.Core.List.{List, [], _∷_, _++_, map}
 use Prim.Native.Nat.{ℕ, zero, suc, _+_, _-_, _*_, _/_, _^_, _≤_, _<_, min, zero-le}
-use native.Mathlib.Nat.{mod-lt}
+use native.Mathlib.Nat.{two-pow-succ}
 use native.Mathlib.Omega.{arith}
 use borrow.Author.Tests.{lt-ltb, le-ltb, eq-eqb}
 use lib.Dec.{eqb, lit<}
 use lib.IntN.{ℤ}
-use lib.Pow.{pow-pos}
 use lib.ListN.{length, take, drop, length-append}
 use lib.Seq.{drop-at, drop-drop, getD-append-add}
 use Rattle.numbers.specs.Lossless.{losslessCode}
-use Rattle.numbers.specs.Tolerance.{ordinal, toleranceCode, largestU}
+use Rattle.numbers.specs.Tolerance.{toleranceCode, largestU}
 use Rattle.numbers.specs.Theorem.{Format}
-use Rattle.numbers.proofs.Law.Number.{twice-half}
-use Rattle.numbers.proofs.Law.Lossless as Lossless
-use Rattle.numbers.proofs.Law.Tolerance as Tolerance
+use Rattle.numbers.proofs.Theorems.{lossless-code-has-W-bits, no-u-is-larger}
 use Rattle.stream.specs.Bytes.{Below}
 use Rattle.stream.specs.Group.{groupBytes}
 use Rattle.stream.specs.Setting.{knownWidth, fractionBits, binFor, groupSize, clipped, codeAt, patternAt, codesOf, patternsOf, limitOf}
@@ -29,7 +26,7 @@ use Rattle.stream.specs.Writing.{spell, piece, pieceBytes, dataOf, start
 use Rattle.stream.specs.Packing.{Packable}
 use Rattle.stream.specs.declared.chunk.ChunkAnswer.the-variants.{Good}
 use Rattle.stream.specs.declared.header.Header.{Header}
-use Rattle.numbers.proofs.Law.Number.{le-or-lt}
+use Rattle.stream.proofs.Law.Truth.{le-or-lt}
 use Rattle.stream.proofs.Law.Group.{length-group}
 use Rattle.stream.proofs.Law.Exact.{Limited}
 use Rattle.stream.proofs.Law.Chunk.{chunk-step, written-is-good, written-is-read}
@@ -55,22 +52,17 @@ map-limited f a U h [] below i = zero-le
 map-limited f a U h (x ∷ xs) below zero = h x (below 0)
 map-limited f a U h (x ∷ xs) below (suc i) = map-limited f a U h xs (λ k. below (suc k)) i
 
-ordinal-below : (W p : ℕ) → ordinal W p < 2 ^ (W - 1)
-unfolding ordinal
-ordinal-below W p = mod-lt p (pow-pos (W - 1))
-
 module _ (W mode bin : ℕ) (known : knownWidth W ≡ true) where
   format : Format W (fractionBits W)
   format = width-bytes W known .format
 
   lossless-limited : (p : ℕ) → p < 2 ^ W → losslessCode W (fractionBits W) p / 2 ≤ 2 ^ (W - 1) - 1
   lossless-limited p h =
-      omega (arith, Lossless.code-below W (fractionBits W) (omega (arith, format .room)) p h, twice-half W (omega (arith, format .room)))
+      let twice : 2 ^ W ≡ 2 ^ (W - 1) + 2 ^ (W - 1) = ap (λ (n : ℕ). 2 ^ n) (let e : W ≡ suc (W - 1) = omega (arith, format .room) in e) ∙ two-pow-succ (W - 1) in
+      omega (arith, lossless-code-has-W-bits W (fractionBits W) format p h, twice)
 
   tolerance-limited : (p : ℕ) → p < 2 ^ W → toleranceCode W (fractionBits W) (clipped W bin) p / 2 ≤ largestU W (fractionBits W) (clipped W bin)
-  tolerance-limited p h =
-      rw (Tolerance.code-half W (fractionBits W) (format .room) (clipped W bin) (bin-in W format mode bin) p h)
-      (Tolerance.code-largest W (fractionBits W) (format .room) (clipped W bin) (bin-in W format mode bin) (ordinal W p) (ordinal-below W p))
+  tolerance-limited = no-u-is-larger W (fractionBits W) format (clipped W bin) (bin-in W format mode bin)
 
   code-limited : (p : ℕ) → p < 2 ^ W → codeAt W mode bin p / 2 ≤ limitOf W mode bin
   unfolding codeAt limitOf

@@ -1,9 +1,9 @@
 -- `stream::setting::allowed` meets its contract.
 use Rattle.stream.specs.Setting.{fractionBits, allowedSetting}
 use Rattle.numbers.specs.Answers.{binAnswer}
-use Rattle.numbers.proofs.Law.Answers.{allowed as allowed-k}
+use Rattle.numbers.proofs.Theorems.{a-bin-is-that-of-k, no-bin-means-not-allowed}
 use mir.Facts.{toZ-ofZ}
-use Rattle.stream.proofs.Law.Settings.{zero-test, bin-refused}
+use Rattle.stream.proofs.Law.Settings.{zero-test}
 use borrow.Author.Tests.{eq-eqb, ne-eqb}
 use mathlib.Core.Path.{sym, _∙_, ap}
 use borrow.Author.Needs.{needs}
@@ -28,14 +28,14 @@ unfolding allowedSetting
 returns-2 c =
     let a = c .before .before .before .before .before .args in
     let is = ap (binAnswer (a .width) (fractionBits (a .width))) (sym (toZ-ofZ (c .before .before .before .before .before .fits .k))) ∙ sym (c .before .before .bin-at .ensures) ∙ c .enum-told .given .1 in
-    rw (ne-eqb (a .mode) 0 (c .before .before .before .before .if1 .left), eq-eqb (a .mode) 1 (c .before .before .before .if2 .taken)) (sym (allowed-k (a .width) (fractionBits (a .width)) (a .k) _ is))
+    rw (ne-eqb (a .mode) 0 (c .before .before .before .before .if1 .left), eq-eqb (a .mode) 1 (c .before .before .before .if2 .taken)) (sym (a-bin-is-that-of-k (a .width) (fractionBits (a .width)) (a .k) _ is .0))
 
 returns-3 : tie.Need-returns-3
 unfolding allowedSetting
 returns-3 c =
     let a = c .before .before .before .before .before .args in
     let is = ap (binAnswer (a .width) (fractionBits (a .width))) (sym (toZ-ofZ (c .before .before .before .before .before .fits .k))) ∙ sym (c .before .before .bin-at .ensures) ∙ c .enum-told2 .given .1 in
-    rw (ne-eqb (a .mode) 0 (c .before .before .before .before .if1 .left), eq-eqb (a .mode) 1 (c .before .before .before .if2 .taken)) (sym (bin-refused (a .width) (fractionBits (a .width)) (a .k) is))
+    rw (ne-eqb (a .mode) 0 (c .before .before .before .before .if1 .left), eq-eqb (a .mode) 1 (c .before .before .before .if2 .taken)) (sym (no-bin-means-not-allowed (a .width) (fractionBits (a .width)) (a .k) is))
 
 returns-4 : tie.Need-returns-4
 unfolding allowedSetting
