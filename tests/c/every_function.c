@@ -1,0 +1,958 @@
+/*
+ * Every exported function, called from C (and, compiled as C++, from C++), compared with what document 01 states
+ * or with what is worked out here by other means: streams written by hand, the exponent map in words.
+ *
+ * Each call lends its parts in the middle of marked bytes. A case passes if the result is the wanted one, if
+ * what was only read is as it was, if the output has the wanted elements at its front, and if every byte behind
+ * them and on either side of every part still has its mark.
+ *
+ * Prints a line for each group of cases and last `N passed, M failed`; the exit status is 1 if any failed.
+ */
+#include "gwizdorad.h"
+
+#include <math.h>
+#include <stdio.h>
+#include <stdlib.h>
+#include <string.h>
+
+#define COUNT(array) (sizeof(array) / sizeof((array)[0]))
+
+/* ---- Counting */
+
+struct tally {
+    unsigned passed, failed;
+    uint32_t refusals_given; /* bit r: some call was refused with r */
+};
+
+static void record(struct tally *tally, const char *what, const char *fault)
+{
+    if (fault == NULL) {
+        tally->passed++;
+    } else {
+        tally->failed++;
+        printf("FAILED: %s: %s\n", what, fault);
+    }
+}
+
+/* A case of numbers alone: mostly the result of a call, with its refusal number in the upper half. */
+struct number_case {
+    const char *what;
+    uint64_t got, wanted;
+};
+
+static void expect_numbers(struct tally *tally, const struct number_case *cases, size_t count)
+{
+    char fault[80];
+    for (size_t i = 0; i < count; i++) {
+        uint64_t got = cases[i].got, wanted = cases[i].wanted;
+        snprintf(fault, sizeof fault, "%lu and %lu in its halves, in place of %lu and %lu",
+                 (unsigned long)gwz_refusal(got), (unsigned long)gwz_detail(got),
+                 (unsigned long)gwz_refusal(wanted), (unsigned long)gwz_detail(wanted));
+        record(tally, cases[i].what, got == wanted ? NULL : fault);
+        if (gwz_refusal(got) >= 1 && gwz_refusal(got) <= 14)
+            tally->refusals_given |= 1u << gwz_refusal(got);
+    }
+}
+
+static uint64_t done(uint64_t answer)
+{
+    return answer;
+}
+
+static uint64_t refused(uint32_t number, uint32_t detail)
+{
+    return (uint64_t)number << 32 | detail;
+}
+
+/* ---- Lent parts between marked bytes */
+
+enum { MARK = 0xA5, MARGIN = 64 };
+
+/* A margin, the lent bytes and a margin: all MARK, but for what is put at the front of the lent bytes. */
+struct part {
+    uint8_t *block;
+    uint8_t *lent;
+    size_t bytes;
+};
+
+static void *allocated(size_t bytes)
+{
+    void *memory = malloc(bytes == 0 ? 1 : bytes);
+    if (memory == NULL) {
+        fprintf(stderr, "every_function: no memory for %lu bytes\n", (unsigned long)bytes);
+        exit(2);
+    }
+    return memory;
+}
+
+/* Elements lie at their own alignment and no larger one: bytes at odd places. */
+static struct part part_of(size_t element_size, size_t count, const void *front, size_t front_count)
+{
+    struct part part;
+    part.bytes = element_size * count;
+    part.block = (uint8_t *)allocated(MARGIN + element_size + part.bytes + MARGIN);
+    part.lent = part.block + MARGIN + element_size;
+    memset(part.block, MARK, MARGIN + element_size + part.bytes + MARGIN);
+    if (front_count > 0)
+        memcpy(part.lent, front, element_size * front_count);
+    return part;
+}
+
+static int is_marked(const uint8_t *from, const uint8_t *to)
+{
+    while (from < to && *from == MARK)
+        from++;
+    return from == to;
+}
+
+static int part_holds(const struct part *part, const void *front, size_t front_bytes)
+{
+    const uint8_t *end = part->lent + part->bytes + MARGIN;
+    return front_bytes <= part->bytes && (front_bytes == 0 || memcmp(part->lent, front, front_bytes) == 0)
+        && is_marked(part->block, part->lent) && is_marked(part->lent + front_bytes, end);
+}
+
+/* ---- A call with lent parts */
+
+enum operation {
+    PACK32, PACK64, LENGTH32, LENGTH64, CHECK, UNPACK32, UNPACK64, PROBE32, PROBE64,
+    TOLERANCE_CODE32, TOLERANCE_CODE64, TOLERANCE_RESTORED32, TOLERANCE_RESTORED64
+};
+
+/* The bytes of an element that each operation reads and writes; 1 where it has no such part. */
+static const struct { size_t in, out; } element_sizes[] = {
+    {4, 1}, {8, 1}, {4, 1}, {8, 1}, {1, 1}, {1, 4}, {1, 8}, {1, 4}, {1, 8}, {4, 4}, {8, 8}, {4, 4}, {8, 8}
+};
+
+struct call {
+    enum operation operation;
+    uint32_t level, mode;
+    int32_t k;
+    const void *in; /* values, the bytes of a stream, or the one pattern or code of a number rule */
+    size_t count;
+    uint64_t index;
+    size_t room;
+};
+
+/* `in` and `out` stand at the alignment of their elements. */
+static uint64_t answer_of(const struct call *c, const void *in, void *out)
+{
+    const uint8_t *bytes = (const uint8_t *)in;
+    const uint32_t *words = (const uint32_t *)in;
+    const uint64_t *longs = (const uint64_t *)in;
+    switch (c->operation) {
+    case PACK32: return gwz_pack32(c->level, c->mode, c->k, words, c->count, (uint8_t *)out, c->room);
+    case PACK64: return gwz_pack64(c->level, c->mode, c->k, longs, c->count, (uint8_t *)out, c->room);
+    case LENGTH32: return gwz_length32(c->level, c->mode, c->k, words, c->count);
+    case LENGTH64: return gwz_length64(c->level, c->mode, c->k, longs, c->count);
+    case CHECK: return gwz_check(c->level, bytes, c->count);
+    case UNPACK32: return gwz_unpack32(c->level, bytes, c->count, (uint32_t *)out, c->room);
+    case UNPACK64: return gwz_unpack64(c->level, bytes, c->count, (uint64_t *)out, c->room);
+    case PROBE32: return gwz_probe32(c->level, bytes, c->count, c->index, (uint32_t *)out);
+    case PROBE64: return gwz_probe64(c->level, bytes, c->count, c->index, (uint64_t *)out);
+    case TOLERANCE_CODE32: return gwz_tolerance_code32(c->k, words[0], (uint32_t *)out);
+    case TOLERANCE_CODE64: return gwz_tolerance_code64(c->k, longs[0], (uint64_t *)out);
+    case TOLERANCE_RESTORED32: return gwz_tolerance_restored32(c->k, words[0], (uint32_t *)out);
+    case TOLERANCE_RESTORED64: return gwz_tolerance_restored64(c->k, longs[0], (uint64_t *)out);
+    }
+    return UINT64_MAX;
+}
+
+/* The one checker: `out_count` elements of `out` are wanted at the front of the output, none after a refusal. */
+static void expect_call(struct tally *tally, const char *what, struct call call, uint64_t wanted, const void *out,
+                        size_t out_count)
+{
+    size_t in_size = element_sizes[call.operation].in, out_size = element_sizes[call.operation].out;
+    struct part in_part = part_of(in_size, call.count, call.in, call.count);
+    struct part out_part = part_of(out_size, call.room, NULL, 0);
+    struct number_case number = {what, answer_of(&call, in_part.lent, out_part.lent), wanted};
+
+    if (!part_holds(&in_part, call.in, in_size * call.count))
+        record(tally, what, "what was lent to be read, or a byte beside it, was altered");
+    else if (number.got == wanted && !part_holds(&out_part, out, out_size * out_count))
+        record(tally, what, "the output, or a byte beside it, is not as wanted");
+    else
+        expect_numbers(tally, &number, 1);
+    free(in_part.block);
+    free(out_part.block);
+}
+
+static struct call packing(enum operation operation, uint32_t level, uint32_t mode, int32_t k, const void *values,
+                           size_t n, size_t room)
+{
+    struct call call = {operation, level, mode, k, values, n, 0, room};
+    return call;
+}
+
+static struct call reading(enum operation operation, uint32_t level, const uint8_t *bytes, size_t len, size_t room)
+{
+    struct call call = {operation, level, 0, 0, bytes, len, 0, room};
+    return call;
+}
+
+static struct call probing(enum operation operation, uint32_t level, const uint8_t *bytes, size_t len, uint64_t index)
+{
+    struct call call = {operation, level, 0, 0, bytes, len, index, 1};
+    return call;
+}
+
+static struct call ruling(enum operation operation, int32_t k, const void *number)
+{
+    struct call call = {operation, 0, 0, k, number, 1, 0, 1};
+    return call;
+}
+
+/* ---- Streams written by hand */
+
+struct setting {
+    uint32_t level, width, mode, k; /* k in two's complement */
+};
+
+static void put_number(uint8_t *at, uint32_t number)
+{
+    for (unsigned i = 0; i < 4; i++)
+        at[i] = (uint8_t)(number >> 8 * i & 0xFF);
+}
+
+/* The header, for data of so many bytes behind the chunk table, and no side parts. */
+static void put_header(uint8_t *stream, struct setting s, uint32_t n, size_t data_bytes)
+{
+    uint32_t need = s.width == 64 ? 10 : s.mode == 1 ? 9 : 8;
+    uint32_t chunks = (n + 1023) / 1024, data = 48 + 4 * chunks;
+    const uint32_t numbers[] = {1, s.level, need, s.width, s.mode, s.k, n, chunks, 48, data, 0,
+                                data + (uint32_t)data_bytes};
+    for (size_t i = 0; i < COUNT(numbers); i++)
+        put_number(stream + 4 * i, numbers[i]);
+}
+
+/* A stream of at most 1,024 values, hence of one chunk that starts at 0; returns its length. */
+static size_t put_stream(uint8_t *stream, struct setting s, uint32_t n, const uint8_t *data, size_t data_bytes)
+{
+    put_header(stream, s, n, data_bytes);
+    put_number(stream + 48, 0);
+    memcpy(stream + 52, data, data_bytes);
+    return 52 + data_bytes;
+}
+
+/* The list 0, -0, 2^-149, packed at level 8, mode 0, as document 01 prints it. */
+static const uint32_t example_values[] = {0x00000000, 0x80000000, 0x00000001};
+static const uint8_t example[55] = {
+    1, 0, 0, 0, 8, 0, 0, 0, 8, 0, 0, 0, 32, 0, 0, 0, 0, 0, 0, 0, 0, 0, 0, 0, 3, 0, 0, 0, 1, 0, 0, 0,
+    48, 0, 0, 0, 52, 0, 0, 0, 0, 0, 0, 0, 55, 0, 0, 0, 0, 0, 0, 0, 0x03, 0x10, 0x01
+};
+
+/* Three chunks of zeros: 2,049 values, 32 + 32 + 1 width bytes of 0. */
+enum { THREE_CHUNKS_BYTES = 48 + 12 + 65 };
+
+static void put_three_chunks(uint8_t *stream)
+{
+    const struct setting lossless = {8, 32, 0, 0};
+    memset(stream, 0, THREE_CHUNKS_BYTES);
+    put_header(stream, lossless, 2049, 65);
+    put_number(stream + 52, 32);
+    put_number(stream + 56, 64);
+}
+
+/* ---- The groups of cases */
+
+static void test_helpers(struct tally *tally)
+{
+    const struct number_case cases[] = {
+        {"refusal of a refusal", gwz_refusal(refused(7, 11)), 7},
+        {"detail of a refusal", gwz_detail(refused(7, 11)), 11},
+        {"refusal of an answer", gwz_refusal(done(0xFFFFFFFF)), GWZ_DONE},
+        {"answer", gwz_answer(done(0xFFFFFFFF)), 0xFFFFFFFF},
+        {"exponent 103", (uint64_t)gwz_exponent(done(103)), 103},
+        {"exponent -1", (uint64_t)(gwz_exponent(done(0xFFFFFFFF)) + 1), 0},
+        {"exponent -1075", (uint64_t)(gwz_exponent(done(0xFFFFFBCD)) + 1075), 0},
+        {"smallest exponent", gwz_exponent(done(0x80000000)) == INT32_MIN, 1},
+        {"longest stream of no values", GWZ_LONGEST_STREAM(32, 0), 48},
+        {"longest stream of 1025 values of 32 bits", GWZ_LONGEST_STREAM(32, 1025), 48 + 8 + 33 + 4100},
+        {"longest stream of 1 value of 64 bits", GWZ_LONGEST_STREAM(64, 1), 48 + 4 + 1 + 8},
+        {"longest stream of all", GWZ_LONGEST_STREAM(64, GWZ_MOST_VALUES), 8425520},
+    };
+    expect_numbers(tally, cases, COUNT(cases));
+    for (uint32_t number = 0; number <= 14; number++) {
+        const char *unknown = gwz_refusal_text(15), *next = gwz_refusal_text(number + 1);
+        int own = strcmp(gwz_refusal_text(number), unknown) != 0 && strcmp(gwz_refusal_text(number), next) != 0;
+        record(tally, "a text of its own for each refusal", own ? NULL : gwz_refusal_text(number));
+    }
+}
+
+static void test_bound(struct tally *tally)
+{
+    const struct number_case cases[] = {
+        {"0.3", gwz_bound(32, 0x3FD3333333333333), done(0xFFFFFFFE)},
+        {"0.25", gwz_bound(32, 0x3FD0000000000000), done(0xFFFFFFFE)},
+        {"just below 0.25", gwz_bound(32, 0x3FCFFFFFFFFFFFFF), done(0xFFFFFFFD)},
+        {"1", gwz_bound(32, 0x3FF0000000000000), done(0)},
+        {"2^200", gwz_bound(32, 0x4C70000000000000), done(103)},
+        {"2^-150", gwz_bound(32, 0x3690000000000000), done((uint32_t)-150)},
+        {"2^-151", gwz_bound(32, 0x3680000000000000), refused(13, 0)},
+        {"just below 2^-150", gwz_bound(32, 0x368FFFFFFFFFFFFF), refused(13, 0)},
+        {"0", gwz_bound(32, 0), refused(12, 0)},
+        {"-0", gwz_bound(32, 0x8000000000000000), refused(12, 0)},
+        {"infinity", gwz_bound(32, 0x7FF0000000000000), refused(12, 0)},
+        {"-1", gwz_bound(64, 0xBFF0000000000000), refused(12, 0)},
+        {"not-a-number", gwz_bound(64, 0x7FF8000000000000), refused(12, 0)},
+        {"width 64: 2^-151", gwz_bound(64, 0x3680000000000000), done((uint32_t)-151)},
+        {"width 64: the smallest, 2^-1074", gwz_bound(64, 1), done((uint32_t)-1074)},
+        {"width 64: 3 times 2^-1074", gwz_bound(64, 3), done((uint32_t)-1073)},
+        {"width 64: the largest finite", gwz_bound(64, 0x7FEFFFFFFFFFFFFF), done(970)},
+        {"width 16", gwz_bound(16, 0x3FD0000000000000), refused(2, 0)},
+        {"width 0 before tolerance 0", gwz_bound(0, 0), refused(2, 0)},
+    };
+    expect_numbers(tally, cases, COUNT(cases));
+}
+
+/* Document 01's "In effect": the exponent map in words, with no subtraction modulo 2^W. */
+static uint64_t lossless_by_map(uint64_t pattern, unsigned width, unsigned fraction_bits)
+{
+    int64_t middle = (int64_t)1 << (width - fraction_bits - 2); /* 128 or 1024 */
+    uint64_t sign = pattern >> (width - 1);
+    uint64_t fraction = pattern & (((uint64_t)1 << fraction_bits) - 1);
+    int64_t exponent = (int64_t)(pattern >> fraction_bits) & (2 * middle - 1);
+    int64_t moved = exponent == 0 ? 0 : exponent <= middle ? exponent - middle - 1 : exponent - middle;
+    int64_t x = moved * ((int64_t)2 << fraction_bits) + (int64_t)(2 * fraction + sign);
+    return x >= 0 ? 2 * (uint64_t)x : 2 * (uint64_t)(-(x + 1)) + 1;
+}
+
+static void test_lossless_known(struct tally *tally)
+{
+    static const uint32_t known[][2] = {
+        {0x00000000, 0}, {0x80000000, 2}, {0x00000001, 4}, {0x3F800000, 0x03FFFFFF}, {0xBF800000, 0x03FFFFFD},
+        {0x40000000, 0x01FFFFFF}, {0x40800000, 0x02000000}, {0x00800000, 0xFFFFFFFF}, {0x7F800000, 0xFE000000},
+        {0x7FC00000, 0xFF000000}
+    };
+    for (size_t i = 0; i < COUNT(known); i++) {
+        const struct number_case cases[] = {
+            {"a known code", gwz_lossless_code32(known[i][0]), known[i][1]},
+            {"the pattern of a known code", gwz_lossless_restored32(known[i][1]), known[i][0]},
+        };
+        expect_numbers(tally, cases, COUNT(cases));
+    }
+    const struct number_case wide[] = {
+        {"1.0 in 64 bits", gwz_lossless_code64(0x3FF0000000000000) + 1, (uint64_t)1 << 55},
+        {"the pattern of 2^55 - 1", gwz_lossless_restored64(((uint64_t)1 << 55) - 1), 0x3FF0000000000000},
+    };
+    for (size_t i = 0; i < COUNT(wide); i++)
+        record(tally, wide[i].what, wide[i].got == wide[i].wanted ? NULL : "another number");
+}
+
+static int maps_there_and_back32(uint32_t pattern)
+{
+    uint32_t code = (uint32_t)lossless_by_map(pattern, 32, 23);
+    return gwz_lossless_code32(pattern) == code && gwz_lossless_restored32(code) == pattern;
+}
+
+static int maps_there_and_back64(uint64_t pattern)
+{
+    uint64_t code = lossless_by_map(pattern, 64, 52);
+    return gwz_lossless_code64(pattern) == code && gwz_lossless_restored64(code) == pattern;
+}
+
+/* Each sign and exponent is a case, with the fractions 0, 1 and all bits set. */
+static void test_lossless_map(struct tally *tally)
+{
+    for (uint32_t head = 0; head < 512; head++) {
+        uint32_t first = head << 23;
+        int good = maps_there_and_back32(first) && maps_there_and_back32(first | 1)
+            && maps_there_and_back32(first | 0x7FFFFF);
+        record(tally, "32 bits by the exponent map", good ? NULL : "another code or pattern");
+    }
+    for (uint64_t head = 0; head < 4096; head++) {
+        uint64_t first = head << 52;
+        int good = maps_there_and_back64(first) && maps_there_and_back64(first | 1)
+            && maps_there_and_back64(first | 0xFFFFFFFFFFFFF);
+        record(tally, "64 bits by the exponent map", good ? NULL : "another code or pattern");
+    }
+}
+
+static void test_tolerance32(struct tally *tally)
+{
+    static const struct { const char *what; int32_t k; uint32_t pattern, code, restored; } known[] = {
+        {"0.25", -2, 0x3E800000, 2, 0x3F000000},
+        {"0.21875", -2, 0x3E600000, 0, 0},
+        {"just below 0.25", -2, 0x3E7FFFFF, 0, 0},
+        {"-0.75", -2, 0xBF400000, 5, 0xBF800000},
+        {"-0.125 comes back as -0", -2, 0xBE000000, 1, 0x80000000},
+        {"4194303.75", -2, 0x4A7FFFFF, 16777216, 0x4A800000},
+        {"4194304", -2, 0x4A800000, 16777216, 0x4A800000},
+        {"infinity", -2, 0x7F800000, 1795162112, 0x7F800000},
+        {"-infinity", -2, 0xFF800000, 1795162113, 0xFF800000},
+        {"a not-a-number", -2, 0x7FC00123, 1795162112 + 2 * 0x400123, 0x7FC00123},
+        {"2^-149 under the smallest k", -150, 1, 2, 1},
+        {"the largest finite under the largest k", 103, 0x7F7FFFFF, 2 * 0xFFFFFF, 0x7F7FFFFF},
+    };
+    uint32_t untouched = 0;
+    for (size_t i = 0; i < COUNT(known); i++) {
+        expect_call(tally, known[i].what, ruling(TOLERANCE_CODE32, known[i].k, &known[i].pattern), done(0),
+                    &known[i].code, 1);
+        expect_call(tally, known[i].what, ruling(TOLERANCE_RESTORED32, known[i].k, &known[i].code), done(0),
+                    &known[i].restored, 1);
+    }
+    for (size_t i = 0; i < 2; i++) {
+        int32_t k = i == 0 ? -151 : 104;
+        expect_call(tally, "k not allowed", ruling(TOLERANCE_CODE32, k, &untouched), refused(2, 0), NULL, 0);
+        expect_call(tally, "k not allowed", ruling(TOLERANCE_RESTORED32, k, &untouched), refused(2, 0), NULL, 0);
+    }
+}
+
+static void test_tolerance64(struct tally *tally)
+{
+    static const struct { const char *what; int32_t k; uint64_t pattern, code, restored; } known[] = {
+        {"0.25", -2, 0x3FD0000000000000, 2, 0x3FE0000000000000},
+        {"-0.75", -2, 0xBFE8000000000000, 5, 0xBFF0000000000000},
+        {"2^51 is the threshold", -2, 0x4320000000000000, (uint64_t)1 << 53, 0x4320000000000000},
+        {"2^-1074 under the smallest k", -1075, 1, 2, 1},
+        {"a not-a-number", -2, 0x7FF8000000000000, (uint64_t)1949 << 52, 0x7FF8000000000000},
+        {"the largest u", -2, 0xFFFFFFFFFFFFFFFF, ((uint64_t)1950 << 52) - 1, 0xFFFFFFFFFFFFFFFF},
+    };
+    const uint64_t too_large = (uint64_t)1950 << 52; /* 2u, where u is 2^63 - 1073 * 2^52 */
+    uint64_t untouched = 0;
+    for (size_t i = 0; i < COUNT(known); i++) {
+        expect_call(tally, known[i].what, ruling(TOLERANCE_CODE64, known[i].k, &known[i].pattern), done(0),
+                    &known[i].code, 1);
+        expect_call(tally, known[i].what, ruling(TOLERANCE_RESTORED64, known[i].k, &known[i].code), done(0),
+                    &known[i].restored, 1);
+    }
+    expect_call(tally, "u too large", ruling(TOLERANCE_RESTORED64, -2, &too_large), refused(10, 0), NULL, 0);
+    for (size_t i = 0; i < 2; i++) {
+        int32_t k = i == 0 ? -1076 : 971;
+        expect_call(tally, "k not allowed", ruling(TOLERANCE_CODE64, k, &untouched), refused(2, 0), NULL, 0);
+        expect_call(tally, "k not allowed", ruling(TOLERANCE_RESTORED64, k, &untouched), refused(2, 0), NULL, 0);
+    }
+}
+
+/* u = 905969663 at k = -2 is read, alone and in a stream; one more is not. The code is 2u + sign, in 31 bits. */
+static void test_largest_u(struct tally *tally)
+{
+    const struct setting within = {9, 32, 1, 0xFFFFFFFE};
+    const uint32_t largest = 2u * 905969663u, too_large = 2u * 905969664u, pattern = 0x7FFFFFFF;
+    uint8_t data[5] = {31, 0, 0, 0, 0}, stream[57];
+
+    put_number(data + 1, largest);
+    put_stream(stream, within, 1, data, sizeof data);
+    expect_call(tally, "largest u restored", ruling(TOLERANCE_RESTORED32, -2, &largest), done(0), &pattern, 1);
+    expect_call(tally, "largest u checked", reading(CHECK, 9, stream, 57, 0), done(1), NULL, 0);
+    expect_call(tally, "largest u unpacked", reading(UNPACK32, 9, stream, 57, 1), done(1), &pattern, 1);
+    expect_call(tally, "largest u probed", probing(PROBE32, 9, stream, 57, 0), done(GWZ_NOT_A_NUMBER), &pattern, 1);
+    expect_call(tally, "largest u packed", packing(PACK32, 9, 1, -2, &pattern, 1, 57), done(57), stream, 57);
+
+    put_number(stream + 53, too_large);
+    expect_call(tally, "u too large", ruling(TOLERANCE_RESTORED32, -2, &too_large), refused(10, 0), NULL, 0);
+    expect_call(tally, "u too large checked", reading(CHECK, 9, stream, 57, 0), refused(10, 0), NULL, 0);
+    expect_call(tally, "u too large unpacked", reading(UNPACK32, 9, stream, 57, 1), refused(10, 0), NULL, 0);
+    expect_call(tally, "u too large probed", probing(PROBE32, 9, stream, 57, 0), refused(10, 0), NULL, 0);
+}
+
+static void test_example(struct tally *tally)
+{
+    expect_call(tally, "length", packing(LENGTH32, 8, 0, 0, example_values, 3, 0), done(55), NULL, 0);
+    expect_call(tally, "packed", packing(PACK32, 8, 0, 0, example_values, 3, 55), done(55), example, 55);
+    expect_call(tally, "packed, longest room",
+                packing(PACK32, 8, 0, 0, example_values, 3, GWZ_LONGEST_STREAM(32, 3)), done(55), example, 55);
+    expect_call(tally, "room to spare", packing(PACK32, 8, 0, 0, example_values, 3, 999), done(55), example, 55);
+    for (size_t room = 0; room < 55; room++)
+        expect_call(tally, "too short", packing(PACK32, 8, 0, 0, example_values, 3, room), refused(4, 55), NULL, 0);
+    for (uint32_t level = 8; level <= 10; level++) {
+        expect_call(tally, "checked", reading(CHECK, level, example, 55, 0), done(3), NULL, 0);
+        expect_call(tally, "unpacked", reading(UNPACK32, level, example, 55, 3), done(3), example_values, 3);
+        expect_call(tally, "room to spare", reading(UNPACK32, level, example, 55, 50), done(3), example_values, 3);
+        for (size_t room = 0; room < 3; room++)
+            expect_call(tally, "room too short", reading(UNPACK32, level, example, 55, room), refused(4, 3), NULL, 0);
+        for (uint64_t i = 0; i < 3; i++)
+            expect_call(tally, "probed", probing(PROBE32, level, example, 55, i), done(GWZ_FINITE),
+                        &example_values[i], 1);
+    }
+    for (size_t len = 0; len < 55; len++)
+        expect_call(tally, "cut", reading(CHECK, 8, example, len, 0), refused(len < 48 ? 5 : 8, 0), NULL, 0);
+}
+
+/* The smallest k gives every value back as it was, so both modes have the same patterns. */
+static void test_probe32(struct tally *tally)
+{
+    static const uint32_t patterns[] = {0x00000000, 0x80000000, 0x00000001, 0xFF7FFFFF, 0x7F800000, 0xFF800000,
+                                        0x7F800001, 0x7FC00000, 0xFFFFFFFF};
+    static const uint32_t kinds[] = {GWZ_FINITE, GWZ_FINITE, GWZ_FINITE, GWZ_FINITE, GWZ_INFINITY, GWZ_INFINITY,
+                                     GWZ_NOT_A_NUMBER, GWZ_NOT_A_NUMBER, GWZ_NOT_A_NUMBER};
+    const size_t n = COUNT(patterns);
+    uint8_t stream[GWZ_LONGEST_STREAM(32, COUNT(patterns))];
+    for (uint32_t mode = 0; mode <= 1; mode++) {
+        int32_t k = mode == 0 ? 0 : GWZ_SMALLEST_K32;
+        size_t length = gwz_answer(gwz_pack32(10, mode, k, patterns, n, stream, sizeof stream));
+        for (size_t i = 0; i < n; i++)
+            expect_call(tally, "a value", probing(PROBE32, 10, stream, length, i), done(kinds[i]), &patterns[i], 1);
+        expect_call(tally, "index n", probing(PROBE32, 10, stream, length, n), refused(11, 0), NULL, 0);
+        expect_call(tally, "index 2^64 - 1", probing(PROBE32, 10, stream, length, UINT64_MAX), refused(11, 0), NULL, 0);
+    }
+}
+
+static void test_probe64(struct tally *tally)
+{
+    static const uint64_t patterns[] = {0x3FF0000000000000, 0x8000000000000000, 0x000FFFFFFFFFFFFF, 0xFFEFFFFFFFFFFFFF,
+                                        0x7FF0000000000000, 0xFFF0000000000000, 0x7FF0000000000001, 0x7FF8000000000000,
+                                        0xFFFFFFFFFFFFFFFF};
+    static const uint32_t kinds[] = {GWZ_FINITE, GWZ_FINITE, GWZ_FINITE, GWZ_FINITE, GWZ_INFINITY, GWZ_INFINITY,
+                                     GWZ_NOT_A_NUMBER, GWZ_NOT_A_NUMBER, GWZ_NOT_A_NUMBER};
+    const size_t n = COUNT(patterns);
+    uint8_t stream[GWZ_LONGEST_STREAM(64, COUNT(patterns))];
+    for (uint32_t mode = 0; mode <= 1; mode++) {
+        int32_t k = mode == 0 ? 0 : GWZ_SMALLEST_K64;
+        size_t length = gwz_answer(gwz_pack64(10, mode, k, patterns, n, stream, sizeof stream));
+        for (size_t i = 0; i < n; i++)
+            expect_call(tally, "a value", probing(PROBE64, 10, stream, length, i), done(kinds[i]), &patterns[i], 1);
+        expect_call(tally, "index n", probing(PROBE64, 10, stream, length, n), refused(11, 0), NULL, 0);
+        expect_call(tally, "index 2^64 - 1", probing(PROBE64, 10, stream, length, UINT64_MAX), refused(11, 0), NULL, 0);
+    }
+}
+
+/* What each setting needs, by what each level writes and reads. */
+static void test_levels(struct tally *tally)
+{
+    static const struct { enum operation pack, length, unpack; uint32_t width, mode, need; } settings[] = {
+        {PACK32, LENGTH32, UNPACK32, 32, 0, 8}, {PACK32, LENGTH32, UNPACK32, 32, 1, 9},
+        {PACK64, LENGTH64, UNPACK64, 64, 0, 10}, {PACK64, LENGTH64, UNPACK64, 64, 1, 10}
+    };
+    const uint64_t zero = 0;
+    const uint8_t no_bits[] = {0};
+    for (size_t i = 0; i < COUNT(settings); i++)
+        for (uint32_t level = 0; level <= 12; level++) {
+            uint32_t need = settings[i].need, mode = settings[i].mode;
+            int known = level >= 8 && level <= 10;
+            const struct setting written = {level, settings[i].width, mode, 0};
+            const struct setting later = {77, settings[i].width, mode, 0};
+            uint8_t stream[53], later_stream[53];
+            put_stream(stream, written, 1, no_bits, 1);
+            put_stream(later_stream, later, 1, no_bits, 1);
+
+            uint64_t packed = !known ? refused(1, 0) : need > level ? refused(2, 0) : done(53);
+            uint64_t read = !known ? refused(1, 0) : need > level ? refused(7, need) : done(1);
+            size_t bytes = gwz_refusal(packed) == GWZ_DONE ? 53 : 0, values = gwz_refusal(read) == GWZ_DONE ? 1 : 0;
+            expect_call(tally, "pack", packing(settings[i].pack, level, mode, 0, &zero, 1, 53), packed, stream, bytes);
+            expect_call(tally, "length", packing(settings[i].length, level, mode, 0, &zero, 1, 0), packed, NULL, 0);
+            expect_call(tally, "check", reading(CHECK, level, later_stream, 53, 0), read, NULL, 0);
+            expect_call(tally, "unpack", reading(settings[i].unpack, level, later_stream, 53, 1), read, &zero, values);
+        }
+}
+
+/* Refusals of pack and length; where several apply, the first of 1 2 3 4. */
+static void test_packing_refused(struct tally *tally)
+{
+    static const struct { const char *what; uint32_t level, mode; int32_t k; uint32_t refusal32, refusal64; } rows[] = {
+        {"level 7 before mode 2", 7, 2, 0, 1, 1},
+        {"level 11", 11, 0, 0, 1, 1},
+        {"level 2^32 - 1", UINT32_MAX, 0, 0, 1, 1},
+        {"mode 2", 10, 2, 0, 2, 2},
+        {"k 1 in mode 0", 10, 0, 1, 2, 2},
+        {"k -1 in mode 0", 10, 0, -1, 2, 2},
+        {"k 104", 10, 1, 104, 2, 4},
+        {"k -151", 10, 1, -151, 2, 4},
+        {"k 971", 10, 1, 971, 2, 2},
+        {"k -1076", 10, 1, -1076, 2, 2},
+        {"smallest k of int32_t", 10, 1, INT32_MIN, 2, 2},
+        {"tolerance at level 8, width 64 at level 9", 8, 1, 0, 2, 2},
+        {"the limits of k are allowed", 10, 1, 103, 4, 4},
+        {"the limits of k are allowed", 10, 1, -150, 4, 4},
+    };
+    const uint64_t zero = 0;
+    for (size_t i = 0; i < COUNT(rows); i++) {
+        uint32_t level = rows[i].level, mode = rows[i].mode;
+        int32_t k = rows[i].k;
+        uint64_t wanted32 = refused(rows[i].refusal32, rows[i].refusal32 == 4 ? 53 : 0);
+        uint64_t wanted64 = refused(rows[i].refusal64, rows[i].refusal64 == 4 ? 53 : 0);
+        expect_call(tally, rows[i].what, packing(PACK32, level, mode, k, &zero, 1, 52), wanted32, NULL, 0);
+        expect_call(tally, rows[i].what, packing(PACK64, level, mode, k, &zero, 1, 52), wanted64, NULL, 0);
+        expect_call(tally, rows[i].what, packing(LENGTH32, level, mode, k, &zero, 1, 0),
+                    rows[i].refusal32 == 4 ? done(53) : wanted32, NULL, 0);
+        expect_call(tally, rows[i].what, packing(LENGTH64, level, mode, k, &zero, 1, 0),
+                    rows[i].refusal64 == 4 ? done(53) : wanted64, NULL, 0);
+    }
+}
+
+/* One byte or one number of a stream replaced. */
+struct damage {
+    const char *what;
+    size_t place, bytes; /* 1: a byte; 4: a number */
+    uint32_t number, refusal, detail;
+};
+
+/* Check, unpack and probe refuse the damaged stream alike, at level 10. */
+static void expect_damage(struct tally *tally, const uint8_t *stream, size_t len, struct damage damage)
+{
+    uint8_t *damaged = (uint8_t *)allocated(len);
+    uint64_t wanted = refused(damage.refusal, damage.detail);
+    memcpy(damaged, stream, len);
+    if (damage.bytes == 4)
+        put_number(damaged + damage.place, damage.number);
+    else
+        damaged[damage.place] = (uint8_t)damage.number;
+    expect_call(tally, damage.what, reading(CHECK, 10, damaged, len, 0), wanted, NULL, 0);
+    expect_call(tally, damage.what, reading(UNPACK32, 10, damaged, len, 4096), wanted, NULL, 0);
+    expect_call(tally, damage.what, probing(PROBE32, 10, damaged, len, 0), wanted, NULL, 0);
+    free(damaged);
+}
+
+static void test_damaged_example(struct tally *tally)
+{
+    static const struct damage damages[] = {
+        {"major 0", 0, 4, 0, 6, 0}, {"major 2", 0, 4, 2, 6, 0}, {"major 257", 0, 4, 257, 6, 0},
+        {"need 11", 8, 4, 11, 7, 11}, {"need 2^32 - 1", 8, 4, UINT32_MAX, 7, UINT32_MAX},
+        {"need 7", 8, 4, 7, 8, 0}, {"need 9, not the setting's", 8, 4, 9, 8, 0},
+        {"written 7 below needed 8", 4, 4, 7, 8, 0}, {"width 16", 12, 4, 16, 8, 0},
+        {"width 64 and the need of 32", 12, 4, 64, 8, 0}, {"mode 1 and the need of mode 0", 16, 4, 1, 8, 0},
+        {"mode 2", 16, 4, 2, 8, 0}, {"k 1 in mode 0", 20, 4, 1, 8, 0}, {"n 1025 in 1 chunk", 24, 4, 1025, 8, 0},
+        {"n 0 in 1 chunk", 24, 4, 0, 8, 0}, {"n above the limit", 24, 4, 1048577, 8, 0},
+        {"2 chunks", 28, 4, 2, 8, 0}, {"no chunks", 28, 4, 0, 8, 0}, {"chunk table at 52", 32, 4, 52, 8, 0},
+        {"data at 48", 36, 4, 48, 8, 0}, {"65 side parts", 40, 4, 65, 8, 0},
+        {"data ends before its start", 44, 4, 51, 8, 0}, {"data ends past the bytes", 44, 4, 56, 8, 0},
+        {"data ends at 2^32 - 1", 44, 4, UINT32_MAX, 8, 0},
+        {"first chunk at 1", 48, 4, 1, 9, 0}, {"no data for a chunk", 44, 4, 52, 9, 0},
+        {"a byte behind the data", 44, 4, 54, 9, 0}, {"a side part and no table", 40, 4, 1, 9, 0},
+        {"w 33", 52, 1, 33, 10, 0}, {"w 255", 52, 1, 255, 10, 0}, {"w 4 is not smallest", 52, 1, 4, 10, 0},
+        {"w 2: a byte left over", 52, 1, 2, 10, 0}, {"w 8: a byte missing", 52, 1, 8, 10, 0},
+        {"a padding bit set", 54, 1, 0x81, 10, 0}, {"the lowest padding bit set", 54, 1, 0x03, 10, 0},
+    };
+    for (size_t i = 0; i < COUNT(damages); i++)
+        expect_damage(tally, example, sizeof example, damages[i]);
+}
+
+static void test_damaged_setting(struct tally *tally)
+{
+    static const struct damage damages[] = {
+        {"k 104", 20, 4, 104, 8, 0}, {"k -151", 20, 4, (uint32_t)-151, 8, 0},
+        {"k 2^31", 20, 4, 0x80000000, 8, 0}, {"mode 0 and the need of mode 1", 16, 4, 0, 8, 0},
+        {"written 8 below needed 9", 4, 4, 8, 8, 0},
+    };
+    const struct setting within = {9, 32, 1, 0xFFFFFFFE};
+    const uint8_t no_bits[] = {0};
+    uint8_t stream[53];
+    size_t len = put_stream(stream, within, 1, no_bits, 1);
+    for (size_t i = 0; i < COUNT(damages); i++)
+        expect_damage(tally, stream, len, damages[i]);
+}
+
+/* The detail of refusal 10, and a probe that reads its own chunk only. */
+static void test_damaged_chunks(struct tally *tally)
+{
+    static const struct damage tables[] = {
+        {"second chunk at 0", 52, 4, 0, 9, 0}, {"third chunk before the second", 56, 4, 31, 9, 0},
+        {"third chunk at the data's end", 56, 4, 65, 9, 0}, {"third chunk at 2^32 - 1", 56, 4, UINT32_MAX, 9, 0},
+        {"w 1 in chunk 0 takes a byte too many", 60, 1, 1, 10, 0},
+    };
+    static const uint64_t first_of_chunk[] = {0, 1024, 2048};
+    const uint32_t zero = 0;
+    uint8_t stream[THREE_CHUNKS_BYTES];
+    put_three_chunks(stream);
+    for (size_t i = 0; i < COUNT(tables); i++)
+        expect_damage(tally, stream, sizeof stream, tables[i]);
+    for (uint32_t bad = 0; bad < 3; bad++) {
+        put_three_chunks(stream);
+        stream[60 + 32 * bad] = 33;
+        stream[60 + 64] = 33; /* the last chunk is bad too: the first bad one is named */
+        expect_call(tally, "a bad chunk", reading(CHECK, 8, stream, sizeof stream, 0), refused(10, bad), NULL, 0);
+        expect_call(tally, "a bad chunk", reading(UNPACK32, 8, stream, sizeof stream, 2049), refused(10, bad), NULL, 0);
+        for (uint32_t own = 0; own < 3; own++) {
+            int good = own != bad && own != 2;
+            expect_call(tally, "its own chunk", probing(PROBE32, 8, stream, sizeof stream, first_of_chunk[own]),
+                        good ? done(GWZ_FINITE) : refused(10, own), &zero, good ? 1 : 0);
+        }
+    }
+}
+
+/* Two side parts behind the example: ids 1 and 9, of 2 bytes and none. A reader skips them. */
+static void test_side_parts(struct tally *tally)
+{
+    static const uint32_t entries[] = {1, 79, 2, 9, 81, 0};
+    static const struct damage damages[] = {
+        {"ids equal", 67, 4, 1, 9, 0}, {"ids fall", 67, 4, 0, 9, 0}, {"a gap behind the table", 59, 4, 80, 9, 0},
+        {"a gap between parts", 71, 4, 82, 9, 0}, {"a part ends past the stream", 75, 4, 1, 9, 0},
+        {"a length of 2^32 - 1", 63, 4, UINT32_MAX, 9, 0}, {"one entry fewer", 40, 4, 1, 9, 0},
+    };
+    uint8_t stream[81];
+    memcpy(stream, example, sizeof example);
+    put_number(stream + 40, 2);
+    for (size_t i = 0; i < COUNT(entries); i++)
+        put_number(stream + 55 + 4 * i, entries[i]);
+    stream[79] = stream[80] = 0xEE;
+    expect_call(tally, "checked", reading(CHECK, 8, stream, 81, 0), done(3), NULL, 0);
+    expect_call(tally, "unpacked", reading(UNPACK32, 8, stream, 81, 3), done(3), example_values, 3);
+    expect_call(tally, "probed", probing(PROBE32, 8, stream, 81, 1), done(GWZ_FINITE), &example_values[1], 1);
+    expect_call(tally, "cut", reading(CHECK, 8, stream, 80, 0), refused(9, 0), NULL, 0);
+    for (size_t i = 0; i < COUNT(damages); i++)
+        expect_damage(tally, stream, sizeof stream, damages[i]);
+}
+
+/* Where several refusals apply, the first of 1 5 6 7 8 14 4 9 10 (unpack) or 1 5 6 7 8 14 11 9 10 (probe). */
+static void test_reading_order(struct tally *tally)
+{
+    uint8_t bad[55];
+    memcpy(bad, example, sizeof bad);
+    bad[52] = 33;
+    expect_call(tally, "unpack: 4 before 10", reading(UNPACK32, 8, bad, 55, 2), refused(4, 3), NULL, 0);
+    expect_call(tally, "probe: 11 before 10", probing(PROBE32, 8, bad, 55, 3), refused(11, 0), NULL, 0);
+    bad[48] = 1;
+    expect_call(tally, "check: 9 before 10", reading(CHECK, 8, bad, 55, 0), refused(9, 0), NULL, 0);
+    expect_call(tally, "unpack: 4 before 9", reading(UNPACK32, 8, bad, 55, 2), refused(4, 3), NULL, 0);
+    expect_call(tally, "probe: 11 before 9", probing(PROBE32, 8, bad, 55, 3), refused(11, 0), NULL, 0);
+    expect_call(tally, "unpack: 14 before 4", reading(UNPACK64, 8, bad, 55, 0), refused(14, 0), NULL, 0);
+    expect_call(tally, "probe: 14 before 11", probing(PROBE64, 8, bad, 55, 3), refused(14, 0), NULL, 0);
+    bad[32] = 0;
+    expect_call(tally, "unpack: 8 before 14", reading(UNPACK64, 8, bad, 55, 0), refused(8, 0), NULL, 0);
+    expect_call(tally, "probe: 8 before 14", probing(PROBE64, 8, bad, 55, 3), refused(8, 0), NULL, 0);
+    bad[8] = 10;
+    expect_call(tally, "need 10 stops level 9", reading(CHECK, 9, bad, 55, 0), refused(7, 10), NULL, 0);
+    expect_call(tally, "need 10 at level 10 is wrong", reading(CHECK, 10, bad, 55, 0), refused(8, 0), NULL, 0);
+    bad[0] = 2;
+    expect_call(tally, "6 before 7", reading(CHECK, 9, bad, 55, 0), refused(6, 0), NULL, 0);
+    expect_call(tally, "5 before 6", reading(UNPACK64, 9, bad, 47, 0), refused(5, 0), NULL, 0);
+    expect_call(tally, "1 before 5", probing(PROBE64, 7, bad, 47, 0), refused(1, 0), NULL, 0);
+}
+
+/* ---- Lengths up to the limit: all values 0, or all with the largest code */
+
+struct uniform {
+    void *values;
+    uint8_t *stream;
+    size_t length;
+};
+
+/* n values with the code 0 or 2^W - 1, and the stream written by hand. */
+static struct uniform uniform_of(uint32_t width, uint32_t n, int full)
+{
+    const struct setting lossless = {10, width, 0, 0};
+    const uint32_t largest32 = 0x00800000; /* the pattern of the code FFFFFFFF */
+    const uint64_t largest64 = 0x0010000000000000;
+    size_t w = full ? width : 0, chunks = (n + 1023) / 1024, groups = (n + 31) / 32;
+    size_t data_bytes = groups + n * w / 8, data = 48 + 4 * chunks;
+    struct uniform u = {allocated(n * width / 8), NULL, data + data_bytes};
+
+    u.stream = (uint8_t *)allocated(u.length);
+    memset(u.stream, 0xFF, u.length);
+    put_header(u.stream, lossless, n, data_bytes);
+    for (size_t i = 0; i < chunks; i++)
+        put_number(u.stream + 48 + 4 * i, (uint32_t)(i * 32 * (1 + 4 * w)));
+    for (size_t i = 0; i < groups; i++)
+        u.stream[data + i * (1 + 4 * w)] = (uint8_t)w;
+    memset(u.values, 0, n * width / 8);
+    for (size_t i = 0; full && i < n; i++)
+        if (width == 32)
+            ((uint32_t *)u.values)[i] = largest32;
+        else
+            ((uint64_t *)u.values)[i] = largest64;
+    return u;
+}
+
+static void expect_uniform(struct tally *tally, uint32_t width, uint32_t n, int full)
+{
+    enum operation pack = width == 32 ? PACK32 : PACK64, length = width == 32 ? LENGTH32 : LENGTH64;
+    enum operation unpack = width == 32 ? UNPACK32 : UNPACK64, probe = width == 32 ? PROBE32 : PROBE64;
+    struct uniform u = uniform_of(width, n, full);
+    uint64_t packed = done(u.length);
+    uint32_t needed = (uint32_t)u.length;
+
+    expect_call(tally, "length", packing(length, 10, 0, 0, u.values, n, 0), packed, NULL, 0);
+    expect_call(tally, "packed", packing(pack, 10, 0, 0, u.values, n, u.length), packed, u.stream, u.length);
+    expect_call(tally, "packed, longest room", packing(pack, 10, 0, 0, u.values, n, GWZ_LONGEST_STREAM(width, n)),
+                packed, u.stream, u.length);
+    expect_call(tally, "a byte short", packing(pack, 10, 0, 0, u.values, n, u.length - 1), refused(4, needed), NULL, 0);
+    expect_call(tally, "checked", reading(CHECK, 10, u.stream, u.length, 0), done(n), NULL, 0);
+    expect_call(tally, "unpacked", reading(unpack, 10, u.stream, u.length, n), done(n), u.values, n);
+    if (n > 0) {
+        expect_call(tally, "a value short", reading(unpack, 10, u.stream, u.length, n - 1), refused(4, n), NULL, 0);
+        expect_call(tally, "the last probed", probing(probe, 10, u.stream, u.length, n - 1), done(GWZ_FINITE),
+                    u.values, 1);
+    }
+    expect_call(tally, "none behind the last", probing(probe, 10, u.stream, u.length, n), refused(11, 0), NULL, 0);
+    free(u.values);
+    free(u.stream);
+}
+
+static void test_lengths(struct tally *tally)
+{
+    static const uint32_t counts[] = {0, 1, 31, 32, 33, 1023, 1024, 1025, 2048, 2049};
+    static const uint32_t zeros[1025] = {0};
+    const struct number_case stated[] = {
+        {"no values are 48 bytes", gwz_length32(8, 0, 0, zeros, 0), done(48)},
+        {"1,024 zeros are 84 bytes", gwz_length32(8, 0, 0, zeros, 1024), done(84)},
+        {"1,025 values have two chunks", gwz_length32(8, 0, 0, zeros, 1025), done(48 + 8 + 33)},
+    };
+    expect_numbers(tally, stated, COUNT(stated));
+    for (size_t i = 0; i < COUNT(counts); i++)
+        for (int full = 0; full <= 1; full++) {
+            expect_uniform(tally, 32, counts[i], full);
+            expect_uniform(tally, 64, counts[i], full);
+        }
+}
+
+/* 1,048,576 values pass, one more is refused. */
+static void test_limit(struct tally *tally)
+{
+    const uint32_t limit = 1048576;
+    uint64_t *values = (uint64_t *)allocated(8 * (size_t)(limit + 1));
+    size_t room = GWZ_LONGEST_STREAM(64, limit + 1);
+    for (int full = 0; full <= 1; full++) {
+        expect_uniform(tally, 32, limit, full);
+        expect_uniform(tally, 64, limit, full);
+    }
+    memset(values, 0, 8 * (size_t)(limit + 1));
+    expect_call(tally, "32 bits", packing(PACK32, 8, 0, 0, values, limit + 1, room), refused(3, 0), NULL, 0);
+    expect_call(tally, "64 bits", packing(PACK64, 10, 0, 0, values, limit + 1, room), refused(3, 0), NULL, 0);
+    expect_call(tally, "3 before 4", packing(PACK32, 9, 1, 0, values, limit + 1, 0), refused(3, 0), NULL, 0);
+    expect_call(tally, "2 before 3", packing(PACK32, 8, 1, 0, values, limit + 1, room), refused(2, 0), NULL, 0);
+    expect_call(tally, "32 bits", packing(LENGTH32, 8, 0, 0, values, limit + 1, 0), refused(3, 0), NULL, 0);
+    expect_call(tally, "64 bits", packing(LENGTH64, 10, 1, 0, values, limit + 1, 0), refused(3, 0), NULL, 0);
+    free(values);
+}
+
+/* ---- Lists of unlike patterns */
+
+enum { MIXED = 3000 };
+
+/* What a magnitude comes back as under 2^k. Every step is exact: the bin is a power of two. */
+static double magnitude_back(double magnitude, int k, int fraction_bits)
+{
+    double bins = ldexp(magnitude, -k - 1), whole = floor(bins);
+    if (!(magnitude < ldexp(1, k + 1 + fraction_bits)))
+        return magnitude;
+    return ldexp(bins - whole >= 0.5 ? whole + 1 : whole, k + 1);
+}
+
+static uint32_t pattern_back32(uint32_t pattern, int k)
+{
+    uint32_t magnitude = pattern & 0x7FFFFFFF, sign = pattern & 0x80000000;
+    float value;
+    memcpy(&value, &magnitude, sizeof value);
+    if (magnitude >= 0x7F800000)
+        return pattern;
+    value = (float)magnitude_back(value, k, 23);
+    memcpy(&magnitude, &value, sizeof value);
+    return sign | magnitude;
+}
+
+static uint64_t pattern_back64(uint64_t pattern, int k)
+{
+    uint64_t magnitude = pattern & 0x7FFFFFFFFFFFFFFF, sign = pattern & 0x8000000000000000;
+    double value;
+    memcpy(&value, &magnitude, sizeof value);
+    if (magnitude >= 0x7FF0000000000000)
+        return pattern;
+    value = magnitude_back(value, k, 52);
+    memcpy(&magnitude, &value, sizeof value);
+    return sign | magnitude;
+}
+
+static void test_mixed32(struct tally *tally)
+{
+    static uint32_t values[MIXED], back[MIXED];
+    static uint8_t stream[GWZ_LONGEST_STREAM(32, MIXED)];
+    uint32_t state = 1;
+    for (uint32_t mode = 0; mode <= 1; mode++) {
+        int32_t k = mode == 0 ? 0 : -9;
+        for (size_t i = 0; i < MIXED; i++) {
+            state = state * 1664525u + 1013904223u;
+            values[i] = state;
+            back[i] = mode == 0 ? state : pattern_back32(state, k);
+        }
+        uint64_t packed = gwz_pack32(9, mode, k, values, MIXED, stream, sizeof stream);
+        size_t length = gwz_answer(packed);
+        expect_call(tally, "length", packing(LENGTH32, 9, mode, k, values, MIXED, 0), packed, NULL, 0);
+        expect_call(tally, "packed", packing(PACK32, 9, mode, k, values, MIXED, length), packed, stream, length);
+        expect_call(tally, "unpacked", reading(UNPACK32, 9, stream, length, MIXED + 9), done(MIXED), back, MIXED);
+    }
+}
+
+static void test_mixed64(struct tally *tally)
+{
+    static uint64_t values[MIXED], back[MIXED];
+    static uint8_t stream[GWZ_LONGEST_STREAM(64, MIXED)];
+    uint64_t state = 1;
+    for (uint32_t mode = 0; mode <= 1; mode++) {
+        int32_t k = mode == 0 ? 0 : -30;
+        for (size_t i = 0; i < MIXED; i++) {
+            state = state * 6364136223846793005u + 1442695040888963407u;
+            values[i] = state;
+            back[i] = mode == 0 ? state : pattern_back64(state, k);
+        }
+        uint64_t packed = gwz_pack64(10, mode, k, values, MIXED, stream, sizeof stream);
+        size_t length = gwz_answer(packed);
+        expect_call(tally, "length", packing(LENGTH64, 10, mode, k, values, MIXED, 0), packed, NULL, 0);
+        expect_call(tally, "packed", packing(PACK64, 10, mode, k, values, MIXED, length), packed, stream, length);
+        expect_call(tally, "unpacked", reading(UNPACK64, 10, stream, length, MIXED + 9), done(MIXED), back, MIXED);
+    }
+}
+
+/* A part of no elements may have any pointer, NULL too. */
+static void test_no_elements(struct tally *tally)
+{
+    const struct setting narrow = {10, 32, 0, 0}, wide = {10, 64, 0, 0};
+    uint8_t empty32[48], empty64[48], packed32[48], packed64[48];
+    uint32_t word = 7;
+    uint64_t number = 7;
+    put_header(empty32, narrow, 0, 0);
+    put_header(empty64, wide, 0, 0);
+    const struct number_case cases[] = {
+        {"pack32 of no values", gwz_pack32(10, 0, 0, NULL, 0, packed32, 48), done(48)},
+        {"pack32 into no room", gwz_pack32(10, 0, 0, NULL, 0, NULL, 0), refused(4, 48)},
+        {"pack64 of no values", gwz_pack64(10, 0, 0, NULL, 0, packed64, 48), done(48)},
+        {"pack64 into no room", gwz_pack64(10, 0, 0, NULL, 0, NULL, 0), refused(4, 48)},
+        {"length32", gwz_length32(10, 0, 0, NULL, 0), done(48)},
+        {"length64", gwz_length64(10, 0, 0, NULL, 0), done(48)},
+        {"check of no bytes", gwz_check(10, NULL, 0), refused(5, 0)},
+        {"unpack32 of no bytes", gwz_unpack32(10, NULL, 0, NULL, 0), refused(5, 0)},
+        {"unpack64 of no bytes", gwz_unpack64(10, NULL, 0, NULL, 0), refused(5, 0)},
+        {"unpack32 of no values", gwz_unpack32(10, empty32, 48, NULL, 0), done(0)},
+        {"unpack64 of no values", gwz_unpack64(10, empty64, 48, NULL, 0), done(0)},
+        {"unpack32 into no room", gwz_unpack32(10, example, 55, NULL, 0), refused(4, 3)},
+        {"probe32 of no bytes", gwz_probe32(10, NULL, 0, 0, &word), refused(5, 0)},
+        {"probe64 of no bytes", gwz_probe64(10, NULL, 0, 0, &number), refused(5, 0)},
+    };
+    expect_numbers(tally, cases, COUNT(cases));
+    record(tally, "pack32's stream of no values", memcmp(packed32, empty32, 48) == 0 ? NULL : "other bytes");
+    record(tally, "pack64's stream of no values", memcmp(packed64, empty64, 48) == 0 ? NULL : "other bytes");
+    record(tally, "the patterns after a refusal", word == 7 && number == 7 ? NULL : "altered");
+}
+
+static void test_each_refusal(struct tally *tally)
+{
+    for (uint32_t number = 1; number <= 14; number++)
+        record(tally, "each refusal 1 to 14 was given by some call above",
+               tally->refusals_given >> number & 1 ? NULL : gwz_refusal_text(number));
+}
+
+int main(void)
+{
+    static const struct { const char *name; void (*run)(struct tally *); } groups[] = {
+        {"results taken apart", test_helpers},
+        {"bound", test_bound},
+        {"lossless codes, known", test_lossless_known},
+        {"lossless codes, every exponent", test_lossless_map},
+        {"tolerance codes of 32 bits", test_tolerance32},
+        {"tolerance codes of 64 bits", test_tolerance64},
+        {"largest u", test_largest_u},
+        {"the 55-byte example", test_example},
+        {"probe of 32 bits", test_probe32},
+        {"probe of 64 bits", test_probe64},
+        {"levels", test_levels},
+        {"packing refused", test_packing_refused},
+        {"damaged example", test_damaged_example},
+        {"damaged setting", test_damaged_setting},
+        {"damaged chunks", test_damaged_chunks},
+        {"side parts", test_side_parts},
+        {"order of refusals when reading", test_reading_order},
+        {"lengths", test_lengths},
+        {"the limit of 1,048,576 values", test_limit},
+        {"mixed patterns of 32 bits", test_mixed32},
+        {"mixed patterns of 64 bits", test_mixed64},
+        {"parts of no elements", test_no_elements},
+        {"each refusal", test_each_refusal},
+    };
+    struct tally tally = {0, 0, 0};
+    for (size_t i = 0; i < COUNT(groups); i++) {
+        unsigned passed = tally.passed, failed = tally.failed;
+        groups[i].run(&tally);
+        printf("%s: %u passed, %u failed\n", groups[i].name, tally.passed - passed, tally.failed - failed);
+    }
+    printf("%u passed, %u failed\n", tally.passed, tally.failed);
+    return tally.failed == 0 ? 0 : 1;
+}
