@@ -1,0 +1,110 @@
+/*
+ * Packs a small field within a tolerance and reads it back: a program to copy from.
+ *
+ *     cc -std=c99 -I include examples/pack_field.c target/staticlib/libexports.a -lm -o pack_field
+ */
+#include "gwizdorad.h"
+
+#include <math.h>
+#include <stdio.h>
+#include <stdlib.h>
+#include <string.h>
+
+enum { ROWS = 3, COLUMNS = 4, CELLS = ROWS * COLUMNS };
+
+static void stop(const char *what, const char *why)
+{
+    fprintf(stderr, "pack_field: %s: %s\n", what, why);
+    exit(1);
+}
+
+static void *allocated(size_t bytes)
+{
+    void *memory = malloc(bytes);
+    if (memory == NULL)
+        stop("allocating", "there is no memory");
+    return memory;
+}
+
+/* A refused call has written nothing, so there is nothing to undo: say what was refused, and stop. */
+static uint64_t not_refused(const char *call, uint64_t result)
+{
+    if (gwz_refusal(result) != GWZ_DONE) {
+        fprintf(stderr, "pack_field: refusal %lu, detail %lu\n", (unsigned long)gwz_refusal(result),
+                (unsigned long)gwz_detail(result));
+        stop(call, gwz_refusal_text(gwz_refusal(result)));
+    }
+    return result;
+}
+
+/* The largest k with 2^k not above the tolerance. A tolerance is passed as its pattern, in 64 bits for either width. */
+static int32_t exponent_of(double tolerance)
+{
+    uint64_t pattern;
+    memcpy(&pattern, &tolerance, sizeof pattern);
+    return gwz_exponent(not_refused("bound", gwz_bound(32, pattern)));
+}
+
+/* The stream of n values, for the caller to free. */
+static uint8_t *packed(const float *values, size_t n, int32_t k, size_t *length)
+{
+    /* The library takes patterns. memcpy is the way from floats that no compiler may misread. */
+    uint32_t *patterns = (uint32_t *)allocated(n * sizeof *patterns);
+    memcpy(patterns, values, n * sizeof *patterns);
+
+    /* How much room? Ask for the exact length, or lend GWZ_LONGEST_STREAM(32, n) bytes without asking. */
+    const uint32_t level = GWZ_HIGHEST_LEVEL, mode = GWZ_WITHIN_TOLERANCE;
+    size_t room = gwz_answer(not_refused("length", gwz_length32(level, mode, k, patterns, n)));
+    uint8_t *stream = (uint8_t *)allocated(room);
+    *length = gwz_answer(not_refused("pack", gwz_pack32(level, mode, k, patterns, n, stream, room)));
+
+    free(patterns);
+    return stream;
+}
+
+/* The values of a stream, for the caller to free. The bytes may come from anywhere: a damaged stream is refused. */
+static float *unpacked(const uint8_t *stream, size_t length, size_t *n)
+{
+    *n = gwz_answer(not_refused("check", gwz_check(GWZ_HIGHEST_LEVEL, stream, length)));
+    uint32_t *patterns = (uint32_t *)allocated(*n * sizeof *patterns + 1); /* + 1: a stream may hold no values */
+    not_refused("unpack", gwz_unpack32(GWZ_HIGHEST_LEVEL, stream, length, patterns, *n));
+
+    float *values = (float *)allocated(*n * sizeof *values + 1);
+    memcpy(values, patterns, *n * sizeof *values);
+    free(patterns);
+    return values;
+}
+
+static void print_cells(const char *title, const float *cells)
+{
+    printf("%s\n", title);
+    for (size_t i = 0; i < CELLS; i++) {
+        if (isnan(cells[i]))
+            printf("     dry");
+        else
+            printf("%8.4f", (double)cells[i]);
+        if (i % COLUMNS == COLUMNS - 1)
+            printf("\n");
+    }
+}
+
+int main(void)
+{
+    /* Water levels in metres. A dry cell is a not-a-number, and comes back bit for bit as the one it was. */
+    const float levels[CELLS] = {1.8125f, 1.8203f, 1.8310f, NAN, 1.8097f, 1.8188f, 1.8295f, NAN,
+                                 1.8061f, 1.8150f, 1.8270f, 1.8352f};
+    size_t length = 0, n = 0;
+    int32_t k = exponent_of(0.005);
+    uint8_t *stream = packed(levels, CELLS, k, &length);
+    float *back = unpacked(stream, length, &n);
+
+    if (n != CELLS)
+        stop("unpack", "the stream holds another count of values");
+    print_cells("packed, in metres:", levels);
+    print_cells("read back:", back);
+    printf("tolerance: 2^%ld m = %g m\n", (long)k, ldexp(1, (int)k));
+    printf("stream: %lu bytes\n", (unsigned long)length);
+    free(back);
+    free(stream);
+    return 0;
+}
