@@ -1,0 +1,292 @@
+/*
+ * The field of the first run: packed, and read back and measured.
+ *
+ *     harbour pack FIELD FOLDER METRES    packs FIELD into FOLDER: lossless, within a tolerance, and a cut file
+ *     harbour read FIELD FOLDER METRES    reads the three files back and compares them with FIELD
+ *
+ * The exit status is 0 only where every file could be read or written, every call was answered as it must be,
+ * and every cell came back as promised. examples/make_harbour.py says what the field is.
+ */
+#include "gwizdorad.h"
+
+#include <math.h>
+#include <stdarg.h>
+#include <stdio.h>
+#include <stdlib.h>
+#include <string.h>
+
+enum { ROWS = 64, COLUMNS = 96, CELLS = ROWS * COLUMNS, RAW_BYTES = 4 * CELLS };
+enum { LONGEST = GWZ_LONGEST_STREAM(32, CELLS) };
+
+/* The cells to probe: in the mouth of the harbour, and on the western breakwater. */
+enum { MOUTH_ROW = 46, MOUTH_COLUMN = 47, WALL_ROW = 46, WALL_COLUMN = 10 };
+
+static const char lossless_name[] = "lossless.gwz", tolerance_name[] = "tolerance.gwz", cut_name[] = "cut.gwz";
+
+static void stop(const char *format, ...)
+{
+    va_list values;
+    va_start(values, format);
+    fprintf(stderr, "harbour: ");
+    vfprintf(stderr, format, values);
+    fprintf(stderr, "\n");
+    va_end(values);
+    exit(1);
+}
+
+/* ---- Files */
+
+struct path {
+    char text[1024];
+};
+
+static struct path path_of(const char *folder, const char *name)
+{
+    struct path path;
+    int length = snprintf(path.text, sizeof path.text, "%s/%s", folder, name);
+    if (length < 0 || (size_t)length >= sizeof path.text)
+        stop("the name of the folder is too long: %s", folder);
+    return path;
+}
+
+/* Returns how many bytes the file has, which must not be more than there is room for. */
+static size_t read_file(const char *path, uint8_t *bytes, size_t room)
+{
+    FILE *file = fopen(path, "rb");
+    if (file == NULL)
+        stop("cannot open %s", path);
+    size_t length = fread(bytes, 1, room, file);
+    if (ferror(file) || fgetc(file) != EOF)
+        stop("cannot read %s, or it has more than %lu bytes", path, (unsigned long)room);
+    fclose(file);
+    return length;
+}
+
+static void write_file(const char *path, const uint8_t *bytes, size_t length)
+{
+    FILE *file = fopen(path, "wb");
+    if (file == NULL || fwrite(bytes, 1, length, file) != length || fclose(file) != 0)
+        stop("cannot write %s", path);
+}
+
+/* The shipped field is little-endian whatever the machine is. */
+static void read_field(const char *path, uint32_t *field)
+{
+    static uint8_t bytes[RAW_BYTES];
+    if (read_file(path, bytes, sizeof bytes) != sizeof bytes)
+        stop("%s must have %d rows of %d values of 4 bytes", path, (int)ROWS, (int)COLUMNS);
+    for (size_t i = 0; i < CELLS; i++)
+        field[i] = (uint32_t)bytes[4 * i] | (uint32_t)bytes[4 * i + 1] << 8 | (uint32_t)bytes[4 * i + 2] << 16
+            | (uint32_t)bytes[4 * i + 3] << 24;
+}
+
+/* ---- Values */
+
+static int is_dry(uint32_t pattern)
+{
+    return (pattern & 0x7FFFFFFF) > 0x7F800000; /* a not-a-number */
+}
+
+static double metres_of(uint32_t pattern)
+{
+    float value;
+    memcpy(&value, &pattern, sizeof value);
+    return (double)value;
+}
+
+/*
+ * The exact distance of a value and what came back for it. Within a tolerance that distance has at most 24 bits, so
+ * a double holds it. One that a double cannot hold, or that is no number, is a fault and counts as infinite. That
+ * nothing was rounded away is seen by Dekker's test: with the larger magnitude first, `a - difference` is exact.
+ */
+static double exact_distance(double x, double y)
+{
+    double a = fabs(x) >= fabs(y) ? x : y, b = fabs(x) >= fabs(y) ? y : x;
+    double difference = a - b;
+    return a - difference == b ? fabs(difference) : HUGE_VAL;
+}
+
+/* How often a number is doubled till it is whole: n for a/2^n, which n decimals show exactly. */
+static int doublings_of(double number)
+{
+    int n = 0;
+    while (n < 1074 && ldexp(number, n) != floor(ldexp(number, n)))
+        n++;
+    return n;
+}
+
+/* ---- Calls */
+
+static uint64_t not_refused(const char *call, uint64_t result)
+{
+    if (gwz_refusal(result) != GWZ_DONE)
+        stop("%s: refused %lu detail %lu: %s", call, (unsigned long)gwz_refusal(result),
+             (unsigned long)gwz_detail(result), gwz_refusal_text(gwz_refusal(result)));
+    return result;
+}
+
+static int32_t exponent_of(double metres)
+{
+    uint64_t pattern;
+    memcpy(&pattern, &metres, sizeof pattern);
+    return gwz_exponent(not_refused("bound", gwz_bound(32, pattern)));
+}
+
+/* Each stream is written at the lowest level that allows it, so that the oldest readers can read it. */
+static size_t packed(uint32_t mode, int32_t k, const uint32_t *field, uint8_t *stream)
+{
+    uint32_t level = mode == GWZ_LOSSLESS ? GWZ_LEVEL_8 : GWZ_LEVEL_9;
+    return gwz_answer(not_refused("pack", gwz_pack32(level, mode, k, field, CELLS, stream, LONGEST)));
+}
+
+/* Reads a file and its values; returns the file's length. */
+static size_t unpacked(const char *path, uint8_t *stream, uint32_t *field)
+{
+    size_t length = read_file(path, stream, LONGEST);
+    uint64_t result = not_refused("unpack", gwz_unpack32(GWZ_HIGHEST_LEVEL, stream, length, field, CELLS));
+    if (gwz_answer(result) != CELLS)
+        stop("%s holds %lu values in place of %d", path, (unsigned long)gwz_answer(result), (int)CELLS);
+    return length;
+}
+
+/* ---- harbour pack */
+
+static void print_packed(const char *how, size_t length, const char *path)
+{
+    printf("Packed %s: %lu bytes, %.1f %% of the raw size, in %s\n", how, (unsigned long)length,
+           100.0 * (double)length / RAW_BYTES, path);
+}
+
+static void pack(const char *field_path, const char *folder, double metres)
+{
+    static uint32_t field[CELLS];
+    static uint8_t stream[LONGEST];
+    struct path lossless = path_of(folder, lossless_name), tolerance = path_of(folder, tolerance_name);
+    struct path cut = path_of(folder, cut_name);
+    int dry = 0;
+
+    read_field(field_path, field);
+    for (size_t i = 0; i < CELLS; i++)
+        dry += is_dry(field[i]);
+    printf("The field %s: %d rows of %d values, %d bytes raw; %d cells are wet and %d dry (not-a-number)\n", field_path,
+           (int)ROWS, (int)COLUMNS, (int)RAW_BYTES, CELLS - dry, dry);
+
+    size_t length = packed(GWZ_LOSSLESS, 0, field, stream);
+    write_file(lossless.text, stream, length);
+    print_packed("lossless", length, lossless.text);
+
+    int32_t k = exponent_of(metres);
+    length = packed(GWZ_WITHIN_TOLERANCE, k, field, stream);
+    write_file(tolerance.text, stream, length);
+    printf("Asked for a tolerance of %g m; kept is 2^%ld m, the largest allowed power of two not above it\n", metres,
+           (long)k);
+    print_packed("within it", length, tolerance.text);
+
+    write_file(cut.text, stream, length / 2);
+    printf("Cut on purpose: the first %lu bytes of that, in %s\n", (unsigned long)(length / 2), cut.text);
+}
+
+/* ---- harbour read */
+
+static void compare_lossless(const char *path, const uint32_t *field)
+{
+    static uint32_t back[CELLS];
+    static uint8_t stream[LONGEST];
+    int same = 0;
+    unpacked(path, stream, back);
+    for (size_t i = 0; i < CELLS; i++)
+        same += back[i] == field[i];
+    printf("Lossless, read back: %d of %d cells are the same bit for bit\n", same, (int)CELLS);
+    if (same != CELLS)
+        stop("a cell of %s is not as it was", path);
+}
+
+/* Exactly, in metres and as a fraction of the tolerance: a quotient by a power of two is not rounded. */
+static void print_distance(double distance, double tolerance)
+{
+    double share = distance / tolerance;
+    int n = doublings_of(share);
+    printf("The largest distance of a wet cell: exactly %.*f m, %.0f/%.0f of the tolerance of %.*f m\n",
+           doublings_of(distance), distance, ldexp(share, n), ldexp(1, n), doublings_of(tolerance), tolerance);
+}
+
+/* Dry cells must be the same bits, wet ones at most 2^k off. */
+static void compare_within(const char *path, const uint32_t *field, const uint32_t *back, int32_t k)
+{
+    double largest = 0, tolerance = ldexp(1, (int)k);
+    int dry = 0, same_dry = 0;
+    size_t farthest = 0;
+    for (size_t i = 0; i < CELLS; i++) {
+        dry += is_dry(field[i]);
+        same_dry += is_dry(field[i]) && back[i] == field[i];
+        double distance = is_dry(field[i]) ? 0 : exact_distance(metres_of(field[i]), metres_of(back[i]));
+        if (distance > largest) {
+            largest = distance;
+            farthest = i;
+        }
+    }
+    printf("Within the tolerance, read back: %d of %d dry cells are the same bit for bit\n", same_dry, dry);
+    print_distance(largest, tolerance);
+    printf("The cell with that distance: row %lu, column %lu\n", (unsigned long)(farthest / COLUMNS),
+           (unsigned long)(farthest % COLUMNS));
+    if (same_dry != dry || largest > tolerance)
+        stop("a cell of %s is not as promised", path);
+}
+
+/* One cell, read without unpacking the others. */
+static void print_probe(const char *where, const uint8_t *stream, size_t length, size_t row, size_t column)
+{
+    uint32_t pattern = 0;
+    uint64_t index = row * COLUMNS + column;
+    uint64_t result = not_refused("probe", gwz_probe32(GWZ_HIGHEST_LEVEL, stream, length, index, &pattern));
+    printf("Probed %s, row %lu, column %lu: ", where, (unsigned long)row, (unsigned long)column);
+    if (gwz_answer(result) == GWZ_NOT_A_NUMBER)
+        printf("not-a-number %08lX, so the cell is dry\n", (unsigned long)pattern);
+    else
+        printf("%.9g m\n", metres_of(pattern));
+}
+
+/* A cut file must be refused, and no value of it handed out. */
+static void print_refusal(const char *path)
+{
+    static uint32_t back[CELLS], untouched[CELLS];
+    static uint8_t stream[LONGEST];
+    size_t length = read_file(path, stream, LONGEST);
+    memset(back, 0xA5, sizeof back);
+    memset(untouched, 0xA5, sizeof untouched);
+    uint64_t result = gwz_unpack32(GWZ_HIGHEST_LEVEL, stream, length, back, CELLS);
+    if (gwz_refusal(result) == GWZ_DONE)
+        stop("%s is cut and was read all the same", path);
+    printf("The cut file: refused %lu detail %lu: %s\n", (unsigned long)gwz_refusal(result),
+           (unsigned long)gwz_detail(result), gwz_refusal_text(gwz_refusal(result)));
+    if (memcmp(back, untouched, sizeof back) != 0)
+        stop("the refused call altered the output");
+    printf("The output lent to the refused call: as it was\n");
+}
+
+static void read_back(const char *field_path, const char *folder, double metres)
+{
+    static uint32_t field[CELLS], back[CELLS];
+    static uint8_t stream[LONGEST];
+    struct path lossless = path_of(folder, lossless_name), tolerance = path_of(folder, tolerance_name);
+    struct path cut = path_of(folder, cut_name);
+
+    read_field(field_path, field);
+    compare_lossless(lossless.text, field);
+    size_t length = unpacked(tolerance.text, stream, back);
+    compare_within(tolerance.text, field, back, exponent_of(metres));
+    print_probe("the harbour mouth", stream, length, MOUTH_ROW, MOUTH_COLUMN);
+    print_probe("the western breakwater", stream, length, WALL_ROW, WALL_COLUMN);
+    print_refusal(cut.text);
+}
+
+int main(int count, char **words)
+{
+    if (count == 5 && strcmp(words[1], "pack") == 0)
+        pack(words[2], words[3], strtod(words[4], NULL));
+    else if (count == 5 && strcmp(words[1], "read") == 0)
+        read_back(words[2], words[3], strtod(words[4], NULL));
+    else
+        stop("usage: harbour pack|read FIELD FOLDER METRES");
+    return 0;
+}
