@@ -19,7 +19,7 @@ use Rattle.stream.specs.declared.answers.Step.{Step}
 use Rattle.stream.specs.declared.answers.Step.the-variants.{Pass}
 use Rattle.stream.proofs.Law.Elsewhere.{byte-apart, probe-same, value-same}
 use Rattle.stream.proofs.Law.Layout.{laid-out}
-use Rattle.stream.proofs.Law.Accepted.{opening, tables}
+use Rattle.stream.proofs.Law.Accepted.{opening, tables, unpacking}
 use Rattle.stream.proofs.Law.Agreed.{done-pass, refused-stop, unpack-check, counted, probe-passes, probe-value, higher-check, higher-unpack, higher-probe}
 
 -- ---- unpack's output
@@ -67,6 +67,16 @@ past-n-untouched W level s out n e i b =
 pub check-as-unpack : (level : ℕ) (s : List ℕ) (room : ℕ) → headerOf s .count ≤ room → checkAnswer level s ≡ unpackAnswer (headerOf s .width) level s room
 unfolding checkAnswer unpackAnswer
 check-as-unpack level s room l = ap (λ (a : Step). answer a (headerOf s .count)) (sym (unpack-check level s room l))
+
+-- Unpack accepts streams of its own width alone ..
+pub accepted-width : (W level : ℕ) (s out : List ℕ) (n : ℕ) → unpackAnswer W level s (length out) ≡ Done n → headerOf s .width ≡ W
+accepted-width W level s out n e = unpacking W level s (length out) (accepted-out W level s out n e .0) .width
+
+-- .. and what it accepts, check accepts with the same n.
+pub unpack-as-check : (W level : ℕ) (s out : List ℕ) (n : ℕ) → unpackAnswer W level s (length out) ≡ Done n → checkAnswer level s ≡ Done n
+unpack-as-check W level s out n e =
+    let u = unpacking W level s (length out) (accepted-out W level s out n e .0) in
+    check-as-unpack level s (length out) (u .enough) ∙ ap (λ (w : ℕ). unpackAnswer w level s (length out)) (u .width) ∙ e
 
 -- ---- probe
 

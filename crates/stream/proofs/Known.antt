@@ -2,14 +2,16 @@
 use mathlib.Core.Path.{_≡_, refl}
 use mathlib.Core.Bool.{Bool, true, false}
 use mathlib.Core.List.{List, [], _∷_}
-use Prim.Native.Nat.{_*_}
+use Prim.Native.Nat.{ℕ, _*_}
+use lib.IntN.{negsuc}
 use lib.Ieee.{size}
 use lib.ListN.{replicate}
 use Rattle.numbers.specs.Signed.{signedView, folded}
+use Rattle.numbers.specs.Tolerance.{leastK, lastBin, binOf, largestU}
 use Rattle.numbers.specs.Lossless.{rotated, field, minus, lowered, stepped, losslessCode}
 use Rattle.stream.specs.Bytes.{number, digits}
 use Rattle.stream.specs.Group.{bytesFor, largest, widthOf, packed, groupBytes, givenWidth, groupLength, groupNumber, groupCodes, within, goodGroup}
-use Rattle.stream.specs.Setting.{fractionBits, codeAt, codesOf}
+use Rattle.stream.specs.Setting.{fractionBits, binFor, clipped, codeAt, codesOf, limitOf}
 use Rattle.stream.specs.Chunk.{groupsIn, groupsBytes, chunkBytes}
 
 -- the list 0, -0, 2^-149, whose codes are 0, 2 and 4: "then bytes 03 10 01"
@@ -22,11 +24,15 @@ all-zero : groupBytes (replicate 32 0) ≡ 0 ∷ []
 unfolding groupBytes widthOf largest packed bytesFor digits number size
 all-zero = refl
 
+-- the largest u of a stream of width 32, mode 1, k = -2
+mostU : ℕ
+mostU = limitOf 32 1 (binFor 32 1 (negsuc 1))
+
 -- each row: the largest u, how many codes, the bytes; first two that are good, then one for each rule that a group can break at width 32
 rows : List Bool
 rows =
     goodGroup 32 2147483647 3 (3 ∷ 16 ∷ 1 ∷ [])
-    ∷ goodGroup 32 905969663 1 (groupBytes (2 * 905969663 ∷ []))
+    ∷ goodGroup 32 mostU 1 (groupBytes (2 * 905969663 ∷ []))
     -- w above W
     ∷ goodGroup 32 2147483647 1 (33 ∷ 0 ∷ 0 ∷ 0 ∷ 0 ∷ 1 ∷ [])
     -- bytes missing
@@ -36,11 +42,11 @@ rows =
     -- a padding bit set
     ∷ goodGroup 32 2147483647 3 (3 ∷ 16 ∷ 3 ∷ [])
     -- "u = 905969663 is read, 905969664 refused 10"
-    ∷ goodGroup 32 905969663 1 (groupBytes (2 * 905969664 ∷ []))
+    ∷ goodGroup 32 mostU 1 (groupBytes (2 * 905969664 ∷ []))
     ∷ []
 
 rules : rows ≡ true ∷ true ∷ false ∷ false ∷ false ∷ false ∷ false ∷ []
-unfolding rows goodGroup within givenWidth groupLength groupNumber groupCodes groupBytes widthOf largest packed bytesFor digits number size
+unfolding rows mostU limitOf binFor clipped fractionBits binOf leastK lastBin largestU goodGroup within givenWidth groupLength groupNumber groupCodes groupBytes widthOf largest packed bytesFor digits number size
 rules = refl
 
 -- the list itself, coded losslessly, as a chunk

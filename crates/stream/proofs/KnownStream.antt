@@ -1,8 +1,8 @@
 -- Document 01's worked stream, computed: "The list 0, -0, 2^-149, packed at level 8, mode 0, is 55 bytes: the numbers
--- 1 8 8 32 0 0 3 1 48 52 0 55, the table 0, then bytes 03 10 01." It is read back at every level.
+-- 1 8 8 32 0 0 3 1 48 52 0 55, the table 0, then bytes 03 10 01." Every level accepts it.
 use mathlib.Core.Path.{_≡_, refl}
 use Prim.Native.Nat.{ℕ}
-use mathlib.Core.List.{List, [], _∷_, _++_}
+use mathlib.Core.List.{List, [], _∷_, _++_, map}
 use lib.IntN.{pos}
 use lib.ListN.{length, replicate}
 use lib.Ieee.{size}
@@ -30,7 +30,7 @@ pub packed-known : stream 32 8 0 (pos 0) threeValues ≡ theirBytes
 unfolding size signedView folded bitsOf rotated field minus lowered stepped losslessCode number digits bytesFor largest widthOf packed groupBytes fractionBits widthNeed modeNeed need binFor groupSize codeAt codesOf groupsIn groupsBytes chunkBytes chunksIn joined spell piece pieceBytes dataOf startsOf headerNumbers endOf body stream threeValues theirBytes
 packed-known = refl
 
-pub checked-known : checkAnswer 8 theirBytes ≡ Done 3
+pub checked-known : map (λ (level : ℕ). checkAnswer level theirBytes) (8 ∷ 9 ∷ 10 ∷ []) ≡ Done 3 ∷ Done 3 ∷ Done 3 ∷ []
 unfolding size signedView folded bitsOf number digits bytesFor largest widthOf givenWidth groupLength groupNumber groupCodes within goodGroup knownLevel knownWidth fractionBits widthNeed modeNeed need isZero allowedSetting binFor groupSize limitOf groupsIn firstFault chunkAnswer first answer word headerOf kOf binIn chunksIn tooMany needRight settingRight layoutRight every startAt startRight chunkTableRight partAt sideTableRight countOf chunkOf chunkState spell headerRows openingRows tableRows faultDetail faultRow rowsFrom chunkRow chunkRows contentRows checkRows checkAnswer theirBytes
 checked-known = refl
 

@@ -5,3 +5,4 @@ pub mod Known
 pub mod KnownStream
 pub mod Demands
 pub mod Written
+pub mod Settled

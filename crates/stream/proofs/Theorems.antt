@@ -9,8 +9,9 @@ use Rattle.stream.specs.Bytes.{Below}
 use Rattle.stream.specs.Group.{bytesFor, packed, groupCodes, goodGroup}
 use Rattle.stream.specs.declared.chunk.ChunkAnswer.the-variants.{Good}
 use Rattle.stream.specs.Chunk.{groupsIn, groupsBytes, chunkBytes, chunkAnswer, chunkCodes}
-use Rattle.stream.proofs.Law.LowestFirst.{bits, lowest-first}
-use Rattle.stream.proofs.Law.Exact.{Limited, Starts, accepted-exactly}
+use Rattle.stream.specs.Theorem.{bits, Limited, Starts, Canonical}
+use Rattle.stream.proofs.Law.LowestFirst.{lowest-first}
+use Rattle.stream.proofs.Law.Exact.{accepted-exactly}
 use Rattle.stream.proofs.Law.Chunk.{written-is-good, written-is-read, good-is-exact, length-chunk-codes, chunk-most}
 
 -- "w bits each, lowest bit first, filling each byte from its lowest bit, with zero bits to the next byte", read literally
@@ -30,15 +31,8 @@ module _ (size : ℕ) (some : 0 < size) where
       → (chunkAnswer W U size (length cs) (chunkBytes size cs) ≡ Good) × (chunkCodes size (length cs) (chunkBytes size cs) ≡ cs)
   chunk-written-is-read W U cs below limited = (written-is-good size some W U cs below limited, written-is-read size some cs)
 
-  -- what an accepted chunk of n values is: just the bytes of the n codes that are read from it, and these are allowed
-  pub record Canonical (W U n : ℕ) (s : List ℕ) : Type 0 where
-    pub bytes : s ≡ chunkBytes size (chunkCodes size n s)
-    pub count : length (chunkCodes size n s) ≡ n
-    pub below : Below (2 ^ W) (chunkCodes size n s)
-    pub limited : Limited U (chunkCodes size n s)
-
-  -- written of read: no other bytes are accepted
-  pub chunk-read-is-written : (W U n : ℕ) (s : List ℕ) → Below 256 s → chunkAnswer W U size n s ≡ Good → Canonical W U n s
+  -- written of read: an accepted chunk is just the bytes of the codes that are read from it; no other bytes are accepted
+  pub chunk-read-is-written : (W U n : ℕ) (s : List ℕ) → Below 256 s → chunkAnswer W U size n s ≡ Good → Canonical size W U n s
   unfolding chunkBytes
   chunk-read-is-written W U n s below e =
       let exact = good-is-exact size some W U n s below e in

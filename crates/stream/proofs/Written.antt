@@ -4,12 +4,12 @@ use mathlib.Core.Path.{_≡_, refl, sym, ap, _∙_}
 use mathlib.Core.Logic.{_⊎_, inl, inr}
 use mathlib.Core.Bool.{true, cond}
 use mathlib.Core.List.{List, _++_}
-use Prim.Native.Nat.{ℕ, _+_, _*_, _/_, _^_, _≤_, _<_}
+use Prim.Native.Nat.{ℕ, _+_, _-_, _*_, _/_, _^_, _≤_, _<_}
 use borrow.Author.Tests.{lt-ltb, le-ltb}
 use lib.Dec.{ltb}
 use lib.IntN.{ℤ}
 use lib.ListN.{length, drop, getD}
-use Rattle.numbers.specs.Tolerance.{binOf}
+use Rattle.numbers.specs.Tolerance.{binOf, ordinal}
 use Rattle.numbers.specs.Theorem.{Within}
 use Rattle.stream.specs.Bytes.{Below}
 use Rattle.stream.specs.Setting.{knownLevel, fractionBits, need, binFor, groupSize, codesOf, patternsOf}
@@ -20,18 +20,26 @@ use Rattle.stream.specs.Tables.{chunkTableRight, sideTableRight}
 use Rattle.stream.specs.Stream.{chunkState, values}
 use Rattle.stream.specs.Writing.{headerNumbers, endOf, stream, Side, withSides, WellFormedSides}
 use Rattle.stream.specs.Packing.{Packable, firstPart, Sent, mostBytes}
-use Rattle.stream.specs.Operations.{checkRows, checkAnswer, unpackRows, unpackAnswer, unpackOut, lengthAnswer, packAnswer, packOut}
+use Rattle.stream.specs.Operations.{checkRows, checkAnswer, unpackRows, unpackAnswer, unpackOut, probeRows, lengthAnswer, packRows, packAnswer, packOut}
 use Rattle.stream.specs.declared.answers.Answer.the-variants.{Done, Refused}
 use Rattle.stream.specs.declared.answers.Step.the-variants.{Pass, Stop}
 use Rattle.stream.specs.declared.chunk.ChunkAnswer.the-variants.{Good}
 use Rattle.stream.specs.declared.header.Header.{Header}
 use Rattle.stream.proofs.Law.Truth.{le-or-lt}
+use Rattle.stream.proofs.Law.Agreed.{refused-stop}
 use Rattle.stream.proofs.Law.Pieces.{end-most}
 use Rattle.stream.proofs.Law.Answering.{rows-pass, room-enough, length-stream, length-done, pack-done}
-use Rattle.stream.proofs.Law.Admitted.{plain-sent, bytes-sent, header-words, header-read, setting-kept, layout-kept, chunk-table-kept, side-table-kept, chunks-kept, values-read, check-pass, check-stop, unpack-pass, unpack-stop}
-use Rattle.stream.proofs.Law.Returning.{lossless-back, tolerance-back}
+use Rattle.stream.proofs.Law.Admitted.{plain-sent, bytes-sent, header-words, header-read, setting-kept, layout-kept, chunk-table-kept, side-table-kept, chunks-kept, values-read, check-pass, check-stop, unpack-pass, unpack-stop, probe-pass, probe-stop}
+use Rattle.stream.proofs.Law.Returning.{lossless-back, tolerance-back, special-back}
 
--- for a list that pack accepts
+-- Demand 1: a refused pack has written nothing.
+pub refused-pack-untouched : (W level mode : ℕ) (k : ℤ) (vs out : List ℕ) (number detail : ℕ)
+    → packAnswer W level mode k vs (length out) ≡ Refused number detail → packOut W level mode k vs out ≡ out
+unfolding packAnswer packOut after
+refused-pack-untouched W level mode k vs out number detail e =
+    rw (refused-stop (first (packRows W level mode k vs (length out))) (length (stream W level mode k vs)) number detail e)
+
+-- for a list that a stream may hold
 module _ (W level mode : ℕ) (k : ℤ) (vs : List ℕ) (p : Packable W level mode k vs) where
   -- ---- writing
 
@@ -98,6 +106,11 @@ module _ (W level mode : ℕ) (k : ℤ) (vs : List ℕ) (p : Packable W level mo
     pub tolerance-values : mode ≡ 1 → (i : ℕ) → i < length vs → Within W (fractionBits W) (binOf W (fractionBits W) k) (getD vs i 0) (getD (values s) i 0)
     tolerance-values e i h = rw the-values-are-read (tolerance-back W (p .width) k vs (p .patterns) mode e (p .allowed) i h)
 
+    -- "infinities and not-a-numbers too": their ordinals are those from the largest exponent on
+    pub special-values : mode ≡ 1 → (i : ℕ) → i < length vs
+        → (2 ^ (W - 1 - fractionBits W) - 1) * 2 ^ fractionBits W ≤ ordinal W (getD vs i 0) → getD (values s) i 0 ≡ getD vs i 0
+    special-values e i h l = rw the-values-are-read (special-back W (p .width) k vs (p .patterns) mode e (p .allowed) i h l)
+
     -- ---- each level reads what its need allows, and refuses the rest by 7, with the need
 
     module _ (L : ℕ) (known : knownLevel L ≡ true) where
@@ -114,6 +127,14 @@ module _ (W level mode : ℕ) (k : ℤ) (vs : List ℕ) (p : Packable W level mo
           go : (need W mode ≤ L) ⊎ (L < need W mode) → first (unpackRows W L s room) ≡ cond (ltb L (need W mode)) (Stop 7 (need W mode)) Pass
           go (inl h) = rw (le-ltb L (need W mode) h) (unpack-pass W level mode k vs p s sent L known room h l)
           go (inr h) = rw (lt-ltb L (need W mode) h) (unpack-stop W level mode k vs p s sent L known room h)
+
+      -- probe of each index likewise
+      pub probe-exactly : (i : ℕ) → i < length vs → first (probeRows W L s i) ≡ cond (ltb L (need W mode)) (Stop 7 (need W mode)) Pass
+      probe-exactly i l = go (le-or-lt (need W mode) L)
+        where
+          go : (need W mode ≤ L) ⊎ (L < need W mode) → first (probeRows W L s i) ≡ cond (ltb L (need W mode)) (Stop 7 (need W mode)) Pass
+          go (inl h) = rw (le-ltb L (need W mode) h) (probe-pass W level mode k vs p s sent L known i l h)
+          go (inr h) = rw (lt-ltb L (need W mode) h) (probe-stop W level mode k vs p s sent L known i h)
 
       -- so where the level reaches the need, check counts the values and unpack hands them out
       pub it-is-read : need W mode ≤ L → (out : List ℕ) → length vs ≤ length out

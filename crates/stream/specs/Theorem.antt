@@ -1,10 +1,41 @@
--- The words that the theorems of proofs/Demands.antt are stated in.
+-- The words that the theorems of proofs/Theorems.antt and proofs/Demands.antt are stated in.
 use mathlib.Core.Path.{_≡_}
-use mathlib.Core.List.{List}
-use Prim.Native.Nat.{ℕ, _+_, _-_, _*_, _≤_, _<_}
-use lib.ListN.{length, take, drop}
+use mathlib.Core.List.{List, [], _∷_, _++_}
+use Prim.Native.Nat.{ℕ, _+_, _-_, _*_, _/_, _^_, _≤_, _<_}
+use lib.ListN.{length, take, drop, getD}
+use Rattle.stream.specs.Bytes.{Below, digits}
+use Rattle.stream.specs.Group.{groupBytes}
+use Rattle.stream.specs.Chunk.{chunkBytes, chunkCodes}
 use Rattle.stream.specs.Header.{headerOf}
 use Rattle.stream.specs.Tables.{startAt}
+
+-- ---- groups and chunks
+
+-- the bits of each number in turn, w for each, lowest bit first
+unfoldable pub bits : ℕ → List ℕ → List ℕ
+bits w [] = []
+bits w (x ∷ xs) = digits 2 w x ++ bits w xs
+
+-- each u is at most U
+abbrev pub Limited : ℕ → List ℕ → Type 0
+Limited U cs = (i : ℕ) → getD cs i 0 / 2 ≤ U
+
+-- s starts with the bytes of the n codes cs, each below 2 ^ W and with u at most U
+pub record Starts (W U n : ℕ) (s cs : List ℕ) : Type 0 where
+  pub count : length cs ≡ n
+  pub below : Below (2 ^ W) cs
+  pub limited : Limited U cs
+  pub rest : List ℕ
+  pub bytes : s ≡ groupBytes cs ++ rest
+
+-- s is just the bytes of the n codes that are read from it, in groups of a size, and these are allowed
+pub record Canonical (size W U n : ℕ) (s : List ℕ) : Type 0 where
+  pub bytes : s ≡ chunkBytes size (chunkCodes size n s)
+  pub count : length (chunkCodes size n s) ≡ n
+  pub below : Below (2 ^ W) (chunkCodes size n s)
+  pub limited : Limited U (chunkCodes size n s)
+
+-- ---- streams
 
 -- the bytes of u at the place of the chunk j of s
 unfoldable pub atChunk : List ℕ → ℕ → List ℕ → List ℕ

@@ -18,10 +18,11 @@ use Rattle.stream.specs.Tables.{chunkTableRight, sideTableRight}
 use Rattle.stream.specs.Stream.{chunkState, valuesIn, values}
 use Rattle.stream.specs.Writing.{spell, piece, pieceBytes, dataOf, startsOf, headerNumbers, endOf, body, stream, Side, entries, parts, withSides, increasing, WellFormedSides}
 use Rattle.stream.specs.Packing.{Packable, firstPart, Sent}
-use Rattle.stream.specs.Operations.{headerRows, openingRows, tableRows, chunkRow, chunkRows, contentRows, widthRow, roomRow, checkRows, unpackRows}
+use Rattle.stream.specs.Operations.{headerRows, openingRows, tableRows, chunkRow, chunkRows, contentRows, widthRow, roomRow, indexRow, ownRows, checkRows, unpackRows, probeRows}
 use Rattle.stream.specs.declared.answers.Step.the-variants.{Pass, Stop}
 use Rattle.stream.specs.declared.chunk.ChunkAnswer.the-variants.{Good}
 use Rattle.stream.specs.declared.header.Header.{Header}
+use Rattle.stream.proofs.Law.Agreed.{probe-passes}
 use Rattle.stream.proofs.Law.Order.{opened, shut, passed}
 use Rattle.stream.proofs.Law.Contents.{good-row, tables-pass}
 use Rattle.stream.proofs.Law.Bytes.{byte, below-append}
@@ -176,3 +177,12 @@ module _ (W level mode : ℕ) (k : ℤ) (vs : List ℕ) (p : Packable W level mo
       pub unpack-stop : L < need W mode → first (unpackRows W L s room) ≡ Stop 7 (need W mode)
       unfolding unpackRows
       unpack-stop h = shut 7 (need W mode) (openingRows L s) others (opening-stop h)
+
+    module _ (i : ℕ) where
+      pub probe-pass : i < length vs → need W mode ≤ L → first (probeRows W L s i) ≡ Pass
+      probe-pass l h =
+          probe-passes W L s (length vs) (unpack-pass (length vs) h (omega arith)) i (let n = ap (λ (x : Header). x .count) header-read in omega (arith, n))
+
+      pub probe-stop : L < need W mode → first (probeRows W L s i) ≡ Stop 7 (need W mode)
+      unfolding probeRows
+      probe-stop h = shut 7 (need W mode) (openingRows L s) (widthRow W (headerOf s) ∷ indexRow i (headerOf s) ∷ ownRows (headerOf s) s i) (opening-stop h)

@@ -13,9 +13,10 @@ use Rattle.stream.specs.Bytes.{Below, number, digits}
 use Rattle.stream.specs.Answer.{groupAnswer}
 use Rattle.stream.specs.declared.group.GroupAnswer.the-variants as answers
 use Rattle.stream.specs.Group.{bytesFor, widthOf, givenWidth, groupLength, groupNumber, groupCodes, goodGroup}
+use Rattle.stream.specs.Theorem.{Limited}
 use Rattle.stream.proofs.Law.Bytes.{byte, number-at, number-part, digit-at}
 use Rattle.stream.proofs.Law.Group.{bytes-none, bytes-tight, width-holds, width-least, codes-below}
-use Rattle.stream.proofs.Law.Exact.{Limited, Good, good-true, true-good}
+use Rattle.stream.proofs.Law.Exact.{Good, good-true, true-good}
 use Rattle.stream.proofs.Law.Reading.{codes-from}
 use Rattle.stream.proofs.Law.Words.{pow-pow, bit-place, field-in-word}
 

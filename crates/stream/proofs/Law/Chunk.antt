@@ -17,10 +17,11 @@ use Rattle.stream.specs.Group.{bytesFor, groupBytes, groupLength, groupC
 use Rattle.stream.specs.declared.chunk.ChunkAnswer.{ChunkAnswer}
 use Rattle.stream.specs.declared.chunk.ChunkAnswer.the-variants.{Good, Bad}
 use Rattle.stream.specs.Chunk.{groupsIn, groupsBytes, chunkBytes, firstFault, chunkAnswer, groupsCodes, chunkCodes}
+use Rattle.stream.specs.Theorem.{Limited, Starts}
 use Rattle.stream.proofs.Law.Truth.{le-or-lt}
 use Rattle.stream.proofs.Law.Bytes.{below-append, below-take, below-drop}
 use Rattle.stream.proofs.Law.Group.{read-length, read-codes, length-codes, length-group-most}
-use Rattle.stream.proofs.Law.Exact.{Limited, Starts, true-good, read-written, starts-accepted, accepted-starts}
+use Rattle.stream.proofs.Law.Exact.{true-good, read-written, starts-accepted, accepted-starts}
 
 -- a group of no codes
 no-codes : (s : List ℕ) → groupCodes 0 s ≡ []

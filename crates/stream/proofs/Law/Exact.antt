@@ -15,15 +15,12 @@ use lib.Pow.{pow-pos, pow-mono}
 use lib.Seq.{length-take-le}
 use Rattle.stream.specs.Bytes.{Below, number, digits}
 use Rattle.stream.specs.Group.{bytesFor, widthOf, packed, groupBytes, givenWidth, groupLength, groupNumber, groupCodes, within, goodGroup}
+use Rattle.stream.specs.Theorem.{Limited, Starts}
 use Rattle.stream.proofs.Law.Bytes.{byte, below-take, below-drop, number-digits-whole, digits-number, number-lt}
 use Rattle.stream.proofs.Law.Group.{width-holds, width-least, read-width, read-length, read-number, read-codes, length-codes, codes-below}
 use Rattle.stream.proofs.Law.Words.{pow-pow}
 
 -- ---- a good group, as a record of facts for the tests of `goodGroup`
-
--- each u is at most U
-abbrev pub Limited : ℕ → List ℕ → Type 0
-Limited U cs = (i : ℕ) → getD cs i 0 / 2 ≤ U
 
 pub record Good (W U n : ℕ) (s : List ℕ) : Type 0 where
   pub wide : givenWidth s ≤ W
@@ -110,14 +107,6 @@ module _ {W U n : ℕ} {s : List ℕ} (bytes : Below 256 s) (g : Good W U n s) w
       ∙ ap₂ (λ (w : ℕ) (r : List ℕ). w ∷ r) (g .smallest) (body-packed ∙ ap (λ (w : ℕ). packed w (groupCodes n s)) (g .smallest))
 
 -- ---- a reader accepts exactly what was written
-
--- s starts with the bytes of the n codes cs, each below 2 ^ W and with u at most U
-pub record Starts (W U n : ℕ) (s cs : List ℕ) : Type 0 where
-  pub count : length cs ≡ n
-  pub below : Below (2 ^ W) cs
-  pub limited : Limited U cs
-  pub rest : List ℕ
-  pub bytes : s ≡ groupBytes cs ++ rest
 
 -- complete: whatever starts with the bytes of allowed codes is accepted
 pub starts-accepted : {W U n : ℕ} {s cs : List ℕ} → Starts W U n s cs → goodGroup W U n s ≡ true

@@ -8,13 +8,9 @@ use native.Mathlib.Nat.{add-comm, mul-zero, mul-suc, zero-lt-suc, add-sub-of-le,
 use lib.ListN.{length, replicate, length-append, length-replicate}
 use Rattle.stream.specs.Bytes.{Below, number, digits}
 use Rattle.stream.specs.Group.{bytesFor, packed}
+use Rattle.stream.specs.Theorem.{bits}
 use Rattle.stream.proofs.Law.Bytes.{below-append, length-digits, digits-below, digits-zero, number-digits, number-append, number-padded, number-injective}
 use Rattle.stream.proofs.Law.Group.{bytes-hold, length-packed, packed-below, number-packed}
-
--- the bits of each number in turn, w for each, lowest bit first
-unfoldable pub bits : ℕ → List ℕ → List ℕ
-bits w [] = []
-bits w (x ∷ xs) = digits 2 w x ++ bits w xs
 
 two : zero < 2
 two = zero-lt-suc 1

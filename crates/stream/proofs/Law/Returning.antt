@@ -1,16 +1,16 @@
 -- The values that come back: in mode 0 the list itself, in mode 1 each value within the tolerance. And that a stream is made of bytes.
-use mathlib.Core.Path.{_≡_, refl, ap₂}
+use mathlib.Core.Path.{_≡_, refl, ap₂, _∙_}
 use mathlib.Core.Bool.{true}
 use mathlib.Core.List.{List, [], _∷_, map}
-use Prim.Native.Nat.{ℕ, zero, suc, _^_, _<_}
+use Prim.Native.Nat.{ℕ, zero, suc, _-_, _*_, _^_, _≤_, _<_}
 use native.Mathlib.Nat.{min-eq-left, lt-of-le-of-lt}
 use native.Mathlib.Omega.{arith}
 use borrow.Author.Tests.{eq-eqb}
 use lib.IntN.{ℤ}
 use lib.ListN.{length, take, drop, getD, length-map}
-use Rattle.numbers.specs.Tolerance.{allowedK, binOf}
+use Rattle.numbers.specs.Tolerance.{allowedK, binOf, ordinal, toleranceCode, toleranceRestored}
 use Rattle.numbers.specs.Theorem.{Format, Within}
-use Rattle.numbers.proofs.Theorems.{every-pattern-is-restored, an-allowed-k-has-a-bin, every-pattern-returns-within}
+use Rattle.numbers.proofs.Theorems.{every-pattern-is-restored, an-allowed-k-has-a-bin, every-pattern-returns-within, specials-return}
 use Rattle.stream.specs.Bytes.{Below}
 use Rattle.stream.specs.Group.{widthOf, packed, groupBytes}
 use Rattle.stream.specs.Setting.{knownWidth, fractionBits, allowedSetting, binFor, clipped, codeAt, patternAt, codesOf, patternsOf}
@@ -48,13 +48,21 @@ module _ (W : ℕ) (known : knownWidth W ≡ true) (k : ℤ) (vs : List ℕ) (be
     unfolding clipped binFor
     bin-is = rw lossy (min-eq-left (an-allowed-k-has-a-bin W (fractionBits W) format k allowed-k))
 
-    pub tolerance-back : (i : ℕ) → i < length vs
-        → Within W (fractionBits W) (binOf W (fractionBits W) k) (getD vs i 0) (getD (patternsOf W mode (binFor W mode k) (codesOf W mode (binFor W mode k) vs)) i 0)
-    unfolding patternsOf codesOf codeAt patternAt
-    tolerance-back i h =
-        let code = codeAt W mode (binFor W mode k) in
-        rw (map-at (patternAt W mode (binFor W mode k)) (map code vs) i (rw (length-map vs code) h), map-at code vs i h)
-        (rw (bin-is, lossy) (every-pattern-returns-within W (fractionBits W) format k allowed-k (getD vs i 0) (below i)))
+    module _ (i : ℕ) (h : i < length vs) where
+      restored-at : getD (patternsOf W mode (binFor W mode k) (codesOf W mode (binFor W mode k) vs)) i 0
+          ≡ toleranceRestored W (fractionBits W) (binOf W (fractionBits W) k) (toleranceCode W (fractionBits W) (binOf W (fractionBits W) k) (getD vs i 0))
+      unfolding patternsOf codesOf codeAt patternAt
+      restored-at =
+          let code = codeAt W mode (binFor W mode k) in
+          rw (map-at (patternAt W mode (binFor W mode k)) (map code vs) i (rw (length-map vs code) h), map-at code vs i h) (rw (bin-is, lossy))
+
+      pub tolerance-back :
+          Within W (fractionBits W) (binOf W (fractionBits W) k) (getD vs i 0) (getD (patternsOf W mode (binFor W mode k) (codesOf W mode (binFor W mode k) vs)) i 0)
+      tolerance-back = rw restored-at (every-pattern-returns-within W (fractionBits W) format k allowed-k (getD vs i 0) (below i))
+
+      pub special-back : (2 ^ (W - 1 - fractionBits W) - 1) * 2 ^ fractionBits W ≤ ordinal W (getD vs i 0)
+          → getD (patternsOf W mode (binFor W mode k) (codesOf W mode (binFor W mode k) vs)) i 0 ≡ getD vs i 0
+      special-back l = restored-at ∙ specials-return W (fractionBits W) format k allowed-k (getD vs i 0) (below i) l
 
 -- ---- bytes
 

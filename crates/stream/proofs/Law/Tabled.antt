@@ -24,11 +24,11 @@ use Rattle.stream.specs.Tables.{every, startAt, startRight, chunkTableRi
 use Rattle.stream.specs.Stream.{joined, countOf, chunkOf, chunkState, chunkValues, valuesIn}
 use Rattle.stream.specs.Writing.{spell, piece, pieceBytes, dataOf, startsOf, headerNumbers, endOf}
 use Rattle.stream.specs.Packing.{Packable}
+use Rattle.stream.specs.Theorem.{Limited}
 use Rattle.stream.specs.declared.chunk.ChunkAnswer.the-variants.{Good}
 use Rattle.stream.specs.declared.header.Header.{Header}
 use Rattle.stream.proofs.Law.Truth.{le-or-lt}
 use Rattle.stream.proofs.Law.Group.{length-group}
-use Rattle.stream.proofs.Law.Exact.{Limited}
 use Rattle.stream.proofs.Law.Chunk.{chunk-step, written-is-good, written-is-read}
 use Rattle.stream.proofs.Law.Coding.{bin-in, codes-under}
 use Rattle.stream.proofs.Law.Stepping.{length-codes-of}
