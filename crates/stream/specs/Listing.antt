@@ -30,7 +30,7 @@ highestLevel = 10
 unfoldable pub digit : ℕ → ℕ
 digit d = 48 + d
 
--- n in decimal, highest digit first: the digits of n / 10, and then the last one. A digit takes a turn, and n has fewer digits than n + 1.
+-- n in decimal, highest digit first: the digits of n / 10, and then the last one. A digit takes a turn, and n has at most n + 1 digits.
 unfoldable pub decimalIn : ℕ → ℕ → List ℕ
 decimalIn zero n = []
 decimalIn (suc turns) n = cond (ltb n 10) (digit n ∷ []) (decimalIn turns (n / 10) ++ (digit (n % 10) ∷ []))

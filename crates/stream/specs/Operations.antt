@@ -38,7 +38,7 @@ openingRows level s =
 unfoldable pub tableRows : Header → List ℕ → List Row
 tableRows h s = row 9 (not (chunkTableRight h s && sideTableRight h s)) 0 ∷ []
 
--- the detail of refusal 10, for a bad group of a chunk: "first such chunk"
+-- the detail of refusal 10, for a bad group of a chunk: "first such chunk", whichever group it is
 unfoldable pub faultDetail : ℕ → ℕ → ℕ
 faultDetail chunk group = chunk
 

@@ -11,7 +11,7 @@ use Rattle.numbers.specs.Tolerance.{allowedK, binOf, lastBin, toleranceCode, to
 unfoldable pub knownLevel : ℕ → Bool
 knownLevel level = leb 8 level && leb level 10
 
--- "width 32 or 64", and its fraction bits
+-- "W is the width, 32 or 64", and "With m fraction bits (23 or 52)"
 unfoldable pub knownWidth : ℕ → Bool
 knownWidth W = eqb W 32 || eqb W 64
 
@@ -40,7 +40,7 @@ allowedSetting W mode k = cond (eqb mode 0) (isZero k) (eqb mode 1 && allowedK W
 unfoldable pub binFor : ℕ → ℕ → ℤ → ℕ
 binFor W mode k = cond (eqb mode 1) (binOf W (fractionBits W) k) 0
 
--- "It is cut into groups of 32": the size of a group in a mode
+-- "It is cut into groups of 32": the size of a group. It is the same in every mode; the laws hold of any.
 unfoldable pub groupSize : ℕ → ℕ
 groupSize mode = 32
 

@@ -7,7 +7,7 @@ use lib.ListN.{length}
 use Rattle.stream.specs.Header.{word}
 use Rattle.stream.specs.declared.header.Header.{Header}
 
--- f holds at i and the k - 1 numbers after it
+-- f holds at each of the k numbers from i on
 unfoldable pub every : (ℕ → Bool) → ℕ → ℕ → Bool
 every f zero i = true
 every f (suc k) i = f i && every f k (suc i)

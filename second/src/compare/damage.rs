@@ -62,7 +62,7 @@ pub fn small_streams() -> Vec<Vec<u8>> {
 }
 
 /// A sound stream of any kind, now and then with side parts.
-fn some_stream(rng: &mut XorShift) -> Vec<u8> {
+pub fn some_stream(rng: &mut XorShift) -> Vec<u8> {
     let (width, mode) = (rng.one_of(&WIDTHS), rng.below(2) as u32);
     let k = if mode == 0 { 0 } else { some_k(rng, width) };
     let n = some_length(rng);
@@ -235,13 +235,19 @@ fn some_number(rng: &mut XorShift, stream: &[u8], order: usize) -> u32 {
 /// Streams of any kind, damaged in one to three ways.
 pub fn random_damage(judge: &mut Judge, rng: &mut XorShift, extent: Extent) {
     for _ in 0..extent.rounds(10_000) {
-        let mut stream = some_stream(rng);
-        for _ in 0..1 + rng.below(3) {
-            damage(rng, &mut stream);
-        }
+        let stream = damaged_stream(rng);
         let level = rng.one_of(&[10, 10, 10, 10, 9, 8, 7, 11]);
         read(judge, level, &stream);
     }
+}
+
+/// A stream of any kind, damaged in one to three ways.
+pub fn damaged_stream(rng: &mut XorShift) -> Vec<u8> {
+    let mut stream = some_stream(rng);
+    for _ in 0..1 + rng.below(3) {
+        damage(rng, &mut stream);
+    }
+    stream
 }
 
 fn damage(rng: &mut XorShift, stream: &mut Vec<u8>) {

@@ -6,9 +6,11 @@
 //! * [`random`]: the seeded generator of patterns and lists.
 //! * `known`, `rules`, `lists`, `orders`, `damage`, `tables`, `groups`: the
 //!   sections, each a source of calls.
+//! * [`listings`]: the inputs for the listing program, which is run apart.
 
 pub mod call;
 pub mod judge;
+pub mod listings;
 pub mod outcome;
 pub mod random;
 pub mod reference;
