@@ -1,5 +1,5 @@
-//! Links the program `compare`, and nothing else, with the archive
-//! libexports.a in the directory GWZ_LIB_DIR names. Without the feature
+//! Links the programs `compare` and `bench`, and nothing else, with the
+//! archive libexports.a in the directory GWZ_LIB_DIR names. Without the feature
 //! `linked` nothing is linked and no archive is needed.
 
 use std::env;
@@ -21,10 +21,12 @@ fn link_archive() {
     match Path::new(&directory).join("libexports.a").canonicalize() {
         Ok(archive) => {
             println!("cargo::rerun-if-changed={}", archive.display());
-            println!("cargo::rustc-link-arg-bin=compare={}", archive.display());
-            // A library written in Rust without std may bring its own panic
-            // handler; that of std comes first and is the one taken.
-            println!("cargo::rustc-link-arg-bin=compare=-Wl,-z,muldefs");
+            for program in ["compare", "bench"] {
+                println!("cargo::rustc-link-arg-bin={program}={}", archive.display());
+                // A library written in Rust without std may bring its own panic
+                // handler; that of std comes first and is the one taken.
+                println!("cargo::rustc-link-arg-bin={program}=-Wl,-z,muldefs");
+            }
         }
         Err(error) => println!("cargo::error=no libexports.a in GWZ_LIB_DIR: {error}"),
     }

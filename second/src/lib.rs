@@ -4,12 +4,14 @@
 //! * [`numbers`]: the lossless code, the tolerance code and bound.
 //! * [`stream`]: pack, length, unpack, check and probe, as simply as possible.
 //! * [`listing`]: the text the listing program prints.
-//! * [`plain`]: pack, length, check and unpack once more, written for speed.
-//!   It shares nothing with the others but the types of this page.
+//! * [`plain`]: pack, length, check, unpack and probe once more, written for
+//!   speed. It shares nothing with the others but the types of this page.
 //! * [`compare`]: puts many calls to the reference and to another library.
+//! * [`bench`]: measures another library beside the plain version.
 
 #![forbid(unsafe_code)]
 
+pub mod bench;
 pub mod compare;
 pub mod listing;
 pub mod numbers;

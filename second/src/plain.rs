@@ -1,10 +1,11 @@
 //! The same format once more, written for speed: the baseline of benchmarks.
 //!
-//! Ordinary safe Rust. Values are coded 32 at a time in a fixed array, codes
-//! pass through a 64-bit accumulator that is stored a whole word at a time,
-//! and nothing is allocated. The rules, constants and checks are written here
-//! again rather than borrowed from the reference, so that comparing the two
-//! says something about both.
+//! Ordinary safe Rust. Values are coded 32 at a time in a fixed array, by loops
+//! that the compiler turns into steps of several lanes. Codes are put and taken
+//! by a function for each width byte, in which every shift is known. Nothing is
+//! allocated. The rules, constants and checks are written here again rather
+//! than borrowed from the reference, so that comparing the two says something
+//! about both.
 
 use crate::{Answer, Refusal};
 use std::ops::BitOr;
@@ -14,13 +15,39 @@ const CHUNK: usize = 1024;
 const GROUP: usize = 32;
 const HEADER: usize = 48;
 
+/// Gives each index of a group to a macro.
+macro_rules! for_each_code {
+    ($each:ident) => {
+        for_each_code!($each; 0 1 2 3 4 5 6 7 8 9 10 11 12 13 14 15 16 17 18 19 20 21 22 23 24 25
+            26 27 28 29 30 31);
+    };
+    ($each:ident; $($index:literal)*) => { $($each!($index);)* };
+}
+
+/// A function for each width byte, up to 32 and, for `u64`, from there to 64.
+macro_rules! for_each_width {
+    ($function:ident, u32) => {
+        for_each_width!($function, u32; 0 1 2 3 4 5 6 7 8 9 10 11 12 13 14 15 16 17 18 19 20 21 22
+            23 24 25 26 27 28 29 30 31 32)
+    };
+    ($function:ident, u64) => {
+        for_each_width!($function, u64; 0 1 2 3 4 5 6 7 8 9 10 11 12 13 14 15 16 17 18 19 20 21 22
+            23 24 25 26 27 28 29 30 31 32 33 34 35 36 37 38 39 40 41 42 43 44 45 46 47 48 49 50 51
+            52 53 54 55 56 57 58 59 60 61 62 63 64)
+    };
+    ($function:ident, $word:ident; $($w:literal)*) => { &[$($function::<$word, $w>),*] };
+}
+
 // ------------------------------------------------------------- the codes
 
 /// An unsigned word holding a pattern or a code of its width.
-pub trait Lane: Copy + Default + BitOr<Output = Self> {
+pub trait Lane: Copy + Default + Ord + BitOr<Output = Self> + 'static {
     const W: u32;
     const LEAST_K: i32;
     const GREATEST_K: i32;
+    /// Put and take 32 codes of as many bits as the index says.
+    const PUT: &'static [Put<Self>];
+    const TAKE: &'static [Take<Self>];
     /// What the tolerance code needs of an allowed k.
     type Bin: Copy;
 
@@ -28,30 +55,39 @@ pub trait Lane: Copy + Default + BitOr<Output = Self> {
     fn narrow(word: u64) -> Self;
     fn lossless_code(self) -> Self;
     fn lossless_pattern(self) -> Self;
+    /// The largest code a stream may hold: in mode 1 twice the largest u, plus
+    /// the sign.
+    fn largest_code(mode: u32, k: i32) -> Self;
     fn bin(k: i32) -> Self::Bin;
     fn tolerance_code(self, bin: Self::Bin) -> Self;
     fn tolerance_pattern(self, bin: Self::Bin) -> Self;
 }
 
-/// E is 2^d units of the smallest subnormal.
+pub type Put<P> = fn(&[P; GROUP], &mut [u8]);
+pub type Take<P> = fn(&[u8; WINDOW], &mut [P; GROUP]);
+
+/// What one k gives.
 #[derive(Clone, Copy)]
 pub struct Bin<Word, Float> {
-    d: Word,
     /// The ordinal of T.
     threshold: Word,
     /// What lies between an ordinal from T on and its magnitude code.
     lift: Word,
     /// E itself.
     e: Float,
+    /// 1/E as two powers of two, since 1/E alone may be too large.
+    per_e: [f64; 2],
 }
 
 macro_rules! lane {
-    ($word:ident, $signed:ident, $float:ident, $m:literal, $least_k:literal, $greatest_k:literal,
-     $whole_as_float:expr) => {
+    ($word:tt, $signed:ident, $float:ident, $m:literal, $least_k:literal, $greatest_k:literal,
+     $half_up:ident, $whole_as_float:ident) => {
         impl Lane for $word {
             const W: u32 = $word::BITS;
             const LEAST_K: i32 = $least_k;
             const GREATEST_K: i32 = $greatest_k;
+            const PUT: &'static [Put<$word>] = for_each_width!(put_codes, $word);
+            const TAKE: &'static [Take<$word>] = for_each_width!(take_codes, $word);
             type Bin = Bin<$word, $float>;
 
             #[inline(always)]
@@ -67,39 +103,50 @@ macro_rules! lane {
             #[inline(always)]
             fn lossless_code(self) -> Self {
                 const UNIT: $word = 1 << ($m + 1);
-                const HALF: $word = 1 << ($word::BITS - 1);
+                // For fields from 1 to the middle, x is less - 2^(W-1): it is
+                // negative, and its code is the complement of 2·less. For all
+                // others x is rotated, perhaps without its highest bit, and
+                // its code is 2·rotated. The highest bit of `less`, which
+                // wraps for field 0, tells the two apart.
                 let rotated = self.rotate_left(1);
-                let once = rotated.wrapping_sub(HALF);
-                // Field zero or at least 2^(W-1): as a signed number, below
-                // one unit.
-                let again = if (once as $signed) < UNIT as $signed { UNIT } else { 0 };
-                let x = if rotated < UNIT { rotated } else { once.wrapping_sub(again) };
-                // 2x, or its complement -2x-1 when x is negative.
-                (x << 1) ^ ((x as $signed) >> ($word::BITS - 1)) as $word
+                let less = rotated.wrapping_sub(UNIT);
+                let negative = !((less as $signed) >> ($word::BITS - 1)) as $word;
+                ((rotated.wrapping_sub(negative & UNIT)) << 1) ^ negative
             }
 
             #[inline(always)]
             fn lossless_pattern(self) -> Self {
                 const UNIT: $word = 1 << ($m + 1);
                 const HALF: $word = 1 << ($word::BITS - 1);
-                let x = (self >> 1) ^ (self & 1).wrapping_neg();
-                let again = if (x as $signed) < 0 { UNIT } else { 0 };
-                let moved = x.wrapping_add(again).wrapping_add(HALF);
-                let rotated = if x < UNIT { x } else { moved };
+                let negative = (self & 1).wrapping_neg();
+                let x = (self ^ negative) >> 1;
+                // Where x is not negative and has a field, its highest bit was
+                // taken off; where it was negative, a unit was.
+                let other = x | (!x.wrapping_sub(UNIT) & HALF);
+                let rotated = (other & !negative) | (x.wrapping_add(UNIT) & negative);
                 rotated.rotate_right(1)
             }
 
-            /// Only for an allowed k: then d is not negative.
+            fn largest_code(mode: u32, k: i32) -> Self {
+                match mode {
+                    0 => $word::MAX,
+                    _ => $word::MAX - (((k - $least_k) as $word) << ($m + 1)),
+                }
+            }
+
+            /// Only for an allowed k: then d, with E = 2^d units of the
+            /// smallest subnormal, is not negative.
             fn bin(k: i32) -> Self::Bin {
                 let d = (k - $least_k) as $word;
                 let threshold = (d + 1) << $m;
                 // 2^d units: a subnormal below bit m, else field d-m+1.
                 let e = if d < $m { 1 << d } else { (d - $m + 1) << $m };
+                let half = (k + 1) / 2;
                 Bin {
-                    d,
                     threshold,
                     lift: threshold - (1 << $m),
                     e: $float::from_bits(e),
+                    per_e: [power_of_two(-half), power_of_two(half - k - 1)],
                 }
             }
 
@@ -107,15 +154,10 @@ macro_rules! lane {
             fn tolerance_code(self, bin: Self::Bin) -> Self {
                 let ordinal = self << 1 >> 1;
                 let sign = self >> ($word::BITS - 1);
-                let field = ordinal >> $m;
-                let hidden = if field == 0 { 0 } else { 1 << $m };
-                let significand = (ordinal & ((1 << $m) - 1)) | hidden;
-                // |v|/E is significand / 2^shift. Twice it, cut to a whole
-                // number, plus one, halved, is it rounded with halves up. A
-                // shift past m+2 gives 0 as it must, so it may be capped.
-                // From T on the shift means nothing and `near` is not used.
-                let shift = bin.d.wrapping_sub(field.max(1) - 1).min(($word::BITS - 1) as $word);
-                let near = (((significand << 1) >> shift) + 1) >> 1;
+                // Exact, but for magnitudes so far below E/2 that no rounding
+                // lifts them there. From T on it is not used.
+                let bins = $float::from_bits(ordinal) as f64 * bin.per_e[0] * bin.per_e[1];
+                let near = $half_up(bins);
                 let far = ordinal.wrapping_sub(bin.lift);
                 let u = if ordinal < bin.threshold { near } else { far };
                 (u << 1) | sign
@@ -136,22 +178,47 @@ macro_rules! lane {
     };
 }
 
+/// From 2^52 to 2^53 a binary64 counts ones: adding this rounds to a whole
+/// number, which the lower bits then show.
+const TWO_TO_52: f64 = (1u64 << 52) as f64;
+
+/// 2^exponent, for exponents of normal numbers.
+fn power_of_two(exponent: i32) -> f64 {
+    f64::from_bits(((exponent + 1023) as u64) << 52)
+}
+
+/// Below 2^23 and with at most 24 significant bits, rounded to the nearest
+/// whole number, halves up: 2^-26 lifts a half above the half, and nothing
+/// else past one.
+#[inline(always)]
+fn half_up_24(bins: f64) -> u32 {
+    const LIFT: f64 = 1.0 / (1u64 << 26) as f64;
+    (bins + LIFT + TWO_TO_52).to_bits() as u32
+}
+
+/// Below 2^52, rounded to the nearest whole number, halves up: those that went
+/// down to an even number are found by what is left.
+#[inline(always)]
+fn half_up_53(bins: f64) -> u64 {
+    let rounded = bins + TWO_TO_52;
+    let went_down = bins - (rounded - TWO_TO_52) == 0.5;
+    rounded.to_bits().wrapping_sub(TWO_TO_52.to_bits()).wrapping_add(went_down as u64)
+}
+
 /// u as a float; exact for u < 2^23 (others are not used).
 #[inline(always)]
 fn whole_as_f32(u: u32) -> f32 {
     u as i32 as f32
 }
 
-/// u as a float; exact for u < 2^52 (others are not used). With the exponent
-/// of 2^52 the fraction counts ones, which is quicker than a conversion.
+/// u as a float; exact for u < 2^52 (others are not used).
 #[inline(always)]
 fn whole_as_f64(u: u64) -> f64 {
-    const TWO_TO_52: f64 = (1u64 << 52) as f64;
     f64::from_bits(u | TWO_TO_52.to_bits()) - TWO_TO_52
 }
 
-lane!(u32, i32, f32, 23, -150, 103, whole_as_f32);
-lane!(u64, i64, f64, 52, -1075, 970, whole_as_f64);
+lane!(u32, i32, f32, 23, -150, 103, half_up_24, whole_as_f32);
+lane!(u64, i64, f64, 52, -1075, 970, half_up_53, whole_as_f64);
 
 // ------------------------------------------------------- pack and length
 
@@ -225,15 +292,23 @@ pub fn length<P: Lane>(level: u32, mode: u32, k: i32, values: &[P]) -> Answer {
 #[inline(always)]
 fn codes_of<P: Lane>(group: &[P], code: impl Fn(P) -> P) -> [P; GROUP] {
     match <&[P; GROUP]>::try_from(group) {
-        Ok(full) => full.map(code),
+        Ok(full) => coded(full, code),
         Err(_) => {
             let mut filled = [P::default(); GROUP];
-            for (to, from) in filled.iter_mut().zip(group) {
-                *to = *from;
-            }
-            filled.map(code)
+            filled[..group.len()].copy_from_slice(group);
+            coded(&filled, code)
         }
     }
+}
+
+/// A plain loop, which the compiler turns into steps of several lanes.
+#[inline(always)]
+fn coded<P: Lane>(patterns: &[P; GROUP], code: impl Fn(P) -> P) -> [P; GROUP] {
+    let mut codes = [P::default(); GROUP];
+    for (to, &from) in codes.iter_mut().zip(patterns) {
+        *to = code(from);
+    }
+    codes
 }
 
 /// The bit length of the largest code is that of all codes or-ed together.
@@ -285,10 +360,10 @@ fn pack_data<P: Lane>(
             data[at] = w as u8;
             let packed = &mut data[at + 1..at + 1 + length];
             if group.len() == GROUP {
-                put_codes(&codes, w, packed);
+                P::PUT[w as usize](&codes, packed);
             } else {
                 let mut whole = [0; 8 * GROUP];
-                put_codes(&codes, w, &mut whole[..bytes_of(GROUP, w)]);
+                P::PUT[w as usize](&codes, &mut whole);
                 packed.copy_from_slice(&whole[..length]);
             }
             at += 1 + length;
@@ -297,44 +372,30 @@ fn pack_data<P: Lane>(
     Ok(data_place + at)
 }
 
-/// Puts 32 codes, w bits each, into the 4w bytes they fill. Codes of at most
-/// 32 bits are joined two by two first, which halves the number of steps.
-#[inline(always)]
-fn put_codes<P: Lane>(codes: &[P; GROUP], w: u32, bytes: &mut [u8]) {
-    if w > 32 {
-        put_words(&codes.map(P::wide), w, bytes);
-    } else if w > 0 {
-        let mut pairs = [0; GROUP / 2];
-        for (pair, two) in pairs.iter_mut().zip(codes.chunks_exact(2)) {
-            *pair = two[0].wide() | two[1].wide() << w;
-        }
-        put_words(&pairs, 2 * w, bytes);
-    }
-}
-
-/// Puts words of w bits, w from 1 to 64, through the accumulator. They fill
-/// whole 8-byte words but for at most a last half.
-#[inline(always)]
-fn put_words(words: &[u64], w: u32, bytes: &mut [u8]) {
-    let mut stores = bytes.chunks_exact_mut(8);
+/// Puts 32 codes of W bits into the 4W bytes they fill, through an
+/// accumulator. W is known to the compiler, and with it every shift.
+fn put_codes<P: Lane, const W: usize>(codes: &[P; GROUP], bytes: &mut [u8]) {
+    let bytes = &mut bytes[..GROUP / 8 * W];
     let mut accumulator = 0;
     let mut filled = 0;
-    for &word in words {
-        accumulator |= word << filled;
-        filled += w;
-        if filled >= 64 {
-            if let Some(store) = stores.next() {
-                store.copy_from_slice(&accumulator.to_le_bytes());
+    let mut at = 0;
+    macro_rules! put {
+        ($index:literal) => {
+            let code = codes[$index].wide();
+            accumulator |= code << filled;
+            filled += W;
+            if filled >= 64 {
+                bytes[at..at + 8].copy_from_slice(&accumulator.to_le_bytes());
+                at += 8;
+                filled -= 64;
+                accumulator = if filled == 0 { 0 } else { code >> (W - filled) };
             }
-            filled -= 64;
-            // The word's upper `filled` bits, in two steps as a shift by 64
-            // does not exist. `filled` is now below w.
-            accumulator = word >> 1 >> (w - 1 - filled);
-        }
+        };
     }
-    let last = stores.into_remainder();
-    let rest = accumulator.to_le_bytes();
-    last.copy_from_slice(&rest[..last.len()]);
+    for_each_code!(put);
+    if filled > 0 {
+        bytes[at..].copy_from_slice(&(accumulator as u32).to_le_bytes());
+    }
 }
 
 // --------------------------------------------------------------- reading
@@ -352,12 +413,9 @@ struct Header {
 }
 
 fn number_at(stream: &[u8], place: usize) -> u32 {
-    u32::from_le_bytes([
-        stream[place],
-        stream[place + 1],
-        stream[place + 2],
-        stream[place + 3],
-    ])
+    let mut four = [0; 4];
+    four.copy_from_slice(&stream[place..place + 4]);
+    u32::from_le_bytes(four)
 }
 
 fn read_header(level: u32, stream: &[u8]) -> Result<Header, Refusal> {
@@ -428,8 +486,11 @@ fn chunk_table_holds(stream: &[u8], header: &Header) -> bool {
         return data_length == 0;
     }
     // Rising from 0, so if the last start is below the length all are.
-    chunk_start(stream, 0) == 0
-        && (1..header.c).all(|i| chunk_start(stream, i - 1) < chunk_start(stream, i))
+    let table = &stream[HEADER..header.data_place];
+    let later = table[4..].chunks_exact(4);
+    let rising = table.chunks_exact(4).zip(later).all(|(a, b)| number_at(a, 0) < number_at(b, 0));
+    rising
+        && chunk_start(stream, 0) == 0
         && chunk_start(stream, header.c - 1) < data_length
 }
 
@@ -454,84 +515,90 @@ fn side_table_holds(stream: &[u8], header: &Header) -> bool {
 }
 
 /// Refusal 10: all chunks, without restoring a value.
-fn check_chunks(stream: &[u8], header: &Header) -> Result<(), Refusal> {
-    let most = largest_code(header);
+fn check_chunks<P: Lane>(stream: &[u8], header: &Header) -> Result<(), Refusal> {
+    let most = P::largest_code(header.mode, header.k);
     for chunk in 0..header.c {
-        let start = header.data_place + chunk_start(stream, chunk);
-        let end = if chunk + 1 < header.c {
-            header.data_place + chunk_start(stream, chunk + 1)
-        } else {
-            header.data_end
-        };
-        let count = (header.n - chunk * CHUNK).min(CHUNK);
-        if !chunk_holds(&stream[start..end], count, header.width, most) {
-            return Err(Refusal::with_detail(10, chunk as u64));
-        }
+        check_chunk::<P>(stream, header, chunk, most)?;
     }
     Ok(())
 }
 
-/// The largest code a stream may hold: twice the largest u, plus the sign.
-fn largest_code(header: &Header) -> u64 {
-    match (header.mode, header.width) {
-        (0, _) => u64::MAX,
-        (_, 32) => ((1u64 << 32) - 1) - (((header.k + 150) as u64) << 24),
-        _ => u64::MAX - (((header.k + 1075) as u64) << 53),
+fn check_chunk<P: Lane>(
+    stream: &[u8],
+    header: &Header,
+    chunk: usize,
+    most: P,
+) -> Result<(), Refusal> {
+    let start = header.data_place + chunk_start(stream, chunk);
+    let end = if chunk + 1 < header.c {
+        header.data_place + chunk_start(stream, chunk + 1)
+    } else {
+        header.data_end
+    };
+    let count = (header.n - chunk * CHUNK).min(CHUNK);
+    if chunk_holds(&stream[start..], end - start, count, most) {
+        Ok(())
+    } else {
+        Err(Refusal::with_detail(10, chunk as u64))
     }
 }
 
-fn chunk_holds(mut bytes: &[u8], count: usize, width: u32, most: u64) -> bool {
+/// Whether a chunk of this length begins the bytes.
+fn chunk_holds<P: Lane>(bytes: &[u8], length: usize, count: usize, most: P) -> bool {
+    let mut at = 0;
     let mut left = count;
     while left > 0 {
-        let Some((&w, rest)) = bytes.split_first() else {
+        if at == length {
             return false;
-        };
+        }
+        let w = bytes[at] as u32;
         let group = left.min(GROUP);
-        let length = bytes_of(group, w as u32);
-        if w as u32 > width || rest.len() < length {
+        let end = at + 1 + bytes_of(group, w);
+        if w > P::W || end > length || !group_holds(&bytes[at + 1..], group, w, most) {
             return false;
         }
-        let (packed, rest) = rest.split_at(length);
-        if !group_holds(packed, group, w as u32, most) {
-            return false;
-        }
-        bytes = rest;
+        at = end;
         left -= group;
     }
-    bytes.is_empty()
+    at == length
 }
 
-/// The smallest width, zero padding and the largest code of one group.
-fn group_holds(packed: &[u8], count: usize, w: u32, most: u64) -> bool {
+/// The smallest width, zero padding and the largest code of the group whose
+/// codes begin the bytes.
+fn group_holds<P: Lane>(bytes: &[u8], count: usize, w: u32, most: P) -> bool {
     if w == 0 {
         return true;
     }
     // w is smallest when some code has its highest bit set; in most groups
     // one of the first few has.
     let step = w as usize;
-    let bit_at = |place: usize| packed[place / 8] >> (place % 8) & 1 == 1;
+    let bit_at = |place: usize| bytes[place / 8] >> (place % 8) & 1 == 1;
     if !(1..=count).any(|code| bit_at(code * step - 1)) {
         return false;
     }
-    let used = count * step % 8;
-    if used != 0 && packed[packed.len() - 1] >> used != 0 {
+    let used = count * step;
+    if used % 8 != 0 && bytes[used / 8] >> (used % 8) != 0 {
         return false;
     }
     // Only at the bit length of the largest code do the codes themselves
     // decide: shorter ones all fit, and of longer ones none does.
-    let longest = 64 - most.leading_zeros();
-    if w != longest || most == u64::MAX {
+    let longest = 64 - most.wide().leading_zeros();
+    if w != longest || most.wide() == u64::MAX >> (64 - P::W) {
         return w <= longest;
     }
-    let codes = take_codes::<u64>(&windowed(packed), w);
-    codes[..count].iter().all(|&code| code <= most)
+    let codes: [P; GROUP] = taken(bytes, w);
+    codes[..count].iter().fold(true, |all_fit, &code| all_fit & (code <= most))
 }
 
 /// Checks a whole stream of either width and answers n.
 pub fn check(level: u32, stream: &[u8]) -> Answer {
     let header = read_header(level, stream)?;
     check_tables(stream, &header)?;
-    check_chunks(stream, &header)?;
+    if header.width == u32::W {
+        check_chunks::<u32>(stream, &header)?;
+    } else {
+        check_chunks::<u64>(stream, &header)?;
+    }
     Ok(header.n as u64)
 }
 
@@ -546,7 +613,7 @@ pub fn unpack<P: Lane>(level: u32, stream: &[u8], output: &mut [P]) -> Answer {
         return Err(Refusal::with_detail(4, header.n as u64));
     }
     check_tables(stream, &header)?;
-    check_chunks(stream, &header)?;
+    check_chunks::<P>(stream, &header)?;
     let data = &stream[header.data_place..header.data_end];
     let output = &mut output[..header.n];
     if header.mode == 0 {
@@ -556,6 +623,36 @@ pub fn unpack<P: Lane>(level: u32, stream: &[u8], output: &mut [P]) -> Answer {
         unpack_data(data, output, |code: P| code.tolerance_pattern(bin));
     }
     Ok(header.n as u64)
+}
+
+/// The pattern at an index. Of the chunks only its own is read.
+pub fn probe<P: Lane>(level: u32, stream: &[u8], index: u64) -> Result<P, Refusal> {
+    let header = read_header(level, stream)?;
+    if header.width != P::W {
+        return Err(Refusal::bare(14));
+    }
+    if index >= header.n as u64 {
+        return Err(Refusal::bare(11));
+    }
+    check_tables(stream, &header)?;
+    let (chunk, index) = (index as usize / CHUNK, index as usize % CHUNK);
+    check_chunk(stream, &header, chunk, P::largest_code(header.mode, header.k))?;
+    let start = header.data_place + chunk_start(stream, chunk);
+    let code: P = code_at(&stream[start..], index);
+    Ok(if header.mode == 0 {
+        code.lossless_pattern()
+    } else {
+        code.tolerance_pattern(P::bin(header.k))
+    })
+}
+
+/// The code at an index of the checked chunk that begins the bytes: the groups
+/// before its own are full, and are stepped over.
+fn code_at<P: Lane>(mut chunk: &[u8], index: usize) -> P {
+    for _ in 0..index / GROUP {
+        chunk = &chunk[1 + bytes_of(GROUP, chunk[0] as u32)..];
+    }
+    taken::<P>(&chunk[1..], chunk[0] as u32)[index % GROUP]
 }
 
 /// Restores all groups of checked data. Chunks need no attention: they hold
@@ -570,11 +667,7 @@ fn unpack_data<P: Lane>(data: &[u8], output: &mut [P], restored: impl Fn(P) -> P
             group.fill(restored(P::default()));
             continue;
         }
-        // All but the last groups are read where they lie.
-        let codes = match packed.first_chunk() {
-            Some(window) => take_codes(window, w),
-            None => take_codes(&windowed(packed), w),
-        };
+        let codes = taken(packed, w);
         match <&mut [P; GROUP]>::try_from(&mut *group) {
             Ok(full) => restore_into(full, &codes, restored),
             Err(_) => restore_into(group, &codes, restored),
@@ -595,45 +688,41 @@ fn restore_into<P: Lane>(group: &mut [P], codes: &[P; GROUP], restored: impl Fn(
 /// from any place where a code begins.
 const WINDOW: usize = 8 * GROUP + 8;
 
-/// The bytes, or as many as matter, with zero bytes after them.
-fn windowed(packed: &[u8]) -> [u8; WINDOW] {
-    let mut window = [0; WINDOW];
-    for (to, from) in window.iter_mut().zip(packed) {
-        *to = *from;
-    }
-    window
-}
-
-/// 32 codes of w bits, w from 1 to 64. Past a short group's count they are
-/// made of whatever follows it, and nobody looks at them.
+/// 32 codes of w bits. All but a stream's last groups are read where they lie.
 #[inline(always)]
-fn take_codes<P: Lane>(window: &[u8; WINDOW], w: u32) -> [P; GROUP] {
-    let mask = u64::MAX >> (64 - w);
+fn taken<P: Lane>(packed: &[u8], w: u32) -> [P; GROUP] {
     let mut codes = [P::default(); GROUP];
-    let places = (0..GROUP).map(|index| index * w as usize);
-    if w <= 57 {
-        // With the up to 7 bits before it, the code lies in 8 bytes.
-        for (code, place) in codes.iter_mut().zip(places) {
-            *code = P::narrow(eight_bytes(window, place / 8) >> (place % 8) & mask);
-        }
-    } else {
-        for (code, place) in codes.iter_mut().zip(places) {
-            let low = eight_bytes(window, place / 8) >> (place % 8);
-            let ninth = window[place / 8 % (8 * GROUP) + 8] as u64;
-            // Left by 64 - place % 8, in two steps as that may be 64.
-            let high = ninth << 1 << (63 - place % 8);
-            *code = P::narrow((low | high) & mask);
-        }
+    match packed.first_chunk() {
+        Some(window) => P::TAKE[w as usize](window, &mut codes),
+        None => P::TAKE[w as usize](&windowed(packed), &mut codes),
     }
     codes
 }
 
-/// The 8 bytes from a place as a word. The remainder never changes the place,
-/// but lets the compiler see that it is inside the window.
-#[inline(always)]
-fn eight_bytes(window: &[u8; WINDOW], place: usize) -> u64 {
-    let place = place % (8 * GROUP);
-    let mut eight = [0; 8];
-    eight.copy_from_slice(&window[place..place + 8]);
-    u64::from_le_bytes(eight)
+/// The bytes, or as many as matter, with zero bytes after them.
+fn windowed(packed: &[u8]) -> [u8; WINDOW] {
+    let mut window = [0; WINDOW];
+    let length = packed.len().min(WINDOW);
+    window[..length].copy_from_slice(&packed[..length]);
+    window
+}
+
+/// Takes 32 codes of W bits; W is known to the compiler, and with it every
+/// place and shift. Past a short group's count they are made of whatever
+/// follows it, and nobody looks at them.
+fn take_codes<P: Lane, const W: usize>(window: &[u8; WINDOW], codes: &mut [P; GROUP]) {
+    let mask = if W == 0 { 0 } else { u64::MAX >> (64 - W) };
+    macro_rules! take {
+        ($index:literal) => {
+            let (place, shift) = ($index * W / 8, $index * W % 8);
+            let mut eight = [0; 8];
+            eight.copy_from_slice(&window[place..place + 8]);
+            let mut code = u64::from_le_bytes(eight) >> shift;
+            if shift + W > 64 {
+                code |= (window[place + 8] as u64) << (64 - shift);
+            }
+            codes[$index] = P::narrow(code & mask);
+        };
+    }
+    for_each_code!(take);
 }

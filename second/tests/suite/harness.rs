@@ -3,12 +3,13 @@
 
 use second::compare::call::{Call, Values};
 use second::compare::judge::{Judge, Library};
-use second::compare::outcome::{answered, lend, Lent, Outcome, MARGIN};
+use second::compare::outcome::{answered, lend, lend_one, Lent, Outcome, MARGIN};
 use second::compare::random::XorShift;
 use second::compare::reference::by_reference;
 use second::compare::{run, Extent, Options};
-use second::numbers::{WIDTH_32, WIDTH_64};
-use second::plain;
+use second::numbers::{Width, WIDTH_32, WIDTH_64};
+use second::{plain, Refusal};
+use std::cmp::Ordering;
 
 /// The plain version where it has the operation, else the reference.
 fn by_plain(call: &Call) -> Outcome {
@@ -33,8 +34,32 @@ fn by_plain(call: &Call) -> Outcome {
         Call::Unpack { level, stream, room, .. } => lend(room, |buffer: &mut [u64], room| {
             answered(plain::unpack(level, stream, &mut buffer[room]))
         }),
+        Call::Probe { width, level, stream, index } => {
+            lend_one(width, probed_by_plain(width, level, stream, index))
+        }
         _ => by_reference(call),
     }
+}
+
+/// The kind (0 finite, 1 infinity, 2 not-a-number) and the pattern.
+fn probed_by_plain(
+    width: Width,
+    level: u32,
+    stream: &[u8],
+    index: u64,
+) -> Result<(u64, u64), Refusal> {
+    let pattern = if width == WIDTH_32 {
+        plain::probe::<u32>(level, stream, index)?.into()
+    } else {
+        plain::probe::<u64>(level, stream, index)?
+    };
+    let infinity = width.greatest_field() << width.fraction_bits();
+    let kind = match width.ordinal(pattern).cmp(&infinity) {
+        Ordering::Less => 0,
+        Ordering::Equal => 1,
+        Ordering::Greater => 2,
+    };
+    Ok((kind, pattern))
 }
 
 #[test]

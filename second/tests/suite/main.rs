@@ -1,5 +1,6 @@
 //! All tests in one program: they share the generator and the helpers.
 
+mod bench;
 mod big;
 mod damage;
 mod example;

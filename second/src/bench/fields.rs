@@ -1,0 +1,129 @@
+//! The benchmark's fields: 1,024 by 1,024 cells of a model harbour, the same
+//! at every run. A value is made in binary64; width 32 rounds it.
+
+use crate::compare::random::XorShift;
+
+/// Cells along each side of the grid.
+pub const SIDE: usize = 1024;
+/// Values of a field: the most a stream holds.
+pub const VALUES: usize = SIDE * SIDE;
+
+#[derive(Clone, Copy, Debug, PartialEq, Eq)]
+pub enum Field {
+    Smooth,
+    Calm,
+    Noisy,
+    HalfDry,
+}
+
+pub const FIELDS: [Field; 4] = [Field::Smooth, Field::Calm, Field::Noisy, Field::HalfDry];
+
+impl Field {
+    pub const fn name(self) -> &'static str {
+        match self {
+            Field::Smooth => "smooth",
+            Field::Calm => "calm",
+            Field::Noisy => "noisy",
+            Field::HalfDry => "half-dry",
+        }
+    }
+
+    /// The cells row by row.
+    pub fn values<P: Cell>(self) -> Vec<P> {
+        let mut rng = XorShift::seeded(1, self as u64);
+        (0..VALUES).map(|cell| self.value(cell, &mut rng)).collect()
+    }
+
+    fn value<P: Cell>(self, cell: usize, rng: &mut XorShift) -> P {
+        match self {
+            Field::Smooth => P::of_float(current(cell, rng)),
+            Field::Calm if still(cell) => P::of_float(0.0),
+            Field::Calm => P::of_float(current(cell, rng) / 1024.0),
+            Field::Noisy => P::finite(rng.next()),
+            Field::HalfDry if dry(cell) => P::of_float(f64::NAN),
+            Field::HalfDry => P::of_float(current(cell, rng)),
+        }
+    }
+}
+
+/// The half-dry field with every kind of special value on the dry land:
+/// not-a-numbers of all fractions, infinities and -0.
+pub fn special_values<P: Cell>() -> Vec<P> {
+    let mut rng = XorShift::seeded(1, 4);
+    let mut values = Field::HalfDry.values();
+    for value in values.iter_mut().filter(|value: &&mut P| value.kind() != 0) {
+        *value = match rng.below(4) {
+            0 => P::of_float(f64::INFINITY),
+            1 => P::of_float(f64::NEG_INFINITY),
+            2 => P::of_float(-0.0),
+            _ => P::not_a_number(rng.next()),
+        };
+    }
+    values
+}
+
+/// A tidal stream with eddies, in metres per second, and below a thousandth of
+/// it the noise that a model's last bits hold.
+fn current(cell: usize, rng: &mut XorShift) -> f64 {
+    let (x, y) = ((cell % SIDE) as f64 / SIDE as f64, (cell / SIDE) as f64 / SIDE as f64);
+    let tide = 0.9 * (2.1 * x + 0.4 * y).cos();
+    let large_eddies = 0.5 * (19.0 * x).sin() * (23.0 * y).cos();
+    let small_eddies = 0.1 * (71.0 * x + 13.0 * y).sin() * (67.0 * y - 5.0 * x).sin();
+    let noise = (rng.next() >> 11) as f64 / (1u64 << 53) as f64 - 0.5;
+    tide + large_eddies + small_eddies + noise * 1e-4
+}
+
+/// Still water: five of six stretches of 200 cells.
+fn still(cell: usize) -> bool {
+    cell / 200 % 6 != 5
+}
+
+/// Dry land: every second region of 90 by 90 cells.
+fn dry(cell: usize) -> bool {
+    (cell % SIDE / 90 + cell / SIDE / 90) % 2 == 1
+}
+
+/// A pattern of one width.
+pub trait Cell: Copy {
+    fn of_float(value: f64) -> Self;
+    fn float(self) -> f64;
+    /// Sign, exponent and fraction at random, but never infinite or
+    /// not-a-number.
+    fn finite(random: u64) -> Self;
+    /// A not-a-number with its own fraction, quiet or not.
+    fn not_a_number(random: u64) -> Self;
+
+    /// As probe answers it: 0 finite, 1 infinite, 2 not-a-number.
+    fn kind(self) -> u64 {
+        let value = self.float();
+        if value.is_nan() { 2 } else { value.is_infinite().into() }
+    }
+}
+
+macro_rules! cell {
+    ($word:ident, $float:ident) => {
+        impl Cell for $word {
+            fn of_float(value: f64) -> $word {
+                (value as $float).to_bits()
+            }
+
+            fn float(self) -> f64 {
+                $float::from_bits(self).into()
+            }
+
+            fn finite(random: u64) -> $word {
+                let pattern = (random >> (64 - $word::BITS)) as $word;
+                let second_highest = 1 << ($word::BITS - 2);
+                if pattern.kind() == 0 { pattern } else { pattern & !second_highest }
+            }
+
+            fn not_a_number(random: u64) -> $word {
+                let pattern = (random >> (64 - $word::BITS)) as $word;
+                pattern | $float::INFINITY.to_bits() | 1
+            }
+        }
+    };
+}
+
+cell!(u32, f32);
+cell!(u64, f64);

@@ -1,0 +1,18 @@
+//! The benchmark: a linked library beside the plain version, memcpy and other
+//! compressors.
+//!
+//! * [`fields`]: what is packed.
+//! * [`codec`]: the operations of the two versions; [`others`]: compressors of
+//!   other formats, and what they keep.
+//! * [`timing`]: rounds in which every contender runs once.
+//! * [`rows`]: one field at one width and mode; [`growth`]: time by length.
+//! * [`report`]: results as CSV and as Markdown; [`picture`]: as SVG.
+
+pub mod codec;
+pub mod fields;
+pub mod growth;
+pub mod others;
+pub mod picture;
+pub mod report;
+pub mod rows;
+pub mod timing;

@@ -1,0 +1,264 @@
+//! The results as CSV and as tables in Markdown.
+
+use super::codec::{Setting, Value};
+use super::fields::VALUES;
+use super::growth::{Growth, LENGTHS};
+use super::others::{lost_by, Lost, Other};
+use super::rows::{Row, PROBES};
+use super::timing::{Operation, Timing, Who};
+use std::fmt::Write;
+
+const BOTH: [Who; 2] = [Who::Ours, Who::Plain];
+const OTHERS: [Who; 3] = [Who::Lz4, Who::Zstd, Who::Zfp];
+const TIMED: [Operation; 6] = [
+    Operation::Pack,
+    Operation::PackExact,
+    Operation::Length,
+    Operation::Check,
+    Operation::Unpack,
+    Operation::Probe,
+];
+
+// -------------------------------------------------------------- conditions
+
+/// The machine, and how it is measured.
+pub fn conditions(rounds: usize) -> String {
+    let processor = std::fs::read_to_string("/proc/cpuinfo").unwrap_or_default();
+    let model = processor.lines().find_map(|line| line.strip_prefix("model name"));
+    let model = model.map_or("unknown", |text| text.trim_start_matches([' ', '\t', ':']));
+    let processors = std::thread::available_parallelism().map_or(1, usize::from);
+    format!(
+        "{model}, {processors} lent; the processor time of one thread; {rounds} rounds, in each of \
+         which every contender runs once, in another order each time.\n{}",
+        load_line()
+    )
+}
+
+pub fn load_line() -> String {
+    let load = std::fs::read_to_string("/proc/loadavg").unwrap_or_default();
+    let numbers: Vec<&str> = load.split(' ').take(3).collect();
+    format!("Load of the machine (1, 5, 15 minutes): {}.\n\n", numbers.join(" "))
+}
+
+// --------------------------------------------------------------------- CSV
+
+pub const CSV_HEADER: &str =
+    "width,mode,field,who,operation,raw bytes,packed bytes,median seconds,minimum seconds";
+
+pub fn csv(rows: &[Row]) -> String {
+    let mut text = format!("{CSV_HEADER}\n");
+    for row in rows {
+        for timing in &row.timings {
+            let raw = raw_bytes(row.width);
+            let packed = size_of(row, timing.who).unwrap_or(raw);
+            // Probes are timed many at once.
+            let runs = if timing.operation == Operation::Probe { PROBES as f64 } else { 1.0 };
+            let (median, minimum) = (timing.median / runs, timing.minimum / runs);
+            let (who, operation) = (timing.who.name(), timing.operation.name());
+            let Row { width, mode, field, .. } = row;
+            let _ = write!(text, "{width},{mode},{},{who},{operation},", field.name());
+            add(&mut text, format_args!("{raw},{packed},{median:e},{minimum:e}"));
+        }
+    }
+    text
+}
+
+pub fn growth_csv(growths: &[Growth]) -> String {
+    let mut text =
+        String::from("width,mode,length,who,operation,median ns a value,minimum ns a value\n");
+    for Growth { width, mode, by_length } in growths {
+        for (length, timings) in LENGTHS.iter().zip(by_length) {
+            for timing in timings {
+                let (who, operation) = (timing.who.name(), timing.operation.name());
+                let (median, minimum) = (per_value(timing.median), per_value(timing.minimum));
+                let _ = write!(text, "{width},{mode},{length},{who},{operation},");
+                add(&mut text, format_args!("{median:.4},{minimum:.4}"));
+            }
+        }
+    }
+    text
+}
+
+/// Adds a line; writing to a string does not fail.
+fn add(text: &mut String, line: std::fmt::Arguments) {
+    let _ = writeln!(text, "{line}");
+}
+
+fn raw_bytes(width: u32) -> usize {
+    VALUES * width as usize / 8
+}
+
+fn per_value(seconds: f64) -> f64 {
+    seconds * 1e9 / VALUES as f64
+}
+
+fn size_of(row: &Row, who: Who) -> Option<usize> {
+    row.sizes.iter().find(|size| size.0 == who).map(|size| size.1)
+}
+
+fn timing_of(timings: &[Timing], who: Who, operation: Operation) -> Option<&Timing> {
+    timings.iter().find(|timing| timing.who == who && timing.operation == operation)
+}
+
+fn megabytes_a_second(row: &Row, seconds: f64) -> f64 {
+    raw_bytes(row.width) as f64 / 1e6 / seconds
+}
+
+// ------------------------------------------------------------------ tables
+
+/// Each operation's speed, and as a share of the plain version's.
+pub fn beside_plain(rows: &[Row]) -> String {
+    let mut text = String::from(
+        "MB (10^6 raw bytes) a second, or ns a probe; in brackets the share of the plain version's \
+         speed, by medians and by minima.\n\n\
+         | width | mode | field | size | pack | pack, exact room | length | check | unpack | probe \
+         | memcpy |\n|---|---|---|---|---|---|---|---|---|---|---|\n",
+    );
+    for row in rows {
+        let cells: Vec<String> = TIMED.iter().map(|&operation| cell(row, operation)).collect();
+        let copy = timing_of(&row.timings, Who::Memcpy, Operation::Copy);
+        let copy = copy.map_or(0.0, |copy| megabytes_a_second(row, copy.median));
+        let size = share(row, Who::Ours);
+        let Row { width, mode, field, .. } = row;
+        let (field, cells) = (field.name(), cells.join(" | "));
+        add(
+            &mut text,
+            format_args!("| {width} | {mode} | {field} | {size} | {cells} | {copy:.0} |"),
+        );
+    }
+    text + "\n"
+}
+
+fn cell(row: &Row, operation: Operation) -> String {
+    let [Some(ours), Some(plain)] = BOTH.map(|who| timing_of(&row.timings, who, operation)) else {
+        return String::new();
+    };
+    let speed = match operation {
+        Operation::Probe => format!("{:.0} ns", ours.median * 1e9 / PROBES as f64),
+        _ => format!("{:.0}", megabytes_a_second(row, ours.median)),
+    };
+    let (by_medians, by_minima) = (plain.median / ours.median, plain.minimum / ours.minimum);
+    format!("{speed} ({by_medians:.2}, {by_minima:.2})")
+}
+
+fn share(row: &Row, who: Who) -> String {
+    let size = size_of(row, who).unwrap_or(0);
+    format!("{:.1} %", 100.0 * size as f64 / raw_bytes(row.width) as f64)
+}
+
+/// Sizes and speeds beside the other compressors that were found.
+pub fn beside_others(rows: &[Row]) -> String {
+    let found = |who: &Who| rows.iter().any(|row| size_of(row, *who).is_some());
+    let mut columns = vec![Who::Ours];
+    columns.extend(OTHERS.into_iter().filter(found));
+    let names: Vec<&str> = columns.iter().map(|who| who.name()).collect();
+    let mut text = String::from(
+        "Size; pack and unpack in MB a second, medians; how many values do not come back (bit for \
+         bit in mode 0; in mode 1 within the tolerance or, if not finite, bit for bit).\n\n",
+    );
+    add(&mut text, format_args!("| width | mode | field | {} |", names.join(" | ")));
+    add(&mut text, format_args!("|---|---|---|{}", "---|".repeat(names.len())));
+    for row in rows {
+        let cells: Vec<String> = columns.iter().map(|&who| size_and_speeds(row, who)).collect();
+        let Row { width, mode, field, .. } = row;
+        let (field, cells) = (field.name(), cells.join(" | "));
+        add(&mut text, format_args!("| {width} | {mode} | {field} | {cells} |"));
+    }
+    text + "\n"
+}
+
+fn size_and_speeds(row: &Row, who: Who) -> String {
+    let pack = timing_of(&row.timings, who, Operation::Pack);
+    let unpack = timing_of(&row.timings, who, Operation::Unpack);
+    let lost = row.losses.iter().find(|loss| loss.0 == who).map_or(0, |loss| loss.1);
+    let lost = if lost == 0 { String::new() } else { format!("; loses {lost}") };
+    match (pack, unpack) {
+        (Some(pack), Some(unpack)) => format!(
+            "{}; {:.0}, {:.0}{lost}",
+            share(row, who),
+            megabytes_a_second(row, pack.median),
+            megabytes_a_second(row, unpack.median)
+        ),
+        _ => String::from("-"),
+    }
+}
+
+/// What one compressor loses of a field with special values.
+pub struct Keeping {
+    who: Who,
+    width: u32,
+    mode: u32,
+    lost: Lost,
+    all: Lost,
+}
+
+pub fn kept_by<P: Value>(other: &Other<P>, setting: Setting) -> Keeping {
+    let (lost, all) = lost_by(other, setting);
+    Keeping { who: other.who, width: P::W, mode: setting.mode, lost, all }
+}
+
+pub fn keeping(keepings: &[Keeping]) -> String {
+    let mut text = String::from(
+        "A half-dry field with not-a-numbers, infinities and -0 on the dry land: the values that \
+         do not come back (finite ones: bit for bit in mode 0, within the tolerance in mode 1).\n\n\
+         | library | width | mode | not-a-numbers | infinities | finite |\n\
+         |---|---|---|---|---|---|\n",
+    );
+    for Keeping { who, width, mode, lost, all } in keepings {
+        let not_a_numbers = told(lost.not_a_numbers, all.not_a_numbers);
+        let infinities = told(lost.infinities, all.infinities);
+        let (who, finite) = (who.name(), told(lost.finite, all.finite));
+        add(
+            &mut text,
+            format_args!("| {who} | {width} | {mode} | {not_a_numbers} | {infinities} | {finite} |"),
+        );
+    }
+    text + "\n"
+}
+
+fn told(lost: usize, all: usize) -> String {
+    if lost == 0 { String::from("all kept") } else { format!("{lost} of {all} lost") }
+}
+
+/// Time per value by the length of the list.
+pub fn growing(growths: &[Growth]) -> String {
+    let mut text = String::from(
+        "ns a value, medians, the smooth field in lists of this length; last, the largest by the \
+         smallest, by medians and by minima.\n\n| | width | mode | operation |",
+    );
+    for length in LENGTHS {
+        let _ = write!(text, " {length} |");
+    }
+    let columns = "---|".repeat(LENGTHS.len());
+    add(&mut text, format_args!(" factor |\n|---|---|---|---|{columns}---|"));
+    for growth in growths {
+        for operation in [Operation::Pack, Operation::Unpack] {
+            for who in BOTH {
+                add(&mut text, format_args!("{}", growth_line(growth, who, operation)));
+            }
+        }
+    }
+    text + "\n"
+}
+
+fn growth_line(growth: &Growth, who: Who, operation: Operation) -> String {
+    let find = |timings: &Vec<Timing>| timing_of(timings, who, operation).copied();
+    let timings: Vec<Timing> = growth.by_length.iter().filter_map(find).collect();
+    let cells: Vec<String> =
+        timings.iter().map(|timing| format!("{:.2}", per_value(timing.median))).collect();
+    let by_medians = factor(timings.iter().map(|timing| timing.median));
+    let by_minima = factor(timings.iter().map(|timing| timing.minimum));
+    format!(
+        "| {} | {} | {} | {} | {} | {by_medians:.2}, {by_minima:.2} |",
+        who.name(),
+        growth.width,
+        growth.mode,
+        operation.name(),
+        cells.join(" | ")
+    )
+}
+
+fn factor(seconds: impl Iterator<Item = f64> + Clone) -> f64 {
+    let largest = seconds.clone().fold(0.0, f64::max);
+    largest / seconds.fold(f64::INFINITY, f64::min)
+}

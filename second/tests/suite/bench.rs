@@ -1,0 +1,76 @@
+//! The benchmark's parts that need no linked library.
+
+use second::bench::codec::{Setting, SETTINGS};
+use second::bench::fields::{special_values, Cell, Field, FIELDS, VALUES};
+use second::bench::others::{lost, Lost};
+use second::bench::picture::picture;
+use second::bench::report::CSV_HEADER;
+use second::bench::timing::{timed, Contender, Operation, Space, Watch, Who};
+use std::cell::Cell as Counter;
+
+fn share_of(values: &[u32], holds: impl Fn(u32) -> bool) -> f64 {
+    values.iter().filter(|&&value| holds(value)).count() as f64 / VALUES as f64
+}
+
+#[test]
+fn fields_are_repeatable_and_as_named() {
+    for field in FIELDS {
+        assert!(field.values::<u32>() == field.values::<u32>());
+        assert_eq!(field.values::<u64>().len(), VALUES);
+    }
+    let not_a_number = |value: u32| value.kind() == 2;
+    assert!((0.45..0.55).contains(&share_of(&Field::HalfDry.values(), not_a_number)));
+    assert!(share_of(&Field::Calm.values(), |value| value == 0) > 0.8);
+    assert_eq!(share_of(&Field::Noisy.values(), |value| value.kind() == 0), 1.0);
+    let whole = |value: u32| value & 0xFF == 0;
+    assert!(share_of(&Field::Smooth.values(), whole) < 0.01, "the last bits are noise");
+}
+
+#[test]
+fn lost_values_are_counted_by_kind() {
+    let values = special_values::<u64>();
+    let altered: Vec<u64> = values.iter().map(|&value| value ^ 1).collect();
+    let count = |kind: u64| values.iter().filter(|value| value.kind() == kind).count();
+    let all = Lost { not_a_numbers: count(2), infinities: count(1), finite: count(0) };
+    assert!(all.not_a_numbers > 0 && all.infinities > 0 && all.finite > 0);
+    let [lossless, within] = SETTINGS;
+    assert_eq!(lost(lossless, &values, &values), Lost::default());
+    assert_eq!(lost(lossless, &values, &altered), all);
+    assert_eq!(lost(within, &values, &altered), Lost { finite: 0, ..all });
+}
+
+#[test]
+fn a_finite_value_may_be_off_by_the_tolerance_and_no_more() {
+    let setting = Setting { mode: 1, k: -2 };
+    let lost_of = |back: f64| lost(setting, &[1f64.to_bits()], &[back.to_bits()]).finite;
+    assert_eq!([lost_of(1.25), lost_of(0.75), lost_of(1.26), lost_of(f64::NAN)], [0, 0, 1, 1]);
+}
+
+#[test]
+fn every_contender_runs_once_a_round() {
+    let (first, second) = (Counter::new(0), Counter::new(0));
+    let count = |counter: &Counter<u64>| {
+        counter.set(counter.get() + 1);
+        counter.get()
+    };
+    let contenders = [
+        Contender::new(Who::Ours, Operation::Pack, |_: &mut Space<u32>| count(&first)),
+        Contender::new(Who::Plain, Operation::Pack, |_: &mut Space<u32>| count(&second)),
+    ];
+    let mut space = Space { bytes: Vec::new(), values: Vec::new() };
+    let timings = timed(&contenders, &mut space, Watch { rounds: 15, clock: || 1.5 });
+    assert_eq!((first.get(), second.get()), (15, 15));
+    assert!(timings.iter().all(|timing| timing.median == 0.0 && timing.minimum == 0.0));
+}
+
+#[test]
+fn the_picture_is_drawn_from_results_alone() {
+    let line = "32,0,smooth,Gwizdorad,pack,4194304,3600000,0.004,0.003";
+    let copy = "32,0,smooth,memcpy,copy,4194304,4194304,0.0005,0.0004";
+    let svg = picture(&format!("{CSV_HEADER}\n{line}\n{copy}\n")).unwrap();
+    // One mark in a panel, and two in the legend.
+    assert_eq!(svg.matches("<circle").count(), 3);
+    assert!(svg.starts_with("<svg") && svg.ends_with("</svg>\n"));
+    assert_eq!(picture("width,mode\n"), None);
+    assert_eq!(picture(&format!("{CSV_HEADER}\n32,0,smooth\n")), None);
+}
