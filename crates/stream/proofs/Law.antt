@@ -59,3 +59,5 @@ pub mod Admitted
 pub mod ListingText
 pub mod Listing
 pub mod ListingKnown
+--   Small: numbers, details and answers of 32 bits, refusals that are not 0, values of W bits
+pub mod Small

@@ -6,3 +6,4 @@ pub mod KnownStream
 pub mod Demands
 pub mod Written
 pub mod Settled
+pub mod Fitting
