@@ -1,9 +1,10 @@
--- An exported operation returns one number of 64 bits: "refusal number · 2^32 + detail, or 0 · 2^32 + answer (k in two's complement of 32
--- bits)". What is lent for a second answer is written on success alone.
+-- An exported operation returns one number of 64 bits: refusal number · 2^32 + detail, or 0 · 2^32 + answer (k in two's complement of 32
+-- bits). What is lent for a second answer is written on success alone.
 use Prim.Native.Nat.{ℕ, _+_, _*_, _%_, _^_}
 use mathlib.Core.Bool.{Bool, cond}
 use lib.Ieee.{binary32, binary64, toBits}
 use Rattle.stream.specs.Rows.{answerNumber, answerDetail}
+use Rattle.stream.specs.Probe.{probeNumber32, probeNumber64}
 use Rattle.stream.specs.declared.answers.Answer.{Answer}
 use Rattle.stream.specs.declared.answers.Probe32.{Probe32}
 use Rattle.stream.specs.declared.answers.Probe32.the-variants as p32
@@ -18,7 +19,7 @@ use Rattle.numbers.specs.declared.tolerance.CodeAnswer.the-variants as code
 use Rattle.numbers.specs.declared.tolerance.PatternAnswer.{PatternAnswer}
 use Rattle.numbers.specs.declared.tolerance.PatternAnswer.the-variants as pattern
 
--- 32 bits each. That every number, detail and answer has no more is a theorem (proofs/Theorems.antt).
+-- 32 bits each. That no number, detail or answer of an operation has more is a theorem for each (proofs/Theorems.antt, "nothing is cut").
 unfoldable pub result : ℕ → ℕ → ℕ
 result number detail = number % 2 ^ 32 * 2 ^ 32 + detail % 2 ^ 32
 
@@ -27,16 +28,19 @@ result number detail = number % 2 ^ 32 * 2 ^ 32 + detail % 2 ^ 32
 unfoldable pub answerResult : Answer → ℕ
 answerResult a = result (answerNumber a) (answerDetail a)
 
--- ---- probe: the answer is 0 at a finite number, 1 at an infinity, 2 at a not-a-number; the pattern is lent
+-- ---- probe: the answer is the value's kind, 0 for a finite number, 1 for an infinity, 2 for a not-a-number; the pattern is lent
 
 unfoldable pub infinity32 : Bool → ℕ
 infinity32 negative = cond negative 0xFF800000 0x7F800000
 
+unfoldable pub probeKind32 : Probe32 → ℕ
+probeKind32 (p32.Finite x) = 0
+probeKind32 (p32.Infinity negative) = 1
+probeKind32 (p32.NotANumber p) = 2
+probeKind32 (p32.Refused number detail) = detail
+
 unfoldable pub probeResult32 : Probe32 → ℕ
-probeResult32 (p32.Finite x) = result 0 0
-probeResult32 (p32.Infinity negative) = result 0 1
-probeResult32 (p32.NotANumber p) = result 0 2
-probeResult32 (p32.Refused number detail) = result number detail
+probeResult32 a = result (probeNumber32 a) (probeKind32 a)
 
 unfoldable pub probeOut32 : Probe32 → ℕ → ℕ
 probeOut32 (p32.Finite x) old = toBits binary32 x
@@ -47,11 +51,14 @@ probeOut32 (p32.Refused number detail) old = old
 unfoldable pub infinity64 : Bool → ℕ
 infinity64 negative = cond negative 0xFFF0000000000000 0x7FF0000000000000
 
+unfoldable pub probeKind64 : Probe64 → ℕ
+probeKind64 (p64.Finite x) = 0
+probeKind64 (p64.Infinity negative) = 1
+probeKind64 (p64.NotANumber p) = 2
+probeKind64 (p64.Refused number detail) = detail
+
 unfoldable pub probeResult64 : Probe64 → ℕ
-probeResult64 (p64.Finite x) = result 0 0
-probeResult64 (p64.Infinity negative) = result 0 1
-probeResult64 (p64.NotANumber p) = result 0 2
-probeResult64 (p64.Refused number detail) = result number detail
+probeResult64 a = result (probeNumber64 a) (probeKind64 a)
 
 unfoldable pub probeOut64 : Probe64 → ℕ → ℕ
 probeOut64 (p64.Finite x) old = toBits binary64 x
