@@ -1,2 +1,3 @@
--- The laws that the exports' own proofs cite.
+-- The laws that the exports' own proofs cite, and the theorems about what they return.
 pub mod Law
+pub mod Theorems

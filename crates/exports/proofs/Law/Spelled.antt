@@ -1,0 +1,117 @@
+-- A number and a detail of 32 bits each, in one number.
+use mathlib.Core.Path.{_≡_, refl, ap, ap₂}
+use mathlib.Core.Bool.{Bool, true, false, cond}
+use Prim.Native.Nat.{ℕ, suc, _+_, _-_, _*_, _/_, _%_, _^_, _≤_, _<_}
+use native.Mathlib.Nat.{mod-eq-of-lt}
+use native.Mathlib.Omega.{arith}
+use lib.Dec.{ltb, eqb, lit<, lit≤}
+use lib.IntN.{ℤ, pos, negsuc, subℕ}
+use Rattle.numbers.specs.Signed.{signedView, folded, bitsOf}
+use Rattle.numbers.specs.Tolerance.{leastK, lastBin, binOf}
+use Rattle.numbers.specs.Bound.{exponentOf, boundAt, boundAnswer, boundNumber, boundDetail}
+use Rattle.numbers.specs.Theorem.{Format}
+use Rattle.numbers.specs.declared.bound.BoundAnswer.{BoundAnswer}
+use Rattle.numbers.specs.declared.bound.BoundAnswer.the-variants.{Exponent, UnknownWidth, NoTolerance, TooSmall}
+use Rattle.numbers.proofs.Law.Signed.{unfolded-folded, view-of-bits, bits-below}
+use Rattle.numbers.proofs.Law.Bound.{exponent-back}
+use Rattle.numbers.proofs.Theorems.{format-32, format-64, an-allowed-k-has-a-bin, bound-is-the-largest}
+use Rattle.stream.specs.Rows.{answerNumber, answerDetail}
+use Rattle.stream.specs.Probe.{probeNumber32, probeNumber64}
+use Rattle.stream.specs.declared.answers.Answer.{Answer}
+use Rattle.stream.specs.declared.answers.Answer.the-variants.{Done, Refused}
+use Rattle.stream.specs.declared.answers.Probe32.{Probe32}
+use Rattle.stream.specs.declared.answers.Probe32.the-variants as p32
+use Rattle.stream.specs.declared.answers.Probe64.{Probe64}
+use Rattle.stream.specs.declared.answers.Probe64.the-variants as p64
+use Rattle.stream.proofs.Fitting.{Refusal, Fits}
+use Rattle.exports.specs.Result.{result, answerResult, probeKind32, probeResult32, probeKind64, probeResult64}
+use Rattle.exports.specs.Theorem.{Uncut}
+
+pub uncut : (number detail : ℕ) → number < 2 ^ 32 → detail < 2 ^ 32 → Uncut number detail (result number detail)
+unfolding result
+uncut number detail n d =
+    record {
+      number-fits = n;
+      detail-fits = d;
+      whole = ap₂ (λ (x y : ℕ). x * 2 ^ 32 + y) (mod-eq-of-lt n) (mod-eq-of-lt d);
+    }
+
+pub apart : {number detail r : ℕ} → Uncut number detail r → (r / 2 ^ 32 ≡ number) × (r % 2 ^ 32 ≡ detail)
+apart u = (omega arith, omega arith)
+
+-- ---- bound's k, in two's complement of 32 bits
+
+-- a signed number whose fold has 32 bits is spelled whole, and read back
+pub signed-fits : (k : ℤ) → folded k < 2 ^ 32 → (bitsOf 32 k < 2 ^ 32) × (signedView 32 (bitsOf 32 k) ≡ k)
+signed-fits k h = (
+  rw (unfolded-folded k) at (bits-below 32 (lit< tt) (folded k) h),
+  rw (unfolded-folded k) at (view-of-bits 32 (lit< tt) (folded k) h),
+)
+
+difference-folded : (a b : ℕ) → a < 2 ^ 31 → b ≤ 2 ^ 31 → folded (subℕ a b) < 2 ^ 32
+unfolding folded
+difference-folded a b h l = go (ltb a b)
+  where
+    go : (less : Bool) → folded (cond less (negsuc (b - suc a)) (pos (a - b))) < 2 ^ 32
+    go true = omega arith
+    go false = omega arith
+
+module _ (W m : ℕ) (format : Format W m) (last : lastBin W m < 2 ^ 31) (least : leastK W m ≤ 2 ^ 31) (t : ℕ) where
+  folded-at : folded (boundDetail (boundAt W m t)) < 2 ^ 32
+  unfolding boundDetail folded exponentOf
+  folded-at = go (boundAt W m t) refl
+    where
+      go : (a : BoundAnswer) → boundAt W m t ≡ a → folded (boundDetail a) < 2 ^ 32
+      go (Exponent k) e =
+          let allowed = bound-is-the-largest W m format t k e .allowed in
+          rw (← (exponent-back W m format k allowed)) (difference-folded (binOf W m k) (leastK W m) (omega (arith, an-allowed-k-has-a-bin W m format k allowed)) least)
+      go UnknownWidth e = lit< tt
+      go NoTolerance e = lit< tt
+      go TooSmall e = lit< tt
+
+pub bound-folded : (width t : ℕ) → folded (boundDetail (boundAnswer width t)) < 2 ^ 32
+unfolding boundAnswer lastBin leastK boundDetail folded
+bound-folded width t = go (eqb width 32) (eqb width 64)
+  where
+    go : (a b : Bool) → folded (boundDetail (cond a (boundAt 32 23 t) (cond b (boundAt 64 52 t) UnknownWidth))) < 2 ^ 32
+    go true b = folded-at 32 23 format-32 (lit< tt) (lit≤ tt) t
+    go false true = folded-at 64 52 format-64 (lit< tt) (lit≤ tt) t
+    go false false = lit< tt
+
+pub bound-number-small : (a : BoundAnswer) → boundNumber a < 2 ^ 32
+unfolding boundNumber
+bound-number-small (Exponent k) = lit< tt
+bound-number-small UnknownWidth = lit< tt
+bound-number-small NoTolerance = lit< tt
+bound-number-small TooSmall = lit< tt
+
+-- ---- the operations' answers, and probe's kinds
+
+pub answer-spelled : (a : Answer) → Fits a → Uncut (answerNumber a) (answerDetail a) (answerResult a)
+unfolding answerResult answerNumber answerDetail
+answer-spelled (Done n) small = uncut 0 n (lit< tt) small
+answer-spelled (Refused number detail) told = uncut number detail (told .number-small) (told .detail-small)
+
+-- 0 is success alone, so an answer is told by its number and what stands beside it
+pub answer-told : (a b : Answer) → Fits a → Fits b → answerNumber a ≡ answerNumber b → answerDetail a ≡ answerDetail b → a ≡ b
+unfolding answerNumber answerDetail
+answer-told (Done n) (Done m) fits fits′ number detail = ap Done detail
+answer-told (Done n) (Refused number′ detail′) fits told number detail = absurd (omega (arith, told .some, number))
+answer-told (Refused number′ detail′) (Done n) told fits number detail = absurd (omega (arith, told .some, number))
+answer-told (Refused x y) (Refused z w) told told′ number detail = ap₂ Refused number detail
+
+pub probe-spelled32 : (a : Probe32) → ((number detail : ℕ) → a ≡ p32.Refused number detail → Refusal number detail)
+    → Uncut (probeNumber32 a) (probeKind32 a) (probeResult32 a)
+unfolding probeResult32 probeNumber32 probeKind32
+probe-spelled32 (p32.Finite x) h = uncut 0 0 (lit< tt) (lit< tt)
+probe-spelled32 (p32.Infinity negative) h = uncut 0 1 (lit< tt) (lit< tt)
+probe-spelled32 (p32.NotANumber p) h = uncut 0 2 (lit< tt) (lit< tt)
+probe-spelled32 (p32.Refused number detail) h = let r = h number detail refl in uncut number detail (r .number-small) (r .detail-small)
+
+pub probe-spelled64 : (a : Probe64) → ((number detail : ℕ) → a ≡ p64.Refused number detail → Refusal number detail)
+    → Uncut (probeNumber64 a) (probeKind64 a) (probeResult64 a)
+unfolding probeResult64 probeNumber64 probeKind64
+probe-spelled64 (p64.Finite x) h = uncut 0 0 (lit< tt) (lit< tt)
+probe-spelled64 (p64.Infinity negative) h = uncut 0 1 (lit< tt) (lit< tt)
+probe-spelled64 (p64.NotANumber p) h = uncut 0 2 (lit< tt) (lit< tt)
+probe-spelled64 (p64.Refused number detail) h = let r = h number detail refl in uncut number detail (r .number-small) (r .detail-small)
