@@ -10,6 +10,13 @@ use stream::pack;
 use stream::probe;
 use stream::reading;
 
+// What probe answers: the value's kind.
+const FINITE: usize = 0;
+
+const INFINITE: usize = 1;
+
+const NOT_A_NUMBER: usize = 2;
+
 #[no_mangle]
 pub extern "C" fn gwz_check(level: u32, bytes: &[u8]) -> u64
     ensures { λ r. ⌜ r ≡ answerResult (checkAnswer level (now (bytes .entry))) ⌝ }
@@ -57,15 +64,15 @@ pub extern "C" fn gwz_probe32(level: u32, bytes: &[u8], index: u64, pattern: &mu
     match answer {
         Probe32::Finite(x) => {
             *pattern = f32::to_bits(x);
-            result::result_of(0, 0)
+            result::result_of(0, FINITE)
         }
         Probe32::Infinity(negative) => {
             *pattern = infinity32(negative);
-            result::result_of(0, 1)
+            result::result_of(0, INFINITE)
         }
         Probe32::NotANumber(p) => {
             *pattern = p;
-            result::result_of(0, 2)
+            result::result_of(0, NOT_A_NUMBER)
         }
         Probe32::Refused(number, detail) => result::result_of(number, detail),
     }
@@ -115,15 +122,15 @@ pub extern "C" fn gwz_probe64(level: u32, bytes: &[u8], index: u64, pattern: &mu
     match answer {
         Probe64::Finite(x) => {
             *pattern = f64::to_bits(x);
-            result::result_of(0, 0)
+            result::result_of(0, FINITE)
         }
         Probe64::Infinity(negative) => {
             *pattern = infinity64(negative);
-            result::result_of(0, 1)
+            result::result_of(0, INFINITE)
         }
         Probe64::NotANumber(p) => {
             *pattern = p;
-            result::result_of(0, 2)
+            result::result_of(0, NOT_A_NUMBER)
         }
         Probe64::Refused(number, detail) => result::result_of(number, detail),
     }
