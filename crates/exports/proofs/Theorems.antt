@@ -16,7 +16,6 @@ use Rattle.numbers.specs.declared.tolerance.PatternAnswer.{PatternAnswer}
 use Rattle.numbers.specs.declared.tolerance.PatternAnswer.the-variants as pattern
 use Rattle.stream.specs.Bytes.{Below}
 use Rattle.stream.specs.Setting.{knownWidth}
-use Rattle.stream.specs.Rows.{answerNumber, answerDetail}
 use Rattle.stream.specs.Stream.{valueAt}
 use Rattle.stream.specs.Probe.{shown32, shown64, probeNumber32, probeNumber64}
 use Rattle.stream.specs.Operations.{checkAnswer, unpackAnswer, unpackOut, lengthAnswer, packAnswer, probeAnswer32, probeAnswer64}
@@ -27,33 +26,40 @@ use Rattle.stream.specs.declared.answers.Probe32.the-variants as p32
 use Rattle.stream.specs.declared.answers.Probe64.{Probe64}
 use Rattle.stream.specs.declared.answers.Probe64.the-variants as p64
 use Rattle.stream.proofs.Demands.{probe-as-unpack32, probe-as-unpack64}
-use Rattle.stream.proofs.Fitting.{Fits, check-fits, unpack-fits, unpacked-value-fits, probe-fits32, probed-value-fits32, probe-fits64, probed-value-fits64, length-fits, pack-fits}
+use Rattle.stream.proofs.Fitting.{check-fits, unpack-fits, unpacked-value-fits, probe-fits32, probed-value-fits32, probe-fits64, probed-value-fits64, length-fits, pack-fits}
 use Rattle.exports.specs.Result.{answerResult, probeKind32, probeResult32, probeOut32, probeKind64, probeResult64, probeOut64, boundResult, codeResult, codeOut, patternResult, patternOut}
-use Rattle.exports.specs.Theorem.{Uncut}
-use Rattle.exports.proofs.Law.Spelled.{uncut, apart, signed-fits, bound-folded, bound-number-small, answer-spelled, answer-told, probe-spelled32, probe-spelled64}
+use Rattle.exports.specs.Theorem.{Uncut, Spelled}
+use Rattle.exports.proofs.Law.Spelled.{uncut, apart, signed-fits, bound-folded, bound-number-small, bound-told, answer-spelled, answer-told, probe-spelled32, probe-spelled64}
 use Rattle.exports.proofs.Law.Pattern.{pattern-left32, pattern-left64}
 
--- ---- nothing is cut: a number, and the detail or the answer beside it, have 32 bits each, whatever bytes and patterns are lent
+-- ---- nothing is cut: a number, and the detail or the answer beside it, have 32 bits each, whatever bytes and patterns are lent; and a
+-- refusal's number is not 0
 
 module _ (level : ℕ) (s : List ℕ) (bytes : Below 256 s) where
-  pub check-is-uncut : let a = checkAnswer level s in Uncut (answerNumber a) (answerDetail a) (answerResult a)
-  check-is-uncut = answer-spelled (checkAnswer level s) (check-fits level s bytes)
+  pub check-is-spelled : Spelled (checkAnswer level s)
+  check-is-spelled = answer-spelled (checkAnswer level s) (check-fits level s bytes)
 
-  pub unpack-is-uncut : (W room : ℕ) → let a = unpackAnswer W level s room in Uncut (answerNumber a) (answerDetail a) (answerResult a)
-  unpack-is-uncut W room = answer-spelled (unpackAnswer W level s room) (unpack-fits level s bytes W room)
+  pub unpack-is-spelled : (W room : ℕ) → Spelled (unpackAnswer W level s room)
+  unpack-is-spelled W room = answer-spelled (unpackAnswer W level s room) (unpack-fits level s bytes W room)
 
   pub probe32-is-uncut : (i : ℕ) → let a = probeAnswer32 level s i in Uncut (probeNumber32 a) (probeKind32 a) (probeResult32 a)
   probe32-is-uncut i = probe-spelled32 (probeAnswer32 level s i) (probe-fits32 level s bytes i)
 
+  pub a-refused-probe32-is-numbered : (i number detail : ℕ) → probeAnswer32 level s i ≡ p32.Refused number detail → 0 < number
+  a-refused-probe32-is-numbered i number detail e = probe-fits32 level s bytes i number detail e .some
+
   pub probe64-is-uncut : (i : ℕ) → let a = probeAnswer64 level s i in Uncut (probeNumber64 a) (probeKind64 a) (probeResult64 a)
   probe64-is-uncut i = probe-spelled64 (probeAnswer64 level s i) (probe-fits64 level s bytes i)
 
-module _ (W level mode : ℕ) (k : ℤ) (vs : List ℕ) (known : knownWidth W ≡ true) (patterns : Below (2 ^ W) vs) where
-  pub length-is-uncut : let a = lengthAnswer W level mode k vs in Uncut (answerNumber a) (answerDetail a) (answerResult a)
-  length-is-uncut = answer-spelled (lengthAnswer W level mode k vs) (length-fits W level mode k vs known patterns)
+  pub a-refused-probe64-is-numbered : (i number detail : ℕ) → probeAnswer64 level s i ≡ p64.Refused number detail → 0 < number
+  a-refused-probe64-is-numbered i number detail e = probe-fits64 level s bytes i number detail e .some
 
-  pub pack-is-uncut : (room : ℕ) → let a = packAnswer W level mode k vs room in Uncut (answerNumber a) (answerDetail a) (answerResult a)
-  pack-is-uncut room = answer-spelled (packAnswer W level mode k vs room) (pack-fits W level mode k vs known patterns room)
+module _ (W level mode : ℕ) (k : ℤ) (vs : List ℕ) (known : knownWidth W ≡ true) (patterns : Below (2 ^ W) vs) where
+  pub length-is-spelled : Spelled (lengthAnswer W level mode k vs)
+  length-is-spelled = answer-spelled (lengthAnswer W level mode k vs) (length-fits W level mode k vs known patterns)
+
+  pub pack-is-spelled : (room : ℕ) → Spelled (packAnswer W level mode k vs room)
+  pack-is-spelled room = answer-spelled (packAnswer W level mode k vs room) (pack-fits W level mode k vs known patterns room)
 
 -- bound's k stands in two's complement, and is read back from it
 pub bound-is-uncut : (width tolerance : ℕ) → let a = boundAnswer width tolerance in
@@ -85,11 +91,20 @@ a-result-is-taken-apart u = apart u
 pub a-result-tells-both : {number detail number′ detail′ r : ℕ} → Uncut number detail r → Uncut number′ detail′ r → (number ≡ number′) × (detail ≡ detail′)
 a-result-tells-both u v = (sym (apart u .0) ∙ apart v .0, sym (apart u .1) ∙ apart v .1)
 
--- and, since 0 is success alone, the same answer: of check, unpack, length and pack (`check-fits` and its neighbours of stream)
-pub a-result-tells-its-answer : (a b : Answer) → Fits a → Fits b → answerResult a ≡ answerResult b → a ≡ b
-a-result-tells-its-answer a b fits fits′ same =
-    let both = a-result-tells-both (rw same at (answer-spelled a fits)) (answer-spelled b fits′) in
-    answer-told a b fits fits′ (both .0) (both .1)
+-- and of check, unpack, length and pack the same answer
+pub a-result-tells-its-answer : (a b : Answer) → Spelled a → Spelled b → answerResult a ≡ answerResult b → a ≡ b
+a-result-tells-its-answer a b spelled spelled′ same =
+    let both = a-result-tells-both (rw same at (spelled .uncut)) (spelled′ .uncut) in
+    answer-told a b spelled spelled′ (both .0) (both .1)
+
+-- and of bound
+pub a-result-tells-the-bound : (width tolerance width′ tolerance′ : ℕ) → boundResult (boundAnswer width tolerance) ≡ boundResult (boundAnswer width′ tolerance′)
+    → boundAnswer width tolerance ≡ boundAnswer width′ tolerance′
+a-result-tells-the-bound width tolerance width′ tolerance′ same =
+    let u = bound-is-uncut width tolerance in
+    let v = bound-is-uncut width′ tolerance′ in
+    let both = a-result-tells-both (rw same at (u .0)) (v .0) in
+    bound-told (boundAnswer width tolerance) (boundAnswer width′ tolerance′) (both .0) (sym (u .1) ∙ ap (signedView 32) (both .1) ∙ v .1)
 
 -- ---- probe's pattern is the stream's own
 

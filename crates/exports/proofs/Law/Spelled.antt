@@ -1,5 +1,5 @@
 -- A number and a detail of 32 bits each, in one number.
-use mathlib.Core.Path.{_≡_, refl, ap, ap₂}
+use mathlib.Core.Path.{_≡_, refl, sym, ap, ap₂, _∙_}
 use mathlib.Core.Bool.{Bool, true, false, cond}
 use Prim.Native.Nat.{ℕ, suc, _+_, _-_, _*_, _/_, _%_, _^_, _≤_, _<_}
 use native.Mathlib.Nat.{mod-eq-of-lt}
@@ -25,7 +25,7 @@ use Rattle.stream.specs.declared.answers.Probe64.{Probe64}
 use Rattle.stream.specs.declared.answers.Probe64.the-variants as p64
 use Rattle.stream.proofs.Fitting.{Refusal, Fits}
 use Rattle.exports.specs.Result.{result, answerResult, probeKind32, probeResult32, probeKind64, probeResult64}
-use Rattle.exports.specs.Theorem.{Uncut}
+use Rattle.exports.specs.Theorem.{Uncut, Spelled}
 
 pub uncut : (number detail : ℕ) → number < 2 ^ 32 → detail < 2 ^ 32 → Uncut number detail (result number detail)
 unfolding result
@@ -85,20 +85,42 @@ bound-number-small UnknownWidth = lit< tt
 bound-number-small NoTolerance = lit< tt
 bound-number-small TooSmall = lit< tt
 
+-- bound's answer by its number and k
+named : ℕ → ℤ → BoundAnswer
+named number k = cond (eqb number 0) (Exponent k) (cond (eqb number 2) UnknownWidth (cond (eqb number 12) NoTolerance TooSmall))
+
+named-is : (a : BoundAnswer) → named (boundNumber a) (boundDetail a) ≡ a
+unfolding named boundNumber boundDetail
+named-is (Exponent k) = refl
+named-is UnknownWidth = refl
+named-is NoTolerance = refl
+named-is TooSmall = refl
+
+pub bound-told : (a b : BoundAnswer) → boundNumber a ≡ boundNumber b → boundDetail a ≡ boundDetail b → a ≡ b
+bound-told a b number detail = sym (named-is a) ∙ ap₂ named number detail ∙ named-is b
+
 -- ---- the operations' answers, and probe's kinds
 
-pub answer-spelled : (a : Answer) → Fits a → Uncut (answerNumber a) (answerDetail a) (answerResult a)
+pub answer-spelled : (a : Answer) → Fits a → Spelled a
 unfolding answerResult answerNumber answerDetail
-answer-spelled (Done n) small = uncut 0 n (lit< tt) small
-answer-spelled (Refused number detail) told = uncut number detail (told .number-small) (told .detail-small)
+answer-spelled (Done n) small =
+    record {
+      uncut = uncut 0 n (lit< tt) small;
+      numbered = λ number detail e. let z : _≡_ {A = ℕ} 0 1 = cc in absurd (omega arith);
+    }
+answer-spelled (Refused x y) told =
+    record {
+      uncut = uncut x y (told .number-small) (told .detail-small);
+      numbered = λ number detail e. let same : x ≡ number = cc in rw same at (told .some);
+    }
 
--- 0 is success alone, so an answer is told by its number and what stands beside it
-pub answer-told : (a b : Answer) → Fits a → Fits b → answerNumber a ≡ answerNumber b → answerDetail a ≡ answerDetail b → a ≡ b
+-- an answer is told by its number and what stands beside it
+pub answer-told : (a b : Answer) → Spelled a → Spelled b → answerNumber a ≡ answerNumber b → answerDetail a ≡ answerDetail b → a ≡ b
 unfolding answerNumber answerDetail
-answer-told (Done n) (Done m) fits fits′ number detail = ap Done detail
-answer-told (Done n) (Refused number′ detail′) fits told number detail = absurd (omega (arith, told .some, number))
-answer-told (Refused number′ detail′) (Done n) told fits number detail = absurd (omega (arith, told .some, number))
-answer-told (Refused x y) (Refused z w) told told′ number detail = ap₂ Refused number detail
+answer-told (Done n) (Done m) s t number detail = ap Done detail
+answer-told (Done n) (Refused x y) s t number detail = absurd (omega (arith, t .numbered x y refl, number))
+answer-told (Refused x y) (Done n) s t number detail = absurd (omega (arith, s .numbered x y refl, number))
+answer-told (Refused x y) (Refused z w) s t number detail = ap₂ Refused number detail
 
 pub probe-spelled32 : (a : Probe32) → ((number detail : ℕ) → a ≡ p32.Refused number detail → Refusal number detail)
     → Uncut (probeNumber32 a) (probeKind32 a) (probeResult32 a)
