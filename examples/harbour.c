@@ -201,13 +201,17 @@ static void compare_lossless(const char *path, const uint32_t *field)
         stop("a cell of %s is not as it was", path);
 }
 
-/* Exactly, in metres and as a fraction of the tolerance: a quotient by a power of two is not rounded. */
+/*
+ * Exactly, in metres, as a fraction of the tolerance, and in the unit that the promise is stated in, the smallest
+ * distance of two binary32 numbers: products with powers of two are not rounded.
+ */
 static void print_distance(double distance, double tolerance)
 {
     double share = distance / tolerance;
     int n = doublings_of(share);
     printf("The largest distance of a wet cell: exactly %.*f m, %.0f/%.0f of the tolerance of %.*f m\n",
            doublings_of(distance), distance, ldexp(share, n), ldexp(1, n), doublings_of(tolerance), tolerance);
+    printf("In whole units of 2^-149 m: %.0f of %.0f\n", ldexp(distance, 149), ldexp(tolerance, 149));
 }
 
 /* Dry cells must be the same bits, wet ones at most 2^k off. */
