@@ -28,13 +28,13 @@ fn group_end(at: usize, n: usize) -> usize
 }
 
 // The code of one pattern, by mode.
-fn code32(p: u32, mode: u32, bin: u32) -> u64
+fn code32(p: u32, mode: u32, bin: u32) -> u32
     ensures { λ c. ⌜ c ≡ codeAt 32 mode bin p ⌝ }
 {
     if mode == 0 {
-        lossless::code32(p) as u64
+        lossless::code32(p)
     } else {
-        tolerance::code_at_bin32(bin, p) as u64
+        tolerance::code_at_bin32(bin, p)
     }
 }
 
@@ -48,21 +48,42 @@ fn code64(p: u64, mode: u32, bin: u32) -> u64
     }
 }
 
-// The codes of up to 32 values, as a group.
-fn coded32(values: &[u32], mode: u32, bin: u32) -> Group
+// The codes of up to 32 values. They stay 32 bits wide here, so that a compiler can code four values at a time.
+fn codes32(values: &[u32], mode: u32, bin: u32) -> [u32; 32]
     requires { ⌜ length (now values) ≤ 32 ⌝ }
-    ensures { λ g. ⌜ (g .count ≡ length (now (values .entry))) × (take (g .count) (g .codes) ≡ codesOf 32 mode bin (now (values .entry))) ⌝ }
+    ensures { λ r. ⌜ take (length (now (values .entry))) r ≡ codesOf 32 mode bin (now (values .entry)) ⌝ }
 {
-    let mut codes = [0u64; 32];
+    let mut codes = [0u32; 32];
     let mut i: usize = 0;
     while i < values.len() {
         codes[i] = code32(values[i], mode, bin);
         i += 1;
     }
-    Group {
-        count: values.len(),
-        codes,
+    codes
+}
+
+// The group of the first n of 32 codes.
+fn widened(n: usize, codes: [u32; 32]) -> Group
+    ensures { λ g. ⌜ (g .count ≡ n) × (g .codes ≡ codes) ⌝ }
+{
+    let mut g = Group {
+        count: n,
+        codes: [0u64; 32],
+    };
+    let mut i: usize = 0;
+    while i < 32 {
+        g.codes[i] = codes[i] as u64;
+        i += 1;
     }
+    g
+}
+
+// The codes of up to 32 values, as a group.
+fn coded32(values: &[u32], mode: u32, bin: u32) -> Group
+    requires { ⌜ length (now values) ≤ 32 ⌝ }
+    ensures { λ g. ⌜ (g .count ≡ length (now (values .entry))) × (take (g .count) (g .codes) ≡ codesOf 32 mode bin (now (values .entry))) ⌝ }
+{
+    widened(values.len(), codes32(values, mode, bin))
 }
 
 fn coded64(values: &[u64], mode: u32, bin: u32) -> Group

@@ -27,6 +27,15 @@ one-mapped f xs ys i h l e =
     ∙ ap (λ (t : List ℕ). t ++ (f (getD xs i 0) ∷ [])) e
     ∙ sym (ap (map f) (ap (λ (k : ℕ). take k xs) (add-one i) ∙ take-suc xs i 0 h) ∙ map-append f (take i xs) (getD xs i 0 ∷ []))
 
+-- the same of a list that is copied
+pub one-copied : (xs ys : List ℕ) (i : ℕ) → i < length xs → i < length ys → take i ys ≡ take i xs
+    → take (i + 1) (set ys i (getD xs i 0)) ≡ take (i + 1) xs
+one-copied xs ys i h l e =
+    ap (λ (k : ℕ). take k (set ys i (getD xs i 0))) (add-one i)
+    ∙ take-suc-set ys i (getD xs i 0) l
+    ∙ ap (λ (t : List ℕ). t ++ (getD xs i 0 ∷ [])) e
+    ∙ sym (ap (λ (k : ℕ). take k xs) (add-one i) ∙ take-suc xs i 0 h)
+
 -- the same over what was there: the images so far, and the rest of `base`
 pub one-put : (f : ℕ → ℕ) (xs base : List ℕ) (i : ℕ) → i < length xs → i < length base
     → set (map f (take i xs) ++ drop i base) i (f (getD xs i 0)) ≡ map f (take (i + 1) xs) ++ drop (i + 1) base

@@ -1,5 +1,4 @@
 -- `stream::chunk::code32` meets its contract: the number rule of the mode.
-use mathlib.Core.Path.{_∙_}
 use borrow.Author.Tests.{eq-eqb, ne-eqb}
 use Rattle.stream.specs.Setting.{fractionBits, clipped, codeAt}
 use borrow.Author.Needs.{needs}
@@ -9,14 +8,8 @@ use Rattle.stream.proofs.chunk.code32.Tie as tie
 code32-requires : tie.Need-code32-requires
 code32-requires c κs = search needs
 
-cast-result : tie.Need-cast-result
-cast-result c = search needs
-
 code-at-bin32-requires : tie.Need-code-at-bin32-requires
 code-at-bin32-requires c κs = search needs
-
-cast-result-2 : tie.Need-cast-result-2
-cast-result-2 c = search needs
 
 returns : tie.Need-returns
 unfolding codeAt fractionBits clipped
@@ -27,6 +20,4 @@ unfolding codeAt fractionBits clipped
 returns-2 c = rw (ne-eqb (c .before .before .args .mode) 0 (c .before .if1 .left)) (c .code-at-bin32 .ensures)
 
 pub code32-spec : {M : Type 1} → statement M
-code32-spec =
-    tie.close
-    (tie.spec code32-requires cast-result code-at-bin32-requires cast-result-2 returns returns-2)
+code32-spec = tie.close (tie.spec code32-requires code-at-bin32-requires returns returns-2)

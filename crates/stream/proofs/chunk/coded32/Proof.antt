@@ -1,85 +1,22 @@
--- `stream::chunk::coded32` meets its contract. The invariant: the codes passed are those of the values passed.
-use mathlib.Core.Path.{_≡_, refl, ap, subst, _∙_}
+-- `stream::chunk::coded32` meets its contract: the codes of `codes32`, as `widened` hands them on.
+use mathlib.Core.Path.{_≡_, ap₂, _∙_}
 use mathlib.Core.List.{List}
-use Prim.Native.Nat.{ℕ, _-_, _+_, _≤_}
-use native.Mathlib.Omega.{arith}
-use lib.ListN.{length, take, getD, set, length-set}
-use lib.Seq.{take-length}
+use Prim.Native.Nat.{ℕ}
+use lib.ListN.{take}
 use borrow.Author.Needs.{needs}
-use Rattle.stream.specs.Setting.{codeAt, codesOf}
-use Rattle.stream.proofs.Law.Coding.{one-mapped}
 use Rattle.stream.proofs.chunk.coded32.Statement.{statement}
 use Rattle.stream.proofs.chunk.coded32.Tie as tie
 
-abbrev Inv-loop : tie.InvT-loop
-Inv-loop values mode bin codes₀ i₀ codes i =
-    (i ≤ length values) × (length values ≤ 32) × (length codes ≡ 32) × (take i codes ≡ codesOf 32 mode bin (take i values))
+codes32-requires : tie.Need-codes32-requires
+codes32-requires c κs = search needs
 
-abbrev μ-loop : tie.MeasureT-loop
-μ-loop values mode bin codes₀ i₀ codes i = length values - i
+widened-requires : tie.Need-widened-requires
+widened-requires c κs = search needs
 
-loop-holds : tie.Need-loop-holds Inv-loop μ-loop
-unfolding codesOf
-loop-holds c = (omega arith, c .before .pre, refl, refl)
-
-mul-code32 : tie.Need-mul-code32 Inv-loop μ-loop
-mul-code32 c = search needs
-
-shared-slice-read-code32 : tie.Need-shared-slice-read-code32 Inv-loop μ-loop
-shared-slice-read-code32 c = search needs
-
-code32-requires : tie.Need-code32-requires Inv-loop μ-loop
-code32-requires c κs = search needs
-
-mul-codes : tie.Need-mul-codes Inv-loop μ-loop
-mul-codes c = omega arith
-
-array-write-codes : tie.Need-array-write-codes Inv-loop μ-loop
-array-write-codes c = omega arith
-
-add-i : tie.Need-add-i Inv-loop μ-loop
-add-i c = omega arith
-
-loop-less : tie.Need-loop-less Inv-loop μ-loop
-loop-less c = omega arith
-
-loop-again : tie.Need-loop-again Inv-loop μ-loop
-unfolding codesOf
-loop-again c =
-    let a = c .before .before .before .before .before .args in
-    let l = c .before .before .before .loop in
-    let values : List ℕ = a .values .now in (
-      omega arith,
-      l .inv .1,
-      length-set (l .codes) (l .i) (c .code32 .result) ∙ l .inv .2,
-      ap (λ (v : ℕ). take (l .i + 1) (set (l .codes) (l .i) v)) (c .code32 .ensures)
-          ∙ one-mapped (codeAt 32 (a .mode) (a .bin)) values (l .codes) (l .i) (omega arith) (omega arith) (l .inv .3),
-    )
-
-returns : tie.Need-returns Inv-loop μ-loop
+returns : tie.Need-returns
 returns c =
-    let a = c .before .before .before .args in
-    let l = c .before .loop in
-    let values : List ℕ = a .values .now in
-    let end : l .i ≡ length values = omega arith in (
-      refl,
-      subst (λ (n : ℕ). take n (l .codes) ≡ codesOf 32 (a .mode) (a .bin) (take n values)) end (l .inv .3)
-          ∙ ap (codesOf 32 (a .mode) (a .bin)) (take-length values),
-    )
+    let w = c .widened .ensures in
+    (w .0, ap₂ (λ (n : ℕ) (cs : List ℕ). take n cs) (w .0) (w .1) ∙ c .before .codes32 .ensures)
 
 pub coded32-spec : {M : Type 1} → statement M
-coded32-spec =
-    tie.close
-    (tie.spec
-    Inv-loop
-    μ-loop
-    loop-holds
-    mul-code32
-    shared-slice-read-code32
-    code32-requires
-    mul-codes
-    array-write-codes
-    add-i
-    loop-less
-    loop-again
-    returns)
+coded32-spec = tie.close (tie.spec codes32-requires widened-requires returns)
