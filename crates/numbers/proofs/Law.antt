@@ -4,6 +4,7 @@ pub mod Signed
 pub mod Lossless
 pub mod Tolerance
 pub mod Working
+pub mod Straight
 pub mod Exponent
 pub mod Answers
 pub mod Bound

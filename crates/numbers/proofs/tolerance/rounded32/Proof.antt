@@ -1,31 +1,33 @@
 -- `numbers::tolerance::rounded32` meets its contract.
-use lib.Dec.{lit≤}
-use Rattle.numbers.proofs.Law.Working.{rounds-away, rounded-fits, rounded-is}
+use mathlib.Core.Path.{_∙_, ap}
+use Prim.Native.Nat.{ℕ, _+_, _-_, _*_, _/_, _^_}
+use native.Mathlib.Nat.{div-le-self}
+use native.Mathlib.Omega.{arith}
+use Rattle.numbers.proofs.Law.Straight.{rounded-short}
 use borrow.Author.Needs.{needs}
 use Rattle.numbers.proofs.tolerance.rounded32.Statement.{statement}
 use Rattle.numbers.proofs.tolerance.rounded32.Tie as tie
 
-returns : tie.Need-returns
-returns c = rounds-away 24 (c .before .args .s) (c .before .args .q) (c .before .pre) (c .if1 .taken)
-
 mul-result : tie.Need-mul-result
 mul-result c = search needs
 
-shl-result : tie.Need-shl-result
-shl-result c = search needs
+past32-requires : tie.Need-past32-requires
+past32-requires c κs = search needs
 
-add-result : tie.Need-add-result
-add-result c = record { fits = rounded-fits 32 24 (c .before .args .s) (c .before .args .q) (c .before .pre) (c .if1 .left) (lit≤ tt) }
-
-add-result-2 : tie.Need-add-result-2
-add-result-2 c = search needs
+sub-result : tie.Need-sub-result
+sub-result c = search needs
 
 shr-result : tie.Need-shr-result
 shr-result c = search needs
 
-returns-2 : tie.Need-returns-2
-returns-2 c = rounded-is 32 24 (c .before .args .s) (c .before .args .q) (c .before .pre) (c .if1 .left) (lit≤ tt)
+add-result : tie.Need-add-result
+add-result c = omega (arith, div-le-self (2 * c .before .args .q) (2 ^ (25 - c .past32 .result)))
+
+returns : tie.Need-returns
+returns c =
+    let a = c .before .args in
+    ap (λ (n : ℕ). (2 * a .q / 2 ^ (25 - n) + 1) / 2) (c .past32 .ensures) ∙ rounded-short 24 (a .s) (a .q) (c .before .pre)
 
 pub rounded32-spec : {M : Type 1} → statement M
 rounded32-spec =
-    tie.close (tie.spec returns mul-result shl-result add-result add-result-2 shr-result returns-2)
+    tie.close (tie.spec mul-result past32-requires sub-result shr-result add-result returns)
