@@ -199,7 +199,27 @@ fn code_at(s: &[u8], bit: usize, w: usize) -> u64
 }
 
 // The codes of a group, where the bytes go on far enough for the loads of every code: one test for the group, and none for each code.
-fn opened(s: &[u8], n: usize, w: usize) -> Group
+// Of codes up to 57 bits wide eight bytes hold each, whatever there is to skip.
+fn opened_narrow(s: &[u8], n: usize, w: usize) -> Group
+    requires { ⌜ (n ≤ 32) × (1 ≤ w) × (w ≤ 57) × (w * n / 8 + 10 ≤ length (now s)) ⌝ }
+    ensures { λ r. ⌜ (r .count ≡ n) × (take n (r .codes) ≡ digits (2 ^ w) n (number 256 (now (s .entry)) / 256)) ⌝ }
+{
+    let mask: u64 = 18446744073709551615 >> (64 - w);
+    let mut g = Group {
+        count: n,
+        codes: [0u64; 32],
+    };
+    let mut bit: usize = 8;
+    let mut i: usize = 0;
+    while i < n {
+        g.codes[i] = (load(s, bit / 8) >> (bit % 8)) & mask;
+        bit += w;
+        i += 1;
+    }
+    g
+}
+
+fn opened_wide(s: &[u8], n: usize, w: usize) -> Group
     requires { ⌜ (n ≤ 32) × (1 ≤ w) × (w ≤ 64) × (w * n / 8 + 10 ≤ length (now s)) ⌝ }
     ensures { λ r. ⌜ (r .count ≡ n) × (take n (r .codes) ≡ digits (2 ^ w) n (number 256 (now (s .entry)) / 256)) ⌝ }
 {
@@ -212,6 +232,16 @@ fn opened(s: &[u8], n: usize, w: usize) -> Group
         i += 1;
     }
     Group { count: n, codes }
+}
+
+fn opened(s: &[u8], n: usize, w: usize) -> Group
+    requires { ⌜ (n ≤ 32) × (1 ≤ w) × (w ≤ 64) × (w * n / 8 + 10 ≤ length (now s)) ⌝ }
+    ensures { λ r. ⌜ (r .count ≡ n) × (take n (r .codes) ≡ digits (2 ^ w) n (number 256 (now (s .entry)) / 256)) ⌝ }
+{
+    if w <= 57 {
+        return opened_narrow(s, n, w);
+    }
+    opened_wide(s, n, w)
 }
 
 // The same bytes with zeros behind, as many as the widest group and the loads past its end need.

@@ -1,4 +1,4 @@
--- `opened` meets its contract. The invariant: the codes passed are the first digits, and the next one starts at `bit`.
+-- `opened_wide` meets its contract. The invariant: the codes passed are the first digits, and the next one starts at `bit`.
 -- Assumes nothing.
 use mathlib.Core.Path.{_≡_, refl, sym, ap, _∙_, subst}
 use mathlib.Core.List.{List}
@@ -9,8 +9,8 @@ use native.Mathlib.Omega.{arith}
 use lib.ListN.{length, take, set, length-set}
 use Rattle.stream.specs.Bytes.{number, digits}
 use Rattle.stream.proofs.Law.Reading.{one-code}
-use Rattle.stream.proofs.group.opened.Statement.{statement}
-use Rattle.stream.proofs.group.opened.Tie as tie
+use Rattle.stream.proofs.group.opened_wide.Statement.{statement}
+use Rattle.stream.proofs.group.opened_wide.Tie as tie
 
 abbrev Inv-loop : tie.InvT-loop
 Inv-loop s n w codes₀ bit₀ i₀ codes bit i =
@@ -68,8 +68,8 @@ returns c =
     let end : l .i ≡ f .args .n = omega arith in
     (refl, subst (λ (n : ℕ). take n (l .codes) ≡ digits (2 ^ f .args .w) n (number 256 (f .args .s .now) / 256)) end (l .inv .3))
 
-pub opened-spec : {M : Type 1} → statement M
-opened-spec =
+pub opened-wide-spec : {M : Type 1} → statement M
+opened-wide-spec =
     tie.close
     (tie.spec
     Inv-loop
