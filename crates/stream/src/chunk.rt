@@ -1,7 +1,7 @@
 // A chunk: its values coded and cut into groups, its bytes checked, and its values restored.
 ghost use mathlib.Core.Path.{_≡_};
-ghost use mathlib.Core.List.{_++_};
-ghost use Prim.Native.Nat.{_≤_, _<_, _-_, _+_, _^_, min};
+ghost use mathlib.Core.List.{_++_, map};
+ghost use Prim.Native.Nat.{ℕ, _≤_, _<_, _-_, _+_, _%_, _^_, min};
 ghost use lib.ListN.{length, take, drop, getD};
 ghost use Rattle.stream.specs.Bytes.{Below};
 ghost use Rattle.stream.specs.Group.{groupLength};
@@ -228,8 +228,35 @@ fn pattern64(c: u64, mode: u32, bin: u32) -> u64
     }
 }
 
-// The patterns of a group's codes at the front of `out`.
-fn patterns32(codes: &[u64], n: usize, mode: u32, bin: u32, out: &mut [u32])
+// The lowest 32 bits of 32 codes.
+fn halved(codes: &[u64]) -> [u32; 32]
+    requires { ⌜ length (now codes) ≡ 32 ⌝ }
+    ensures { λ r. ⌜ r ≡ map (λ (c : ℕ). c % 2 ^ 32) (now (codes .entry)) ⌝ }
+{
+    let mut half = [0u32; 32];
+    let mut i: usize = 0;
+    while i < 32 {
+        half[i] = (codes[i] % 0x1_0000_0000) as u32;
+        i += 1;
+    }
+    half
+}
+
+// The patterns of a group's codes at the front of `out`, from codes of 32 bits, of which a compiler can restore four at a time.
+fn patterns_by_four32(codes: &[u64], n: usize, mode: u32, bin: u32, out: &mut [u32])
+    requires { ⌜ (length (now codes) ≡ 32) × (n ≤ 32) × (n ≤ length (now out)) × Below (2 ^ 32) (take n (now codes)) ⌝ }
+    ensures { λ _. ⌜ now (out .exit) ≡ patternsOf 32 mode bin (take n (now (codes .entry))) ++ drop n (now (out .entry)) ⌝ }
+{
+    let half = halved(codes);
+    let mut i: usize = 0;
+    while i < n {
+        out[i] = pattern32(half[i] as u64, mode, bin);
+        i += 1;
+    }
+}
+
+// The same one by one.
+fn patterns_by_one32(codes: &[u64], n: usize, mode: u32, bin: u32, out: &mut [u32])
     requires { ⌜ (n ≤ length (now codes)) × (n ≤ length (now out)) × Below (2 ^ 32) (take n (now codes)) ⌝ }
     ensures { λ _. ⌜ now (out .exit) ≡ patternsOf 32 mode bin (take n (now (codes .entry))) ++ drop n (now (out .entry)) ⌝ }
 {
@@ -237,6 +264,18 @@ fn patterns32(codes: &[u64], n: usize, mode: u32, bin: u32, out: &mut [u32])
     while i < n {
         out[i] = pattern32(codes[i], mode, bin);
         i += 1;
+    }
+}
+
+// The patterns of a group's codes at the front of `out`: the lossless code is restored lane by lane, which the tolerance code's shifts forbid.
+fn patterns32(codes: &[u64], n: usize, mode: u32, bin: u32, out: &mut [u32])
+    requires { ⌜ (length (now codes) ≡ 32) × (n ≤ 32) × (n ≤ length (now out)) × Below (2 ^ 32) (take n (now codes)) ⌝ }
+    ensures { λ _. ⌜ now (out .exit) ≡ patternsOf 32 mode bin (take n (now (codes .entry))) ++ drop n (now (out .entry)) ⌝ }
+{
+    if mode == 0 {
+        patterns_by_four32(codes, n, mode, bin, out);
+    } else {
+        patterns_by_one32(codes, n, mode, bin, out);
     }
 }
 

@@ -14,7 +14,7 @@ use Rattle.stream.specs.Chunk.{chunkCodes}
 use Rattle.stream.proofs.Law.Group.{length-codes}
 use Rattle.stream.proofs.Law.Walking.{part-is}
 use Rattle.stream.proofs.Law.Appending.{Appended, nothing-yet, within, same-room, lent-room, one-piece, all-there}
-use Rattle.stream.proofs.Law.Restoring.{Onward, starts-onward, long-enough, part-opens, next-below, goes-on, next-patterns, none-restored, length-restored, length-patterns}
+use Rattle.stream.proofs.Law.Restoring.{Onward, starts-onward, part-opens, next-below, goes-on, next-patterns, none-restored, length-restored, length-patterns}
 use Rattle.stream.proofs.chunk.restored32.Statement.{statement}
 use Rattle.stream.proofs.chunk.restored32.Tie as tie
 
@@ -113,7 +113,8 @@ patterns32-requires c κs =
     let is : count .result ≡ min 32 (l .left) = omega (arith, count .ensures) in
     let g = c .before .before .before .before .before .before .codes-of in
     let codes-are = g .ensures .1 ∙ ap (groupCodes (count .result)) (part-is s (l .at)) in (
-      long-enough (count .result) (g .result .codes) (groupCodes (count .result) (drop (l .at) s)) codes-are (length-codes (count .result) (drop (l .at) s)),
+      search needs,
+      omega arith,
       le-trans (let a = l .inv .2 in omega (arith, c .before .before .before .before .before .before .before .before .before .before .before .before .before .pre .1, l .inv .0)) (le-of-eq (sym (lent-room _ _ _ _ _ (l .inv .2)))),
       (rw codes-are (next-below 32 (lit< tt) 32 (limitOf 32 (v .mode) (v .bin)) s (l .left) (l .at) (count .result) onward some is)),
     )

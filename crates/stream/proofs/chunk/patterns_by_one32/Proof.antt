@@ -1,4 +1,4 @@
--- `stream::chunk::patterns32` meets its contract. The invariant: the patterns of the codes passed, and then what was there.
+-- `stream::chunk::patterns_by_one32` meets its contract. The invariant: the patterns of the codes passed, and then what was there.
 use mathlib.Core.Path.{_≡_, refl, sym, ap, ap₂, _∙_}
 use mathlib.Core.List.{List, _++_}
 use Prim.Native.Nat.{ℕ, _-_, _+_, _≤_}
@@ -9,8 +9,8 @@ use lib.Seq.{take-all, length-take-le, getD-take}
 use borrow.Author.Needs.{needs}
 use Rattle.stream.specs.Setting.{patternAt, patternsOf}
 use Rattle.stream.proofs.Law.Coding.{one-put, length-filled}
-use Rattle.stream.proofs.chunk.patterns32.Statement.{statement}
-use Rattle.stream.proofs.chunk.patterns32.Tie as tie
+use Rattle.stream.proofs.chunk.patterns_by_one32.Statement.{statement}
+use Rattle.stream.proofs.chunk.patterns_by_one32.Tie as tie
 
 abbrev Inv-loop : tie.InvT-loop
 Inv-loop codes n mode bin out₀ i₀ out i =
@@ -76,8 +76,8 @@ returns c =
     (ap (λ (n : ℕ). take n (take (v .n) (v .codes .now))) end ∙ take-all (v .n) (take (v .n) (v .codes .now)) (rw (length-take-le (v .n) (v .codes .now) (f .pre .0)) (le-refl (v .n))))
     (ap (λ (n : ℕ). drop n (v .out .now)) end)
 
-pub patterns32-spec : {M : Type 1} → statement M
-patterns32-spec =
+pub patterns-by-one32-spec : {M : Type 1} → statement M
+patterns-by-one32-spec =
     tie.close
     (tie.spec
     Inv-loop
