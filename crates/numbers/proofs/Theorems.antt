@@ -63,6 +63,10 @@ module _ (W m : ℕ) (format : Format W m) where
   pub every-pattern-is-restored : (p : ℕ) → p < 2 ^ W → losslessRestored W m (losslessCode W m p) ≡ p
   every-pattern-is-restored = Lossless.restored-code W m room
 
+  -- The code 0 is that of the pattern 0.
+  pub lossless-zero : losslessRestored W m 0 ≡ 0
+  lossless-zero = Lossless.restored-zero W m
+
   -- "Every code has exactly one pattern."
   pub every-code-has-one-pattern : (c : ℕ) → c < 2 ^ W
       → (p : ℕ) × (p < 2 ^ W) × (losslessCode W m p ≡ c) × ((q : ℕ) → q < 2 ^ W → losslessCode W m q ≡ c → q ≡ p)
@@ -82,6 +86,10 @@ module _ (W m : ℕ) (format : Format W m) where
 
     pub tolerance-pattern-has-W-bits : (c : ℕ) → toleranceRestored W m j c < 2 ^ W
     tolerance-pattern-has-W-bits = Tolerance.pattern-under W m (format .room) j in-range
+
+    -- The code 0 is that of the pattern 0.
+    pub tolerance-zero : toleranceRestored W m j 0 ≡ 0
+    tolerance-zero = Tolerance.restored-zero W m (format .room) j in-range
 
     -- "The largest u": no pattern has a larger one ..
     pub no-u-is-larger : (p : ℕ) → p < 2 ^ W → toleranceCode W m j p / 2 ≤ largestU W m j

@@ -2,9 +2,9 @@
 ghost use mathlib.Core.Path.{_≡_};
 ghost use mathlib.Core.List.{_++_, map};
 ghost use Prim.Native.Nat.{ℕ, _≤_, _<_, _-_, _+_, _%_, _^_, min};
-ghost use lib.ListN.{length, take, drop, getD};
+ghost use lib.ListN.{length, take, drop, getD, replicate};
 ghost use Rattle.stream.specs.Bytes.{Below};
-ghost use Rattle.stream.specs.Group.{groupLength};
+ghost use Rattle.stream.specs.Group.{givenWidth, groupLength, groupCodes};
 ghost use Rattle.stream.specs.Setting.{codeAt, patternAt, codesOf, patternsOf, limitOf};
 ghost use Rattle.stream.specs.Chunk.{chunkBytes, chunkAnswer, chunkCodes};
 use crate::group;
@@ -290,6 +290,54 @@ fn patterns64(codes: &[u64], n: usize, mode: u32, bin: u32, out: &mut [u64])
     }
 }
 
+// Zeros at the front of `out`.
+fn zeros32(n: usize, out: &mut [u32])
+    requires { ⌜ n ≤ length (now out) ⌝ }
+    ensures { λ _. ⌜ now (out .exit) ≡ replicate n 0 ++ drop n (now (out .entry)) ⌝ }
+{
+    let mut i: usize = 0;
+    while i < n {
+        out[i] = 0;
+        i += 1;
+    }
+}
+
+fn zeros64(n: usize, out: &mut [u64])
+    requires { ⌜ n ≤ length (now out) ⌝ }
+    ensures { λ _. ⌜ now (out .exit) ≡ replicate n 0 ++ drop n (now (out .entry)) ⌝ }
+{
+    let mut i: usize = 0;
+    while i < n {
+        out[i] = 0;
+        i += 1;
+    }
+}
+
+// The patterns of the group at the front of `s`. In both modes the code 0 is that of the pattern 0, so a group of no bits is not opened.
+fn group_patterns32(s: &[u8], n: usize, mode: u32, bin: u32, out: &mut [u32])
+    requires { ⌜ (n ≤ 32) × (givenWidth (now s) ≤ 32) × (groupLength n (now s) ≤ length (now s)) × (n ≤ length (now out)) ⌝ }
+    ensures { λ _. ⌜ now (out .exit) ≡ patternsOf 32 mode bin (groupCodes n (now (s .entry))) ++ drop n (now (out .entry)) ⌝ }
+{
+    if s[0] == 0 {
+        zeros32(n, out);
+    } else {
+        let g = group::codes_of(s, n);
+        patterns32(&g.codes, n, mode, bin, out);
+    }
+}
+
+fn group_patterns64(s: &[u8], n: usize, mode: u32, bin: u32, out: &mut [u64])
+    requires { ⌜ (n ≤ 32) × (givenWidth (now s) ≤ 64) × (groupLength n (now s) ≤ length (now s)) × (n ≤ length (now out)) ⌝ }
+    ensures { λ _. ⌜ now (out .exit) ≡ patternsOf 64 mode bin (groupCodes n (now (s .entry))) ++ drop n (now (out .entry)) ⌝ }
+{
+    if s[0] == 0 {
+        zeros64(n, out);
+    } else {
+        let g = group::codes_of(s, n);
+        patterns64(&g.codes, n, mode, bin, out);
+    }
+}
+
 // The values of a good chunk of n values, at the front of `out`.
 pub(crate) fn restored32(s: &[u8], n: usize, mode: u32, bin: u32, out: &mut [u32])
     requires { ⌜ (n ≤ 1024) × (n ≤ length (now out)) × (chunkAnswer 32 (limitOf 32 mode bin) 32 n (now s) ≡ ChunkAnswer.Good) ⌝ }
@@ -300,9 +348,8 @@ pub(crate) fn restored32(s: &[u8], n: usize, mode: u32, bin: u32, out: &mut [u32
     let mut done: usize = 0;
     while 0 < left {
         let count = group_end(0, left);
-        let g = group::codes_of(&s[at..], count);
+        group_patterns32(&s[at..], count, mode, bin, &mut out[done..]);
         at += group_length(&s[at..], count);
-        patterns32(&g.codes, count, mode, bin, &mut out[done..]);
         left -= count;
         done += count;
     }
@@ -317,9 +364,8 @@ pub(crate) fn restored64(s: &[u8], n: usize, mode: u32, bin: u32, out: &mut [u64
     let mut done: usize = 0;
     while 0 < left {
         let count = group_end(0, left);
-        let g = group::codes_of(&s[at..], count);
+        group_patterns64(&s[at..], count, mode, bin, &mut out[done..]);
         at += group_length(&s[at..], count);
-        patterns64(&g.codes, count, mode, bin, &mut out[done..]);
         left -= count;
         done += count;
     }

@@ -4,7 +4,7 @@ use mathlib.Core.Path.{_≡_, refl, sym, ap, ap₂, _∙_}
 use mathlib.Core.Logic.{_⊎_, inl, inr}
 use mathlib.Core.Bool.{Bool, true, false, _||_, cond}
 use Prim.Native.Nat.{ℕ, suc, _+_, _-_, _*_, _/_, _%_, _^_, _≤_, _<_, zero-le}
-use native.Mathlib.Nat.{le-trans, le-of-suc-le-suc, mul-le-mul-right, mod-eq-of-lt, mod-lt, add-comm, div-lt-iff-lt-mul, mod-add-div', two-pow-succ, div-eq-of-lt, le-div-iff-mul-le, one-mul, zero-mul, add-zero, sub-zero, add-mul, div-eq-of-lt-le}
+use native.Mathlib.Nat.{le-trans, le-of-suc-le-suc, mul-le-mul-right, mod-eq-of-lt, mod-lt, add-comm, div-lt-iff-lt-mul, mod-add-div', two-pow-succ, div-eq-of-lt, le-div-iff-mul-le, one-mul, zero-mul, add-zero, sub-zero, add-mul, div-eq-of-lt-le, zero-div}
 use native.Mathlib.Omega.{arith}
 use borrow.Author.Tests.{lt-ltb, le-ltb, le-leb, lt-leb, eq-eqb, ne-eqb}
 use lib.Dec.{leb, ltb, eqb}
@@ -299,3 +299,8 @@ module _ (W m : ℕ) (room : m + 2 ≤ W) where
       let below : s < 2 ^ W = bits-below W some c h in
       rw (rotated-unrotated W some (unstepped W m s) (unstepped-below s below), stepped-unstepped s below, view-of-bits W some c h)
       (folded-unfolded c)
+
+-- the code 0 is that of the pattern 0
+pub restored-zero : (W m : ℕ) → losslessRestored W m 0 ≡ 0
+unfolding losslessRestored unstepped unrotated field unfolded bitsOf
+restored-zero W m = rw (zero-div (2 ^ (m + 1))) (omega (arith, zero-mul (2 ^ (W - 1))))

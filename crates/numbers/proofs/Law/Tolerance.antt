@@ -363,6 +363,12 @@ module _ (W m : ℕ) (room : m + 3 ≤ W) (j : ℕ) (allowed : j ≤ lastBin W m
       let s : c % 2 * 2 ^ (W - 1) ≤ 1 * 2 ^ (W - 1) = mul-le-mul-right (2 ^ (W - 1)) (omega arith) in
       omega (arith, halves, one-mul (2 ^ (W - 1)))
 
+  -- the code 0 is that of the pattern 0
+  pub restored-zero : toleranceRestored W m j 0 ≡ 0
+  unfolding toleranceRestored
+  restored-zero =
+      rw (restored-bins m j 0 (pow-pos m), ordinal-zero m j, mod-eq-of-lt (pow-pos (W - 1))) (omega (arith, zero-mul (2 ^ (W - 1))))
+
   -- ---- there and back
 
   returned : (p : ℕ) → p < 2 ^ W → toleranceRestored W m j (toleranceCode W m j p) ≡ restoredOrdinal m j (magnitudeCode m j (ordinal W p)) + sign W p * 2 ^ (W - 1)

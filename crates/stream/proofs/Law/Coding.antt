@@ -10,11 +10,11 @@ use native.Mathlib.Numerals.{add-one}
 use native.Mathlib.Omega.{arith}
 use lib.Dec.{eqb}
 use lib.Pow.{pow-pos}
-use lib.ListN.{length, take, drop, getD, set, length-map, length-append, length-drop}
+use lib.ListN.{length, take, drop, getD, set, replicate, length-map, length-append, length-drop, length-replicate}
 use lib.Seq.{take-suc, take-suc-set, drop-cons, set-at, length-take-le}
 use Rattle.numbers.specs.Theorem.{Format}
 use Rattle.numbers.specs.Tolerance.{lastBin}
-use Rattle.numbers.proofs.Theorems.{lossless-code-has-W-bits, lossless-pattern-has-W-bits, tolerance-code-has-W-bits, tolerance-pattern-has-W-bits}
+use Rattle.numbers.proofs.Theorems.{lossless-code-has-W-bits, lossless-pattern-has-W-bits, tolerance-code-has-W-bits, tolerance-pattern-has-W-bits, lossless-zero, tolerance-zero}
 use Rattle.stream.specs.Bytes.{Below}
 use Rattle.stream.specs.Setting.{fractionBits, clipped, codeAt, patternAt, codesOf, patternsOf}
 
@@ -47,6 +47,25 @@ one-put f xs base i h l =
     (ap (map f) (ap (λ (k : ℕ). take k xs) (add-one i) ∙ take-suc xs i 0 h) ∙ map-append f (take i xs) (getD xs i 0 ∷ []))
     (ap (λ (k : ℕ). drop k base) (add-one i))
     ∙ append-assoc (map f (take i xs)) (f (getD xs i 0) ∷ []) (drop (suc i) base))
+
+-- the same of zeros
+replicate-snoc : (i : ℕ) (t : List ℕ) → replicate i 0 ++ (0 ∷ t) ≡ replicate (suc i) 0 ++ t
+replicate-snoc zero t = refl
+replicate-snoc (suc i) t = ap (λ (r : List ℕ). 0 ∷ r) (replicate-snoc i t)
+
+pub one-zero : (base : List ℕ) (i : ℕ) → i < length base
+    → set (replicate i 0 ++ drop i base) i 0 ≡ replicate (i + 1) 0 ++ drop (i + 1) base
+one-zero base i h =
+    ap (λ (t : List ℕ). set (replicate i 0 ++ t) i 0) (drop-cons base i 0 h)
+    ∙ set-at (replicate i 0) (getD base i 0) (drop (suc i) base) 0 i (length-replicate i 0)
+    ∙ replicate-snoc i (drop (suc i) base)
+    ∙ ap (λ (k : ℕ). replicate k 0 ++ drop k base) (sym (add-one i))
+
+pub length-zeros : (base : List ℕ) (i : ℕ) → i ≤ length base → length (replicate i 0 ++ drop i base) ≡ length base
+length-zeros base i h =
+    length-append (replicate i 0) (drop i base)
+    ∙ ap₂ _+_ (length-replicate i 0) (length-drop i base)
+    ∙ (let e : i + (length base - i) ≡ length base = omega arith in e)
 
 pub length-put : (f : ℕ → ℕ) (xs base : List ℕ) (i : ℕ) → i ≤ length xs → i ≤ length base → length (map f (take i xs) ++ drop i base) ≡ length base
 length-put f xs base i h l =
@@ -97,6 +116,21 @@ module _ (W : ℕ) (format : Format W (fractionBits W)) (mode bin : ℕ) where
   pattern-under c h =
       either-under (eqb mode 0) _ _ (2 ^ W) (lossless-pattern-has-W-bits W (fractionBits W) format c h)
       (tolerance-pattern-has-W-bits W (fractionBits W) format (clipped W bin) bin-in c)
+
+  -- zeros stand for zeros
+  pattern-zero : patternAt W mode bin 0 ≡ 0
+  unfolding patternAt
+  pattern-zero =
+      go (eqb mode 0) (lossless-zero W (fractionBits W) format) (tolerance-zero W (fractionBits W) format (clipped W bin) bin-in)
+    where
+      go : (b : Bool) {x y : ℕ} → x ≡ 0 → y ≡ 0 → cond b x y ≡ 0
+      go true h l = h
+      go false h l = l
+
+  pub patterns-zero : (n : ℕ) → patternsOf W mode bin (replicate n 0) ≡ replicate n 0
+  unfolding patternsOf
+  patterns-zero zero = refl
+  patterns-zero (suc n) = ap₂ (λ (x : ℕ) (r : List ℕ). x ∷ r) pattern-zero (patterns-zero n)
 
   pub codes-under : (vs : List ℕ) → Below (2 ^ W) vs → Below (2 ^ W) (codesOf W mode bin vs)
   unfolding codesOf

@@ -110,6 +110,11 @@ unfolding digits
 no-bits zero x = refl
 no-bits (suc n) x = ap₂ (λ (y : ℕ) (r : List ℕ). y ∷ r) (mod-one x) (no-bits n (x / 1))
 
+-- so the codes of a group of no bits are zeros
+pub no-codes : (n : ℕ) (s : List ℕ) → getD s 0 0 ≡ 0 → groupCodes n s ≡ replicate n 0
+unfolding groupCodes givenWidth
+no-codes n s e = ap (λ (w : ℕ). digits (2 ^ w) n (groupNumber n s)) e ∙ no-bits n (groupNumber n s)
+
 pub take-replicate : (n m a : ℕ) → n ≤ m → take n (replicate m a) ≡ replicate n a
 take-replicate zero m a h = refl
 take-replicate (suc n) zero a h = absurd (not-suc-le-zero h)

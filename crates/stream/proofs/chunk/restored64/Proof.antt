@@ -1,20 +1,19 @@
 -- `stream::chunk::restored64` meets its contract. The invariant: the values put so far, and those that the bytes left give, are all of them.
-use mathlib.Core.Path.{_≡_, refl, sym, ap, ap₂, _∙_}
+use mathlib.Core.Path.{_≡_, refl, sym, ap, _∙_}
 use mathlib.Core.List.{List, _++_}
-use Prim.Native.Nat.{ℕ, _-_, _+_, _^_, _≤_, min}
+use Prim.Native.Nat.{ℕ, _-_, _+_, _≤_, min}
 use native.Mathlib.Nat.{zero-add, le-trans, le-of-eq}
 use native.Mathlib.Omega.{arith}
-use lib.Dec.{lit<, lit≤}
+use lib.Dec.{lit<}
 use lib.ListN.{length, take, drop}
 use borrow.Author.Needs.{needs}
-use borrow.Rule.Slice.PartMut.{putMid}
-use Rattle.stream.specs.Group.{groupLength, groupCodes}
+use Rattle.stream.specs.Group.{givenWidth, groupLength, groupCodes}
 use Rattle.stream.specs.Setting.{patternsOf, limitOf}
 use Rattle.stream.specs.Chunk.{chunkCodes}
 use Rattle.stream.proofs.Law.Group.{length-codes}
 use Rattle.stream.proofs.Law.Walking.{part-is}
 use Rattle.stream.proofs.Law.Appending.{Appended, nothing-yet, within, same-room, lent-room, one-piece, all-there}
-use Rattle.stream.proofs.Law.Restoring.{Onward, starts-onward, long-enough, part-opens, goes-on, next-patterns, none-restored, length-restored, length-patterns}
+use Rattle.stream.proofs.Law.Restoring.{Onward, starts-onward, next-wide, next-whole, goes-on, next-patterns, none-restored, length-restored, length-patterns}
 use Rattle.stream.proofs.chunk.restored64.Statement.{statement}
 use Rattle.stream.proofs.chunk.restored64.Tie as tie
 
@@ -25,6 +24,47 @@ Inv-loop s n mode bin out₀ left₀ at₀ done₀ out left at done =
 
 abbrev μ-loop : tie.MeasureT-loop
 μ-loop s n mode bin out₀ left₀ at₀ done₀ out left at done = left
+
+-- where the count of the next group is known
+abbrev entry : tie.After-group-end Inv-loop μ-loop → tie.Start Inv-loop μ-loop
+entry c = c .before .before .before .before .before
+
+abbrev turn : tie.After-group-end Inv-loop μ-loop → tie.At-loop Inv-loop μ-loop
+turn c = c .before .before
+
+count-is : (c : tie.After-group-end Inv-loop μ-loop) → c .group-end .result ≡ min 32 (turn c .loop .left)
+count-is c = omega (arith, c .group-end .ensures)
+
+-- the bytes from `at` on, as they are handed on, start with a good group
+group-wide : (c : tie.After-group-end Inv-loop μ-loop) → givenWidth (drop (turn c .loop .at) (entry c .args .s .now)) ≤ 64
+group-wide c =
+    let v = entry c .args in
+    let l = turn c .loop in
+    next-wide 32 (lit< tt) 64 (limitOf 64 (v .mode) (v .bin)) (v .s .now) (l .left) (l .at) (c .group-end .result) (l .inv .1) (c .before .loop-test .taken) (count-is c)
+
+group-whole : (c : tie.After-group-end Inv-loop μ-loop)
+    → groupLength (c .group-end .result) (drop (turn c .loop .at) (entry c .args .s .now)) ≤ length (drop (turn c .loop .at) (entry c .args .s .now))
+group-whole c =
+    let v = entry c .args in
+    let l = turn c .loop in
+    next-whole 32 (lit< tt) 64 (limitOf 64 (v .mode) (v .bin)) (v .s .now) (l .left) (l .at) (c .group-end .result) (l .inv .1) (c .before .loop-test .taken) (count-is c)
+
+-- its bytes, as their number is measured
+bytes-are : (c : tie.After-group-length Inv-loop μ-loop)
+    → c .group-length .result ≡ groupLength (c .before .before .before .before .before .before .before .group-end .result) (drop (turn (c .before .before .before .before .before .before .before) .loop .at) (entry (c .before .before .before .before .before .before .before) .args .s .now))
+bytes-are c =
+    let e = c .before .before .before .before .before .before .before in
+    c .group-length .ensures ∙ ap (groupLength (e .group-end .result)) (part-is (entry e .args .s .now) (turn e .loop .at))
+
+goes : (c : tie.After-group-length Inv-loop μ-loop)
+    → let e = c .before .before .before .before .before .before .before in
+    Onward 32 (lit< tt) 64 (limitOf 64 (entry e .args .mode) (entry e .args .bin)) (entry e .args .s .now)
+    (turn e .loop .left - e .group-end .result) (turn e .loop .at + c .group-length .result)
+goes c =
+    let e = c .before .before .before .before .before .before .before in
+    let v = entry e .args in
+    let l = turn e .loop in
+    goes-on 32 (lit< tt) 64 (limitOf 64 (v .mode) (v .bin)) (v .s .now) (l .left) (l .at) (e .group-end .result) (l .inv .1) (e .before .loop-test .taken) (count-is e) (c .group-length .result) (bytes-are c)
 
 loop-holds : tie.Need-loop-holds Inv-loop μ-loop
 loop-holds c =
@@ -38,116 +78,83 @@ loop-holds c =
 group-end-requires : tie.Need-group-end-requires Inv-loop μ-loop
 group-end-requires c κs = omega arith
 
-sub-codes-of : tie.Need-sub-codes-of Inv-loop μ-loop
-sub-codes-of c = c .before .before .loop .inv .1 .inside
+sub-group-patterns64 : tie.Need-sub-group-patterns64 Inv-loop μ-loop
+sub-group-patterns64 c = turn c .loop .inv .1 .inside
 
-part-codes-of-start : tie.Need-part-codes-of-start Inv-loop μ-loop
-part-codes-of-start c = c .before .before .loop .inv .1 .inside
+part-group-patterns64-start : tie.Need-part-group-patterns64-start Inv-loop μ-loop
+part-group-patterns64-start c = turn c .loop .inv .1 .inside
 
-part-codes-of-end : tie.Need-part-codes-of-end Inv-loop μ-loop
-part-codes-of-end c = search needs
+part-group-patterns64-end : tie.Need-part-group-patterns64-end Inv-loop μ-loop
+part-group-patterns64-end c = search needs
 
-codes-of-requires : tie.Need-codes-of-requires Inv-loop μ-loop
-codes-of-requires c κs =
-    let v = c .before .before .before .before .before .before .args in
-    let s : List ℕ = v .s .now in
-    let l = c .before .before .before .loop in
-    let onward = l .inv .1 in
-    let count = c .before .group-end in
-    let some = c .before .before .loop-test .taken in
-    let is : count .result ≡ min 32 (l .left) = omega (arith, count .ensures) in
-    let opens = part-opens 32 (lit< tt) 64 (limitOf 64 (v .mode) (v .bin)) s (l .left) (l .at) (count .result) onward some is (lit≤ tt) in
-    (omega arith, opens .0, opens .1)
+mul-group-patterns64 : tie.Need-mul-group-patterns64 Inv-loop μ-loop
+mul-group-patterns64 c = omega (arith, turn (c .before) .loop .inv .0, entry (c .before) .pre .0)
+
+sub-group-patterns64-2 : tie.Need-sub-group-patterns64-2 Inv-loop μ-loop
+sub-group-patterns64-2 c = let a = turn (c .before) .loop .inv .2 in omega (arith, within _ _ _ _ _ a, same-room _ _ _ _ _ a, a .room)
+
+part-group-patterns64-start-2 : tie.Need-part-group-patterns64-start-2 Inv-loop μ-loop
+part-group-patterns64-start-2 c = let a = turn (c .before) .loop .inv .2 in omega (arith, within _ _ _ _ _ a, same-room _ _ _ _ _ a, a .room)
+
+part-group-patterns64-end-2 : tie.Need-part-group-patterns64-end-2 Inv-loop μ-loop
+part-group-patterns64-end-2 c = search needs
+
+group-patterns64-requires : tie.Need-group-patterns64-requires Inv-loop μ-loop
+group-patterns64-requires c κs =
+    let e = c .before .before in
+    let l = turn e .loop in
+    let s : List ℕ = entry e .args .s .now in (
+      omega (arith, count-is e),
+      rw (part-is s (l .at)) (group-wide e),
+      rw (part-is s (l .at)) (group-whole e),
+      le-trans (omega (arith, entry e .pre .1, l .inv .0, count-is e)) (le-of-eq (sym (lent-room _ _ _ _ _ (l .inv .2)))),
+    )
 
 sub-group-length : tie.Need-sub-group-length Inv-loop μ-loop
-sub-group-length c = c .before .before .before .before .loop .inv .1 .inside
+sub-group-length c = turn (c .before .before .before .before .before) .loop .inv .1 .inside
 
 part-group-length-start : tie.Need-part-group-length-start Inv-loop μ-loop
-part-group-length-start c = c .before .before .before .before .loop .inv .1 .inside
+part-group-length-start c = turn (c .before .before .before .before .before) .loop .inv .1 .inside
 
 part-group-length-end : tie.Need-part-group-length-end Inv-loop μ-loop
 part-group-length-end c = search needs
 
 group-length-requires : tie.Need-group-length-requires Inv-loop μ-loop
 group-length-requires c κs =
-    let v = c .before .before .before .before .before .before .before .before .args in
-    let s : List ℕ = v .s .now in
-    let l = c .before .before .before .before .before .loop in
-    let onward = l .inv .1 in
-    let count = c .before .before .before .group-end in
-    let some = c .before .before .before .before .loop-test .taken in
-    let is : count .result ≡ min 32 (l .left) = omega (arith, count .ensures) in
-    (omega arith, part-opens 32 (lit< tt) 64 (limitOf 64 (v .mode) (v .bin)) s (l .left) (l .at) (count .result) onward some is (lit≤ tt) .1)
+    let e = c .before .before .before .before .before .before in
+    let s : List ℕ = entry e .args .s .now in
+    (omega (arith, count-is e), rw (part-is s (turn e .loop .at)) (group-whole e))
 
 add-at : tie.Need-add-at Inv-loop μ-loop
-add-at c =
-    let v = c .before .before .before .before .before .before .before .before .before .args in
-    let s : List ℕ = v .s .now in
-    let l = c .before .before .before .before .before .before .loop in
-    let onward = l .inv .1 in
-    let count = c .before .before .before .before .group-end in
-    let some = c .before .before .before .before .before .loop-test .taken in
-    let is : count .result ≡ min 32 (l .left) = omega (arith, count .ensures) in
-    omega (arith, goes-on 32 (lit< tt) 64 (limitOf 64 (v .mode) (v .bin)) s (l .left) (l .at) (count .result) onward some is (c .group-length .result) (c .group-length .ensures ∙ ap (groupLength (count .result)) (part-is s (l .at))) .inside, c .before .before .before .before .before .before .before .before .before .good)
-
-mul-patterns64 : tie.Need-mul-patterns64 Inv-loop μ-loop
-mul-patterns64 c = omega (arith, c .before .before .before .before .before .before .before .before .before .loop .inv .0, c .before .before .before .before .before .before .before .before .before .before .before .before .pre .0)
-
-sub-patterns64 : tie.Need-sub-patterns64 Inv-loop μ-loop
-sub-patterns64 c = let a = c .before .before .before .before .before .before .before .before .before .loop .inv .2 in omega (arith, within _ _ _ _ _ a, same-room _ _ _ _ _ a, a .room)
-
-part-patterns64-start : tie.Need-part-patterns64-start Inv-loop μ-loop
-part-patterns64-start c = let a = c .before .before .before .before .before .before .before .before .before .loop .inv .2 in omega (arith, within _ _ _ _ _ a, same-room _ _ _ _ _ a, a .room)
-
-part-patterns64-end : tie.Need-part-patterns64-end Inv-loop μ-loop
-part-patterns64-end c = search needs
-
-patterns64-requires : tie.Need-patterns64-requires Inv-loop μ-loop
-patterns64-requires c κs =
-    let v = c .before .before .before .before .before .before .before .before .before .before .before .before .before .args in
-    let s : List ℕ = v .s .now in
-    let l = c .before .before .before .before .before .before .before .before .before .before .loop in
-    let onward = l .inv .1 in
-    let count = c .before .before .before .before .before .before .before .before .group-end in
-    let some = c .before .before .before .before .before .before .before .before .before .loop-test .taken in
-    let is : count .result ≡ min 32 (l .left) = omega (arith, count .ensures) in
-    let g = c .before .before .before .before .before .before .codes-of in
-    let codes-are = g .ensures .1 ∙ ap (groupCodes (count .result)) (part-is s (l .at)) in (
-      long-enough (count .result) (g .result .codes) (groupCodes (count .result) (drop (l .at) s)) codes-are (length-codes (count .result) (drop (l .at) s)),
-      le-trans (let a = l .inv .2 in omega (arith, c .before .before .before .before .before .before .before .before .before .before .before .before .before .pre .1, l .inv .0)) (le-of-eq (sym (lent-room _ _ _ _ _ (l .inv .2)))),
-    )
+add-at c = omega (arith, goes c .inside, entry (c .before .before .before .before .before .before .before) .good)
 
 sub-left : tie.Need-sub-left Inv-loop μ-loop
-sub-left c = omega (arith, c .before .before .before .before .before .before .before .before .before .before .before .group-end .ensures)
+sub-left c = omega (arith, count-is (c .before .before .before .before .before .before .before))
 
 add-done : tie.Need-add-done Inv-loop μ-loop
-add-done c = omega (arith, c .before .before .before .before .before .before .before .before .before .before .before .group-end .ensures, c .before .before .before .before .before .before .before .before .before .before .before .before .before .loop .inv .0, c .before .before .before .before .before .before .before .before .before .before .before .before .before .before .before .before .pre .0)
+add-done c = let e = c .before .before .before .before .before .before .before in omega (arith, count-is e, turn e .loop .inv .0, entry e .pre .0)
 
 loop-less : tie.Need-loop-less Inv-loop μ-loop
-loop-less c = omega (arith, c .before .before .before .before .before .before .before .before .before .before .before .group-end .ensures, c .before .before .before .before .before .before .before .before .before .before .before .before .loop-test .taken)
+loop-less c = let e = c .before .before .before .before .before .before .before in omega (arith, count-is e, e .before .loop-test .taken)
 
 loop-again : tie.Need-loop-again Inv-loop μ-loop
 loop-again c =
-    let v = c .before .before .before .before .before .before .before .before .before .before .before .before .before .before .before .before .args in
+    let e = c .before .before .before .before .before .before .before in
+    let v = entry e .args in
     let s : List ℕ = v .s .now in
-    let l = c .before .before .before .before .before .before .before .before .before .before .before .before .before .loop in
-    let onward = l .inv .1 in
-    let count = c .before .before .before .before .before .before .before .before .before .before .before .group-end in
-    let some = c .before .before .before .before .before .before .before .before .before .before .before .before .loop-test .taken in
-    let is : count .result ≡ min 32 (l .left) = omega (arith, count .ensures) in
-    let g = c .before .before .before .before .before .before .before .before .before .codes-of in
-    let k = c .before .before .before .before .before .before .before .group-length .result in
-    let codes-are = g .ensures .1 ∙ ap (groupCodes (count .result)) (part-is s (l .at)) in
-    let call = c .before .before .patterns64 in
-    let more = patternsOf 64 (v .mode) (v .bin) (chunkCodes 32 (l .left - count .result) (drop (l .at + k) s)) in
-    let new = patternsOf 64 (v .mode) (v .bin) (groupCodes (count .result) (drop (l .at) s)) in (
-      omega (arith, l .inv .0, count .ensures, some),
-      goes-on 32 (lit< tt) 64 (limitOf 64 (v .mode) (v .bin)) s (l .left) (l .at) (count .result) onward some is k (c .before .before .before .before .before .before .before .group-length .ensures ∙ ap (groupLength (count .result)) (part-is s (l .at))),
-      one-piece _ _ _ _ _ (l .inv .2) new more (call .last .1 .1 .1 .1 .0) (count .result)
-          (next-patterns 32 (lit< tt) 64 (limitOf 64 (v .mode) (v .bin)) s (l .left) (l .at) (count .result) onward some is (v .mode) (v .bin) k (c .before .before .before .before .before .before .before .group-length .ensures ∙ ap (groupLength (count .result)) (part-is s (l .at))))
-          (sym (length-patterns 64 (v .mode) (v .bin) (groupCodes (count .result) (drop (l .at) s)) ∙ length-codes (count .result) (drop (l .at) s)))
+    let l = turn e .loop in
+    let n = e .group-end .result in
+    let k = c .group-length .result in
+    let call = c .before .before .before .before .group-patterns64 in
+    let new = patternsOf 64 (v .mode) (v .bin) (groupCodes n (drop (l .at) s)) in
+    let more = patternsOf 64 (v .mode) (v .bin) (chunkCodes 32 (l .left - n) (drop (l .at + k) s)) in (
+      omega (arith, l .inv .0, count-is e, e .before .loop-test .taken),
+      goes c,
+      one-piece _ _ _ _ _ (l .inv .2) new more (call .last .1 .1 .1 .1 .0) n
+          (next-patterns 32 (lit< tt) 64 (limitOf 64 (v .mode) (v .bin)) s (l .left) (l .at) n (l .inv .1) (e .before .loop-test .taken) (count-is e) (v .mode) (v .bin) k (bytes-are c))
+          (sym (length-patterns 64 (v .mode) (v .bin) (groupCodes n (drop (l .at) s)) ∙ length-codes n (drop (l .at) s)))
           (call .ensures
-          ∙ ap (λ (cs : List ℕ). patternsOf 64 (v .mode) (v .bin) cs ++ drop (count .result) (take (length (l .out) - l .done) (drop (l .done) (l .out)))) codes-are),
+          ∙ ap (λ (t : List ℕ). patternsOf 64 (v .mode) (v .bin) (groupCodes n t) ++ drop n (take (length (l .out) - l .done) (drop (l .done) (l .out)))) (part-is s (l .at))),
     )
 
 same-length : tie.Need-same-length Inv-loop μ-loop
@@ -172,20 +179,19 @@ restored64-spec =
     μ-loop
     loop-holds
     group-end-requires
-    sub-codes-of
-    part-codes-of-start
-    part-codes-of-end
-    codes-of-requires
+    sub-group-patterns64
+    part-group-patterns64-start
+    part-group-patterns64-end
+    mul-group-patterns64
+    sub-group-patterns64-2
+    part-group-patterns64-start-2
+    part-group-patterns64-end-2
+    group-patterns64-requires
     sub-group-length
     part-group-length-start
     part-group-length-end
     group-length-requires
     add-at
-    mul-patterns64
-    sub-patterns64
-    part-patterns64-start
-    part-patterns64-end
-    patterns64-requires
     sub-left
     add-done
     loop-less
