@@ -2,7 +2,7 @@
 --   Bytes, Words: digits in any base and the numbers that they spell; shifts, masks and sums of words
 --   Group, Exact: a group's bytes, read of written, written of read, and that a reader accepts exactly what was written
 --   LowestFirst: the same bytes bit by bit, as document 01 puts it
---   Width, Writing, Parts, Reading, Checking: what the fast functions do, step by step
+--   Width, Writing, Pairing, Parts, Reading, Checking: what the fast functions do, step by step
 --   Chunk: a chunk's groups, one at a time and whole; Coding: its values and codes, element by element
 --   Stepping, Appending, Walking, Restoring: how far the loops over a chunk have come
 pub mod Bytes
@@ -12,6 +12,7 @@ pub mod Exact
 pub mod LowestFirst
 pub mod Width
 pub mod Writing
+pub mod Pairing
 pub mod Parts
 pub mod Reading
 pub mod Checking

@@ -75,7 +75,7 @@ fn store(out: &mut [u8], at: usize, word: u64)
 }
 
 // The codes in words of 64 bits: each code goes above the bits that are held, and a full word goes out. What does not fill a word is left over.
-fn words(codes: &[u64], w: usize, out: &mut [u8]) -> Rest
+fn words_by_one(codes: &[u64], w: usize, out: &mut [u8]) -> Rest
     requires { ⌜ (w ≤ 64) × Below (2 ^ w) (now codes) × (bytesFor w (length (now codes)) ≤ length (now out)) ⌝ }
     ensures { λ r. ⌜ Partway w (now (out .entry)) (now (codes .entry)) (r .word) (r .fill) (r .at) (now (out .exit)) ⌝ }
 {
@@ -99,6 +99,54 @@ fn words(codes: &[u64], w: usize, out: &mut [u8]) -> Rest
         }
     }
     Rest { word, fill, at }
+}
+
+// Two codes side by side, as one of twice the width.
+fn joined(codes: &[u64], at: usize, w: usize) -> u64
+    requires { ⌜ (at + 2 ≤ length (now codes)) × (w ≤ 32) × Below (2 ^ w) (now codes) ⌝ }
+    ensures { λ r. ⌜ r ≡ number (2 ^ w) (take 2 (drop at (now (codes .entry)))) ⌝ }
+{
+    codes[at] + (codes[at + 1] << w)
+}
+
+// The same of 32 codes that are so narrow that a word holds two: half as many steps.
+fn words_by_two(codes: &[u64], w: usize, out: &mut [u8]) -> Rest
+    requires { ⌜ (length (now codes) ≡ 32) × (w ≤ 32) × Below (2 ^ w) (now codes) × (bytesFor w (length (now codes)) ≤ length (now out)) ⌝ }
+    ensures { λ r. ⌜ Partway w (now (out .entry)) (now (codes .entry)) (r .word) (r .fill) (r .at) (now (out .exit)) ⌝ }
+{
+    let wide = 2 * w;
+    let mut word: u64 = 0;
+    let mut fill: usize = 0;
+    let mut at: usize = 0;
+    let mut i: usize = 0;
+    while i < 16 {
+        let code = joined(codes, 2 * i, w);
+        let room = 64 - fill;
+        let full = word + (code << fill);
+        i += 1;
+        if wide < room {
+            word = full;
+            fill += wide;
+        } else {
+            store(out, at, full);
+            word = (code / 2) >> (room - 1);
+            fill = wide - room;
+            at += 8;
+        }
+    }
+    Rest { word, fill, at }
+}
+
+fn words(codes: &[u64], w: usize, out: &mut [u8]) -> Rest
+    requires { ⌜ (w ≤ 64) × Below (2 ^ w) (now codes) × (bytesFor w (length (now codes)) ≤ length (now out)) ⌝ }
+    ensures { λ r. ⌜ Partway w (now (out .entry)) (now (codes .entry)) (r .word) (r .fill) (r .at) (now (out .exit)) ⌝ }
+{
+    if codes.len() == 32 {
+        if w <= 32 {
+            return words_by_two(codes, w, out);
+        }
+    }
+    words_by_one(codes, w, out)
 }
 
 // The bytes of what is left over, the last one with zero bits above the code's.

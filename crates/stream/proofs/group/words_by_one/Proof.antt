@@ -1,4 +1,4 @@
--- `words` meets its contract. The invariant is `Partway` of the codes passed.
+-- `words_by_one` meets its contract. The invariant is `Partway` of the codes passed.
 -- Assumes nothing.
 use mathlib.Core.Path.{_≡_, refl, _∙_, subst⁻¹}
 use Prim.Native.Nat.{ℕ, _+_, _-_, _^_, _≤_}
@@ -9,8 +9,8 @@ use lib.Seq.{take-suc, take-length, length-take-le}
 use Rattle.stream.specs.Partway.{Partway}
 use Rattle.stream.proofs.Law.Bytes.{below-take}
 use Rattle.stream.proofs.Law.Writing.{started, kept, flushed, word-fits, flush-room}
-use Rattle.stream.proofs.group.words.Statement.{statement}
-use Rattle.stream.proofs.group.words.Tie as tie
+use Rattle.stream.proofs.group.words_by_one.Statement.{statement}
+use Rattle.stream.proofs.group.words_by_one.Tie as tie
 
 abbrev Inv-loop : tie.InvT-loop
 Inv-loop codes w out₀ word₀ fill₀ at₀ i₀ out word fill at i =
@@ -113,8 +113,8 @@ returns c =
     let end : c .before .loop .i ≡ length codes = omega arith in
     rw (← take-length codes, ← end) (c .before .loop .inv .2)
 
-pub words-spec : {M : Type 1} → statement M
-words-spec =
+pub words-by-one-spec : {M : Type 1} → statement M
+words-by-one-spec =
     tie.close
     (tie.spec
     Inv-loop
