@@ -3,7 +3,7 @@
 // The functions at a bin are the solver's inner loop; they take every j, and one past the last counts as the last.
 ghost use mathlib.Core.Path.{_≡_};
 ghost use Prim.Native.Nat.{_+_, _-_, _*_, _^_, _≤_, _<_, min};
-ghost use Rattle.numbers.specs.Tolerance.{lastBin, near, magnitude, magnitudeCode, thresholdOrdinal, ordinalOf, toleranceCode, toleranceRestored, largestU};
+ghost use Rattle.numbers.specs.Tolerance.{lastBin, near, magnitude, magnitudeCode, thresholdOrdinal, restoredOrdinal, toleranceCode, toleranceRestored, largestU};
 ghost use Rattle.numbers.specs.Answers.{binAnswer, codeAnswer, patternAnswer};
 
 // The bin of an exponent k.
@@ -64,6 +64,12 @@ pub(crate) fn clipped64(bin: u32) -> u64
 
 // How far a goes past b.
 fn past32(a: u32, b: u32) -> u32
+    ensures { λ r. ⌜ r ≡ a - b ⌝ }
+{
+    if a < b { 0 } else { a - b }
+}
+
+fn past64(a: u64, b: u64) -> u64
     ensures { λ r. ⌜ r ≡ a - b ⌝ }
 {
     if a < b { 0 } else { a - b }
@@ -135,58 +141,37 @@ pub fn code_at_bin64(bin: u32, p: u64) -> u64
     2 * (o - j * 0x0010_0000_0000_0000) + sign
 }
 
-// The ordinal of u bins: u moves up by j places as far as the significand has room, and the rest goes to the exponent.
+// The ordinal that u restores, on both sides of 2^23 at once: u moves up by j places as far as the significand has room, and the rest goes
+// to the exponent. From 2^23 on there is no room. `some` is 1 unless u is zero.
 fn ordinal_of32(u: u32, j: u32) -> u32
-    requires { ⌜ (u < 2 ^ 23) × (j ≤ lastBin 32 23) ⌝ }
-    ensures { λ o. ⌜ o ≡ ordinalOf 23 (u * 2 ^ j) ⌝ }
+    requires { ⌜ (u < 2 ^ 31) × (j ≤ lastBin 32 23) ⌝ }
+    ensures { λ o. ⌜ o ≡ restoredOrdinal 23 j u ⌝ }
 {
-    if u == 0 {
-        return 0;
-    }
-    let room = u32::leading_zeros(u) - 8;
-    if j <= room {
-        return u << j;
-    }
-    (j - room) * 0x0080_0000 + (u << room)
+    let some = (u + 0x7FFF_FFFF) / 0x8000_0000;
+    let rest = past32(j, past32(u32::leading_zeros(u), 8));
+    some * rest * 0x0080_0000 + (u << (j - rest))
 }
 
 fn ordinal_of64(u: u64, j: u64) -> u64
-    requires { ⌜ (u < 2 ^ 52) × (j ≤ lastBin 64 52) ⌝ }
-    ensures { λ o. ⌜ o ≡ ordinalOf 52 (u * 2 ^ j) ⌝ }
+    requires { ⌜ (u < 2 ^ 63) × (j ≤ lastBin 64 52) ⌝ }
+    ensures { λ o. ⌜ o ≡ restoredOrdinal 52 j u ⌝ }
 {
-    if u == 0 {
-        return 0;
-    }
-    let room = (u64::leading_zeros(u) - 11) as u64;
-    if j <= room {
-        return u << j;
-    }
-    (j - room) * 0x0010_0000_0000_0000 + (u << room)
+    let some = (u + 0x7FFF_FFFF_FFFF_FFFF) / 0x8000_0000_0000_0000;
+    let rest = past64(j, past64(u64::leading_zeros(u) as u64, 11));
+    some * rest * 0x0010_0000_0000_0000 + (u << (j - rest))
 }
 
 // The binary32 pattern of a tolerance code at a bin. Above the largest u the ordinal is cut to 31 bits; `restored32` refuses those.
 pub fn restored_at_bin32(bin: u32, c: u32) -> u32
     ensures { λ p. ⌜ p ≡ toleranceRestored 32 23 (min bin (lastBin 32 23)) c ⌝ }
 {
-    let j = clipped32(bin);
-    let u = c / 2;
-    let sign = c % 2;
-    if u < 0x0080_0000 {
-        return ordinal_of32(u, j) + sign * 0x8000_0000;
-    }
-    (u + j * 0x0080_0000) % 0x8000_0000 + sign * 0x8000_0000
+    ordinal_of32(c / 2, clipped32(bin)) % 0x8000_0000 + c % 2 * 0x8000_0000
 }
 
 pub fn restored_at_bin64(bin: u32, c: u64) -> u64
     ensures { λ p. ⌜ p ≡ toleranceRestored 64 52 (min bin (lastBin 64 52)) c ⌝ }
 {
-    let j = clipped64(bin);
-    let u = c / 2;
-    let sign = c % 2;
-    if u < 0x0010_0000_0000_0000 {
-        return ordinal_of64(u, j) + sign * 0x8000_0000_0000_0000;
-    }
-    (u + j * 0x0010_0000_0000_0000) % 0x8000_0000_0000_0000 + sign * 0x8000_0000_0000_0000
+    ordinal_of64(c / 2, clipped64(bin)) % 0x8000_0000_0000_0000 + c % 2 * 0x8000_0000_0000_0000
 }
 
 // The largest u that a code may have at a bin.

@@ -1,18 +1,17 @@
 -- What the functions of src/tolerance.rt ask and return, once over W and m: each width's proof cites these.
-use mathlib.Core.Path.{_≡_, refl, sym, ap, ap₂, _∙_}
+use mathlib.Core.Path.{_≡_, sym, ap, ap₂, _∙_}
 use mathlib.Core.Logic.{_⊎_, inl, inr}
-use mathlib.Core.Bool.{Bool, true, false}
-use Prim.Native.Nat.{ℕ, zero, suc, _+_, _-_, _*_, _/_, _%_, _^_, _≤_, _<_, min, zero-le}
-use native.Mathlib.Nat.{sub-self, zero-mul, le-of-suc-le-suc, le-div-iff-mul-le, le-trans, lt-of-lt-of-le, le-of-lt, le-of-eq, mul-le-mul-right, mul-le-mul-left, mod-lt, mod-eq-of-lt, div-lt-iff-lt-mul, div-eq-of-lt, one-mul, add-mul, mul-assoc, suc-add, suc-mul, two-pow-succ, mul-div-mul-right, add-comm}
+use Prim.Native.Nat.{ℕ, suc, _+_, _-_, _*_, _/_, _%_, _^_, _≤_, _<_, min}
+use native.Mathlib.Nat.{le-of-suc-le-suc, mod-eq-of-lt, div-lt-iff-lt-mul, div-eq-of-lt, one-mul, add-mul, mul-assoc, suc-add, two-pow-succ, mul-div-mul-right}
 use native.Mathlib.Numerals.{add-one}
 use native.Mathlib.Omega.{arith}
 use lib.Count.{leadingZeros, leading-unique}
 use lib.Pow.{pow-pos, pow-mono, pow-lt, pow-add}
 use lib.Ieee.{size}
 use lib.Ieee.Digits.{size-lt, size-reaches, size-le}
-use Rattle.numbers.specs.Tolerance.{magnitude, ordinalOf, threshold, thresholdOrdinal, near, magnitudeCode, restoredOrdinal, ordinal, sign, toleranceCode, toleranceRestored, largestU, lastBin}
+use Rattle.numbers.specs.Tolerance.{magnitude, thresholdOrdinal, near, ordinal, sign, toleranceCode, lastBin}
 use Rattle.numbers.proofs.Law.Number.{le-or-lt, twice-half, fraction-only, led-by-one}
-use Rattle.numbers.proofs.Law.Tolerance.{below-threshold, from-threshold, code-below, code-from, code-under, restored-bins, restored-above, restored-under, pattern-under, threshold-room, next-bin, significand-led, significand-plain, exponent-some, shiftOf, ordinal-shifted, shifted-below, ordinal-zero, halves, magnitude-plain}
+use Rattle.numbers.proofs.Law.Tolerance.{below-threshold, from-threshold, code-below, code-from, code-under, threshold-room, next-bin, significand-led, halves, magnitude-plain}
 
 -- ---- rounding a significand
 
@@ -107,34 +106,7 @@ module _ (W m : ℕ) (room : m + 3 ≤ W) (j : ℕ) (allowed : j ≤ lastBin W m
     pub rest-code-fits : p < 2 ^ W → 2 * (ordinal W p - j * 2 ^ m) + sign W p < 2 ^ W
     rest-code-fits l = rw code-rest (code-under W m room j allowed p l)
 
-  -- ---- the pattern of a code, by the side of 2 ^ m that its u is on
-
-  bins-small : (u : ℕ) → u < 2 ^ m → ordinalOf m (u * 2 ^ j) < 2 ^ (W - 1)
-  bins-small u h =
-      rw (sym (restored-bins m j u h)) (omega (arith, restored-under m j u h, threshold-room W m room j allowed))
-
-  pub restored-low : (c : ℕ) → c / 2 < 2 ^ m → ordinalOf m (c / 2 * 2 ^ j) + c % 2 * 2 ^ (W - 1) ≡ toleranceRestored W m j c
-  unfolding toleranceRestored
-  restored-low c h =
-      ap (λ (o : ℕ). o + c % 2 * 2 ^ (W - 1))
-      (sym (ap (λ (o : ℕ). o % 2 ^ (W - 1)) (restored-bins m j (c / 2) h) ∙ mod-eq-of-lt (bins-small (c / 2) h)))
-
-  pub low-fits : (c o : ℕ) → c / 2 < 2 ^ m → o ≡ ordinalOf m (c / 2 * 2 ^ j) → o + c % 2 * 2 ^ (W - 1) < 2 ^ W
-  low-fits c o h e = rw (ap (λ (n : ℕ). n + c % 2 * 2 ^ (W - 1)) e ∙ restored-low c h) (pattern-under W m room j allowed c)
-
-  pub restored-high : (c : ℕ) → 2 ^ m ≤ c / 2 → (c / 2 + j * 2 ^ m) % 2 ^ (W - 1) + c % 2 * 2 ^ (W - 1) ≡ toleranceRestored W m j c
-  unfolding toleranceRestored
-  restored-high c h =
-      ap (λ (o : ℕ). o % 2 ^ (W - 1) + c % 2 * 2 ^ (W - 1))
-      (sym (restored-above m j (c / 2) h ∙ (let e : c / 2 - 2 ^ m + thresholdOrdinal m j ≡ c / 2 + j * 2 ^ m = omega (arith, next-bin W m room j allowed) in e)))
-
-  pub high-fits : (c : ℕ) → 2 ^ m ≤ c / 2 → (c / 2 + j * 2 ^ m) % 2 ^ (W - 1) + c % 2 * 2 ^ (W - 1) < 2 ^ W
-  high-fits c h = rw (restored-high c h) (pattern-under W m room j allowed c)
-
-  pub sum-fits : (c : ℕ) → c < 2 ^ W → c / 2 + j * 2 ^ m < 2 ^ W
-  sum-fits c h = omega (arith, bins-fit, halves W m room j allowed)
-
--- ---- leading zeros and the room of a significand
+-- ---- leading zeros and the digits of a number
 
 pub zeros-size : (W a : ℕ) → a < 2 ^ W → leadingZeros W a ≡ W - size a
 zeros-size W a h =
@@ -146,55 +118,3 @@ zeros-size W a h =
     go (inr z) =
         let e : 2 ^ size a ≡ 2 ^ (size a - 1) + 2 ^ (size a - 1) = twice-half (size a) z in
         omega (arith, size-reaches a (size a - 1) (omega arith))
-
-module _ (W m : ℕ) (room : m + 3 ≤ W) (u j : ℕ) (fits : u < 2 ^ m) where
-  wide : u < 2 ^ suc m
-  wide = omega (arith, two-pow-succ m)
-
-  in-word : u < 2 ^ W
-  in-word = lt-of-lt-of-le fits (pow-mono (omega arith))
-
-  pub room-fits : W - suc m ≤ leadingZeros W u
-  room-fits = rw (zeros-size W u in-word) (omega (arith, size-le u m fits))
-
-  room-is : leadingZeros W u - (W - suc m) ≡ suc m - size u
-  room-is = ap (λ (n : ℕ). n - (W - suc m)) (zeros-size W u in-word) ∙ (let e : W - size u - (W - suc m) ≡ suc m - size u = omega (arith, size-le u m fits) in e)
-
-  pub room-small : leadingZeros W u - (W - suc m) < W
-  room-small = rw room-is (omega arith)
-
-  pub nothing-is : u ≡ 0 → 0 ≡ ordinalOf m (u * 2 ^ j)
-  nothing-is e = rw e (sym (ordinal-zero m j))
-
-  module _ (some : 0 < u) where
-    moved : (s : ℕ) → shiftOf m u j ≡ s → ordinalOf m (u * 2 ^ j) ≡ (j - s) * 2 ^ m + u * 2 ^ s
-    moved s e = ordinal-shifted m u j some wide ∙ ap (λ (n : ℕ). (j - n) * 2 ^ m + u * 2 ^ n) e
-
-    in-place : (s : ℕ) → shiftOf m u j ≡ s → u * 2 ^ s % 2 ^ W ≡ u * 2 ^ s
-    in-place s e =
-        mod-eq-of-lt
-        (lt-of-lt-of-le (rw e at (shifted-below m u j some wide)) (pow-mono (let q : suc m ≤ W = omega arith in q)))
-
-    -- all of j goes to the significand
-    pub whole-is : j ≤ leadingZeros W u - (W - suc m) → u * 2 ^ j % 2 ^ W ≡ ordinalOf m (u * 2 ^ j)
-    whole-is h =
-        let e : shiftOf m u j ≡ j = omega (arith, room-is) in
-        in-place j e ∙ sym (moved j e ∙ (let q : (j - j) * 2 ^ m + u * 2 ^ j ≡ u * 2 ^ j = ap (λ (n : ℕ). n * 2 ^ m + u * 2 ^ j) (sub-self j) ∙ omega (arith, zero-mul (2 ^ m)) in q))
-
-    -- the significand is full, and the rest of j goes to the exponent
-    module _ (h : leadingZeros W u - (W - suc m) < j) where
-      shift-is : shiftOf m u j ≡ leadingZeros W u - (W - suc m)
-      shift-is = omega (arith, room-is)
-
-      pub split-is : (j - (leadingZeros W u - (W - suc m))) * 2 ^ m + u * 2 ^ (leadingZeros W u - (W - suc m)) % 2 ^ W ≡ ordinalOf m (u * 2 ^ j)
-      split-is =
-          ap (λ (n : ℕ). (j - (leadingZeros W u - (W - suc m))) * 2 ^ m + n) (in-place (leadingZeros W u - (W - suc m)) shift-is)
-          ∙ sym (moved (leadingZeros W u - (W - suc m)) shift-is)
-
-      pub exponent-fits : j ≤ lastBin W m → (j - (leadingZeros W u - (W - suc m))) * 2 ^ m < 2 ^ W
-      exponent-fits l =
-          let e : (j - (leadingZeros W u - (W - suc m))) * 2 ^ m ≤ j * 2 ^ m = mul-le-mul-right (2 ^ m) (omega arith) in
-          omega (arith, bins-fit W m room j l, halves W m room j l)
-
-      pub split-fits : j ≤ lastBin W m → (j - (leadingZeros W u - (W - suc m))) * 2 ^ m + u * 2 ^ (leadingZeros W u - (W - suc m)) % 2 ^ W < 2 ^ W
-      split-fits l = rw split-is (omega (arith, bins-small W m room j l u fits, halves W m room j l))

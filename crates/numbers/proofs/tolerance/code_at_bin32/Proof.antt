@@ -1,9 +1,9 @@
 -- `numbers::tolerance::code_at_bin32` meets its contract.
 use mathlib.Core.Path.{_≡_, _∙_, ap}
-use Prim.Native.Nat.{ℕ, _+_, _*_, _/_, _^_, min}
+use Prim.Native.Nat.{ℕ, _+_, _*_, _/_, _^_}
 use native.Mathlib.Omega.{arith}
 use lib.Dec.{lit≤}
-use Rattle.numbers.specs.Tolerance.{lastBin, ordinal, sign, toleranceCode}
+use Rattle.numbers.specs.Tolerance.{ordinal, sign, toleranceCode}
 use Rattle.numbers.proofs.Law.Tolerance.{code-under}
 use Rattle.numbers.proofs.Law.Working.{under-last}
 use borrow.Author.Needs.{needs}

@@ -1,24 +1,14 @@
 -- `numbers::tolerance::magnitude_code32` meets its contract.
 use mathlib.Core.Path.{_≡_, ap, ap₂, _∙_}
-use mathlib.Core.Logic.{_⊎_, inl, inr}
-use Prim.Native.Nat.{ℕ, _+_, _*_, _/_, _%_, _^_, _≤_, _<_}
+use Prim.Native.Nat.{ℕ, _+_, _*_, _/_, _%_, _^_}
 use native.Mathlib.Omega.{arith}
 use lib.Dec.{lit≤}
 use Rattle.numbers.specs.Tolerance.{lastBin, near, magnitudeCode, largestU}
-use Rattle.numbers.proofs.Law.Number.{le-or-lt}
 use Rattle.numbers.proofs.Law.Tolerance.{code-largest}
-use Rattle.numbers.proofs.Law.Straight.{code-straight}
+use Rattle.numbers.proofs.Law.Straight.{some-is, code-straight}
 use borrow.Author.Needs.{needs}
 use Rattle.numbers.proofs.tolerance.magnitude_code32.Statement.{statement}
 use Rattle.numbers.proofs.tolerance.magnitude_code32.Tie as tie
-
--- `some` is 1 unless the exponent is zero
-some-is : (e : ℕ) → e < 256 → ((e ≡ 0) × ((e + 255) / 256 ≡ 0)) ⊎ ((0 < e) × ((e + 255) / 256 ≡ 1))
-some-is e h = go (le-or-lt e 0)
-  where
-    go : (e ≤ 0) ⊎ (0 < e) → ((e ≡ 0) × ((e + 255) / 256 ≡ 0)) ⊎ ((0 < e) × ((e + 255) / 256 ≡ 1))
-    go (inl z) = inl (omega arith, omega arith)
-    go (inr z) = inr (z, omega arith)
 
 sum-is : (c : tie.After-past322)
     → c .before .rounded32 .result + c .past322 .result * 2 ^ 23 ≡ magnitudeCode 23 (c .before .before .before .args .j) (c .before .before .before .args .o)
@@ -27,7 +17,7 @@ sum-is c =
     let o = f .args .o in
     let some = (o / 2 ^ 23 + 255) / 256 in
     ap₂ (λ (a b : ℕ). a + b * 2 ^ 23) (c .before .rounded32 .ensures ∙ ap (λ (s : ℕ). near s (some * 2 ^ 23 + o % 2 ^ 23)) (c .before .before .past32 .ensures)) (c .past322 .ensures)
-    ∙ code-straight 23 (f .args .j) o some (some-is (o / 2 ^ 23) (omega (arith, f .pre .1)))
+    ∙ code-straight 23 (f .args .j) o some (some-is 256 (o / 2 ^ 23) (omega (arith, f .pre .1)))
 
 add-some : tie.Need-add-some
 add-some c = search needs

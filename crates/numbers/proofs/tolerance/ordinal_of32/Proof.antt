@@ -1,49 +1,85 @@
 -- `numbers::tolerance::ordinal_of32` meets its contract.
-use native.Mathlib.Nat.{pos-of-ne-zero}
-use native.Mathlib.Omega.{arith}
+use mathlib.Core.Path.{_≡_, ap, _∙_, subst⁻¹}
+use Prim.Native.Nat.{ℕ, _+_, _-_, _*_, _/_, _%_, _^_, _<_}
+use lib.Count.{leadingZeros}
 use lib.Dec.{lit≤}
-use Rattle.numbers.proofs.Law.Working.{nothing-is, room-fits, room-small, whole-is, exponent-fits, split-fits, split-is}
+use Rattle.numbers.specs.Tolerance.{restoredOrdinal}
+use Rattle.numbers.proofs.Law.Straight.{some-is, some-small, restored-straight, restored-fits, exponent-fits, rest-fits, shift-small}
 use borrow.Author.Needs.{needs}
 use Rattle.numbers.proofs.tolerance.ordinal_of32.Statement.{statement}
 use Rattle.numbers.proofs.tolerance.ordinal_of32.Tie as tie
 
-returns : tie.Need-returns
-returns c = nothing-is 32 23 (lit≤ tt) (c .before .args .u) (c .before .args .j) (c .before .pre .0) (c .if1 .taken)
+abbrev entry : tie.After-past322 → tie.Start
+entry c = c .before .before
 
-sub-room : tie.Need-sub-room
-sub-room c = room-fits 32 23 (lit≤ tt) (c .before .args .u) (c .before .args .j) (c .before .pre .0)
+abbrev some : tie.After-past322 → ℕ
+some c = (entry c .args .u + (2 ^ 31 - 1)) / 2 ^ 31
 
-shl-result : tie.Need-shl-result
-shl-result c = omega (arith, room-small 32 23 (lit≤ tt) (c .before .before .args .u) (c .before .before .args .j) (c .before .before .pre .0))
+-- what of j the significand has no room for
+rest-is : (c : tie.After-past322) → c .past322 .result ≡ entry c .args .j - (leadingZeros 32 (entry c .args .u) - (32 - (23 + 1)))
+rest-is c = c .past322 .ensures ∙ ap (λ (n : ℕ). entry c .args .j - n) (c .before .past32 .ensures)
 
-returns-2 : tie.Need-returns-2
-returns-2 c = whole-is 32 23 (lit≤ tt) (c .before .before .args .u) (c .before .before .args .j) (c .before .before .pre .0) (pos-of-ne-zero (c .before .if1 .left)) (c .if2 .taken)
+sum-is : (c : tie.After-past322)
+    → some c * c .past322 .result * 2 ^ 23 + entry c .args .u * 2 ^ (entry c .args .j - c .past322 .result) % 2 ^ 32 ≡ restoredOrdinal 23 (entry c .args .j) (entry c .args .u)
+sum-is c =
+    let f = entry c in
+    let a = f .args in
+    ap (λ (r : ℕ). some c * r * 2 ^ 23 + a .u * 2 ^ (a .j - r) % 2 ^ 32) (rest-is c)
+    ∙ restored-straight 32 23 (lit≤ tt) (a .u) (a .j) (f .pre .0) (f .pre .1) (some c) (some-is (2 ^ 31) (a .u) (f .pre .0))
+
+add-some : tie.Need-add-some
+add-some c = search needs
+
+past32-requires : tie.Need-past32-requires
+past32-requires c κs = search needs
+
+past32-requires-2 : tie.Need-past32-requires-2
+past32-requires-2 c κs = search needs
+
+mul-result : tie.Need-mul-result
+mul-result c =
+    let f = entry c in
+    let a = f .args in
+    record {
+      fits = subst⁻¹ (λ (r : ℕ). some c * r < 2 ^ 32) (rest-is c)
+          (rest-fits 32 23 (lit≤ tt) (a .u) (a .j) (f .pre .0) (f .pre .1) (some c) (some-small (some-is (2 ^ 31) (a .u) (f .pre .0))));
+    }
+
+mul-result-2 : tie.Need-mul-result-2
+mul-result-2 c =
+    let f = entry c in
+    let a = f .args in
+    record {
+      fits = subst⁻¹ (λ (r : ℕ). some c * r * 2 ^ 23 < 2 ^ 32) (rest-is c)
+          (exponent-fits 32 23 (lit≤ tt) (a .u) (a .j) (f .pre .0) (f .pre .1) (some c) (some-small (some-is (2 ^ 31) (a .u) (f .pre .0))));
+    }
 
 sub-result : tie.Need-sub-result
 sub-result c = search needs
 
-mul-result : tie.Need-mul-result
-mul-result c = record { fits = exponent-fits 32 23 (lit≤ tt) (c .before .before .args .u) (c .before .before .args .j) (c .before .before .pre .0) (pos-of-ne-zero (c .before .if1 .left)) (c .if2 .left) (c .before .before .pre .1) }
-
-shl-result-2 : tie.Need-shl-result-2
-shl-result-2 c = room-small 32 23 (lit≤ tt) (c .before .before .args .u) (c .before .before .args .j) (c .before .before .pre .0)
+shl-result : tie.Need-shl-result
+shl-result c =
+    let f = entry c in
+    subst⁻¹ (λ (r : ℕ). f .args .j - r < 32) (rest-is c) (shift-small 32 23 (lit≤ tt) (f .args .u) (f .args .j) (f .pre .0) (f .pre .1))
 
 add-result : tie.Need-add-result
-add-result c = record { fits = split-fits 32 23 (lit≤ tt) (c .before .before .args .u) (c .before .before .args .j) (c .before .before .pre .0) (pos-of-ne-zero (c .before .if1 .left)) (c .if2 .left) (c .before .before .pre .1) }
+add-result c =
+    let f = entry c in
+    record { fits = rw (sum-is c) (restored-fits 32 23 (lit≤ tt) (f .args .u) (f .args .j) (f .pre .0) (f .pre .1)) }
 
-returns-3 : tie.Need-returns-3
-returns-3 c = split-is 32 23 (lit≤ tt) (c .before .before .args .u) (c .before .before .args .j) (c .before .before .pre .0) (pos-of-ne-zero (c .before .if1 .left)) (c .if2 .left)
+returns : tie.Need-returns
+returns c = sum-is c
 
 pub ordinal-of32-spec : {M : Type 1} → statement M
 ordinal-of32-spec =
     tie.close
     (tie.spec
-    returns
-    sub-room
-    shl-result
-    returns-2
-    sub-result
+    add-some
+    past32-requires
+    past32-requires-2
     mul-result
-    shl-result-2
+    mul-result-2
+    sub-result
+    shl-result
     add-result
-    returns-3)
+    returns)
