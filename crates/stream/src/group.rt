@@ -366,13 +366,33 @@ fn limited(codes: &[u64], limit: u64) -> bool
     true
 }
 
-// The same of a group's codes, which are taken out only where w bits can hold a u above the limit.
+// The same of a group's codes where they stand, if the bytes go on far enough for the loads of every code.
+fn limited_in_place(s: &[u8], n: usize, w: usize, limit: u64) -> bool
+    requires { ⌜ (n ≤ 32) × (1 ≤ w) × (w ≤ 64) × (w ≡ givenWidth (now s)) × (w * n / 8 + 10 ≤ length (now s)) ⌝ }
+    ensures { λ r. ⌜ r ≡ within limit (groupCodes n (now (s .entry))) ⌝ }
+{
+    let mut bit: usize = 8;
+    let mut i: usize = 0;
+    while i < n {
+        if limit < code_at(s, bit, w) / 2 {
+            return false;
+        }
+        bit += w;
+        i += 1;
+    }
+    true
+}
+
+// The same of a group's codes, which are looked at only where w bits can hold a u above the limit.
 fn allowed(s: &[u8], n: usize, w: usize, limit: u64) -> bool
     requires { ⌜ (n ≤ 32) × (1 ≤ w) × (w ≤ 64) × (w ≡ givenWidth (now s)) × (groupLength n (now s) ≤ length (now s)) ⌝ }
     ensures { λ r. ⌜ r ≡ within limit (groupCodes n (now (s .entry))) ⌝ }
 {
     if (1 << (w - 1)) - 1 <= limit {
         return true;
+    }
+    if w * n / 8 + 10 <= s.len() {
+        return limited_in_place(s, n, w, limit);
     }
     let g = codes_of(s, n);
     limited(first(&g.codes, n), limit)

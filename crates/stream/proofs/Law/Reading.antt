@@ -12,7 +12,7 @@ use lib.Pow.{pow-pos, pow-add, shr-shr, shr-lt, mod-mod-pow}
 use lib.Seq.{take-add, take-suc, take-suc-set, drop-cons, drop-drop, length-take-le, set-at, append-snoc}
 use Rattle.stream.specs.Bytes.{Below, number, digits}
 use Rattle.stream.specs.Group.{bytesFor, givenWidth, groupNumber, groupCodes}
-use Rattle.stream.proofs.Law.Bytes.{byte, number-append, number-part, number-at, digits-mod, digits-snoc}
+use Rattle.stream.proofs.Law.Bytes.{byte, number-append, number-part, number-at, digits-mod, digits-snoc, digit-at}
 use Rattle.stream.proofs.Law.Group.{bytes-hold}
 use Rattle.stream.proofs.Law.Words.{pow-pow, bit-place, field-in-word, field-past-word, masked, join-low}
 
@@ -94,6 +94,15 @@ codes-from n s bytes =
     ∙ ap₂ (λ (p q : ℕ). M % p % q) (pow-pow 2 8 (bytesFor w n) ∙ ap (λ (x : ℕ). 2 ^ x) (sym (sub-add-cancel (bytes-hold w n)))) (pow-pow 2 w n)
     ∙ mod-mod-pow M k (w * n) ∙ ap (λ (p : ℕ). M % p) (sym (pow-pow 2 w n)))
     ∙ digits-mod (2 ^ w) (pow-pos w) n M
+
+-- the code at an index, by its first bit
+pub code-at-bit : (n : ℕ) (s : List ℕ) → Below 256 s → (i : ℕ) → i < n
+    → getD (groupCodes n s) i 0 ≡ number 256 s / 2 ^ (8 + givenWidth s * i) % 2 ^ givenWidth s
+code-at-bit n s bytes i h =
+    let w : ℕ = givenWidth s in
+    ap (λ (l : List ℕ). getD l i 0) (codes-from n s bytes)
+    ∙ digit-at (2 ^ w) (pow-pos w) n (number 256 s / 256) i h
+    ∙ ap (λ (x : ℕ). x % 2 ^ w) (ap (λ (p : ℕ). number 256 s / 256 / p) (pow-pow 2 w i) ∙ shr-shr (number 256 s) 8 (w * i))
 
 pub one-code : (s codes : List ℕ) (w i : ℕ) → i < length codes → take i codes ≡ digits (2 ^ w) i (number 256 s / 256)
     → take (i + 1) (set codes i (number 256 s / 2 ^ (8 + w * i) % 2 ^ w)) ≡ digits (2 ^ w) (i + 1) (number 256 s / 256)

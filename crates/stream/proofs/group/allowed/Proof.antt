@@ -3,6 +3,8 @@
 use mathlib.Core.Path.{sym, ap, _∙_, subst⁻¹}
 use mathlib.Core.List.{List}
 use Prim.Native.Nat.{ℕ, _-_, _^_}
+use native.Mathlib.Nat.{mul-le-mul}
+use native.Mathlib.Omega.{arith}
 use lib.Pow.{pow-pos}
 use Rattle.stream.specs.Bytes.{Below}
 use Rattle.stream.specs.Group.{within, groupCodes}
@@ -31,6 +33,18 @@ returns c =
     (narrow-limited (a .w) (a .limit) cs (f .pre .1) (subst⁻¹ (λ (w : ℕ). Below (2 ^ w) cs) (f .pre .3) (codes-below (a .n) (a .s .now)))
     (rw (high-one (a .w) (f .pre .1) (f .pre .2)) at (c .if1 .taken))))
 
+mul-if2 : tie.Need-mul-if2
+mul-if2 c = let f = c .before .before in omega (arith, mul-le-mul (f .pre .2) (f .pre .0))
+
+add-if2 : tie.Need-add-if2
+add-if2 c = let f = c .before .before in omega (arith, mul-le-mul (f .pre .2) (f .pre .0))
+
+limited-in-place-requires : tie.Need-limited-in-place-requires
+limited-in-place-requires c κs = search needs
+
+returns-2 : tie.Need-returns-2
+returns-2 c = search needs
+
 codes-of-requires : tie.Need-codes-of-requires
 codes-of-requires c κs = search needs
 
@@ -40,9 +54,9 @@ first-requires c κs = search needs
 limited-requires : tie.Need-limited-requires
 limited-requires c κs = search needs
 
-returns-2 : tie.Need-returns-2
-returns-2 c =
-    let f = c .before .before .before .before .before .before .before .before in
+returns-3 : tie.Need-returns-3
+returns-3 c =
+    let f = c .before .before .before .before .before .before .before .before .before in
     c .limited .ensures ∙ ap (within (f .args .limit)) (c .before .first .ensures ∙ c .before .before .before .before .before .codes-of .ensures .1)
 
 pub allowed-spec : {M : Type 1} → statement M
@@ -53,7 +67,11 @@ allowed-spec =
     shl-if1
     sub-if1-2
     returns
+    mul-if2
+    add-if2
+    limited-in-place-requires
+    returns-2
     codes-of-requires
     first-requires
     limited-requires
-    returns-2)
+    returns-3)
