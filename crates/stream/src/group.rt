@@ -120,16 +120,16 @@ fn words_by_two(codes: &[u64], w: usize, out: &mut [u8]) -> Rest
     let mut at: usize = 0;
     let mut i: usize = 0;
     while i < 16 {
-        let code = joined(codes, 2 * i, w);
+        let both = joined(codes, 2 * i, w);
         let room = 64 - fill;
-        let full = word + (code << fill);
+        let full = word + (both << fill);
         i += 1;
         if wide < room {
             word = full;
             fill += wide;
         } else {
             store(out, at, full);
-            word = (code / 2) >> (room - 1);
+            word = (both / 2) >> (room - 1);
             fill = wide - room;
             at += 8;
         }
