@@ -9,7 +9,7 @@ use lib.IntN.{ℤ, negsuc}
 use lib.Ieee as Ieee
 use Rattle.numbers.specs.Signed.{signedView, folded, unfolded, bitsOf}
 use Rattle.numbers.specs.Lossless.{rotated, field, minus, lowered, stepped, losslessCode, plus, raised, unstepped, unrotated, losslessRestored}
-use Rattle.numbers.specs.Tolerance.{leastK, lastBin, binOf, sign, ordinal, significand, magnitude, ordinalOf, threshold, thresholdOrdinal, near, magnitudeCode, toleranceCode, restoredOrdinal, toleranceRestored}
+use Rattle.numbers.specs.Tolerance.{kOffset, lastBin, binOf, sign, ordinal, significand, magnitude, ordinalOf, threshold, thresholdOrdinal, near, magnitudeCode, toleranceCode, restoredOrdinal, toleranceRestored}
 
 -- the rows for which a test fails
 wrong : {A : Type 0} → (A → Bool) → List A → List A
@@ -43,7 +43,7 @@ lossless-known = refl
 -- ---- tolerance: width, fraction bits, k, pattern, code, pattern restored
 
 toleranceRight : ℕ × ℕ × ℤ × ℕ × ℕ × ℕ → Bool
-unfolding leastK binOf sign ordinal significand magnitude ordinalOf threshold thresholdOrdinal near magnitudeCode toleranceCode restoredOrdinal toleranceRestored Ieee.size
+unfolding kOffset binOf sign ordinal significand magnitude ordinalOf threshold thresholdOrdinal near magnitudeCode toleranceCode restoredOrdinal toleranceRestored Ieee.size
 toleranceRight r =
     let j = binOf (r .0) (r .1) (r .2) in
     eqb (toleranceCode (r .0) (r .1) j (r .3)) (r .4) && eqb (toleranceRestored (r .0) (r .1) j (r .4)) (r .5)
@@ -86,8 +86,8 @@ sleek-known = refl
 -- ---- the limits that document 01 states in numbers: the smallest k, the largest j, and the largest k as their difference
 
 limitsRight : ℕ × ℕ × ℕ × ℕ → Bool
-unfolding leastK lastBin
-limitsRight r = eqb (leastK (r .0) (r .1)) (r .2) && eqb (lastBin (r .0) (r .1)) (r .2 + r .3)
+unfolding kOffset lastBin
+limitsRight r = eqb (kOffset (r .0) (r .1)) (r .2) && eqb (lastBin (r .0) (r .1)) (r .2 + r .3)
 
 -- -150..103 and -1075..970
 limitsRows : List (ℕ × ℕ × ℕ × ℕ)

@@ -1,8 +1,8 @@
 -- The theorems of the number rules, each stated once over the width W and the fraction bits m, and at the end for binary32 and binary64.
 -- The proofs are citations of the laws in proofs/Law/. The words are those of specs/.
-use mathlib.Core.Path.{_≡_, refl, sym, ap, ap₂, _∙_}
-use mathlib.Core.Bool.{Bool, true, false, cond}
-use Prim.Native.Nat.{ℕ, suc, _+_, _-_, _*_, _/_, _%_, _^_, _≤_, _<_}
+use mathlib.Core.Path.{_≡_, refl, sym, ap, _∙_}
+use mathlib.Core.Bool.{true, false, cond}
+use Prim.Native.Nat.{ℕ, _+_, _-_, _*_, _/_, _%_, _^_, _≤_, _<_}
 use native.Mathlib.Nat.{mod-lt}
 use native.Mathlib.Omega.{arith}
 use lib.Dec.{leb, eqb, lit<, lit≤}
@@ -13,7 +13,7 @@ use lib.Ieee.Exact.{HasValue}
 use Rattle.numbers.specs.declared.tolerance.BinAnswer.the-variants.{Bin, NotAllowed}
 use Rattle.numbers.specs.declared.bound.BoundAnswer.the-variants.{Exponent, NoTolerance, TooSmall}
 use Rattle.numbers.specs.Lossless.{losslessCode, losslessRestored}
-use Rattle.numbers.specs.Tolerance.{leastK, lastBin, allowedK, binOf, sign, ordinal, magnitude, threshold, magnitudeCode, restoredOrdinal, toleranceCode, toleranceRestored, largestU}
+use Rattle.numbers.specs.Tolerance.{kOffset, lastBin, allowedK, binOf, sign, ordinal, magnitude, restoredOrdinal, toleranceCode, toleranceRestored, largestU}
 use Rattle.numbers.specs.Answers.{binAnswer}
 use Rattle.numbers.specs.Bound.{isTolerance, notAbove, boundAt}
 use Rattle.numbers.specs.Theorem.{Format, distance, Within, IsBound}
@@ -27,15 +27,15 @@ use Rattle.numbers.proofs.Law.Ieee as Ieee
 -- ---- the widths: binary32 and binary64, and binary16 by its numbers alone
 
 pub format-32 : Format 32 23
-unfolding leastK lastBin
+unfolding kOffset lastBin
 format-32 = record { room = lit≤ tt; least = lit< tt; order = lit≤ tt }
 
 pub format-64 : Format 64 52
-unfolding leastK lastBin
+unfolding kOffset lastBin
 format-64 = record { room = lit≤ tt; least = lit< tt; order = lit≤ tt }
 
 pub format-16 : Format 16 10
-unfolding leastK lastBin
+unfolding kOffset lastBin
 format-16 = record { room = lit≤ tt; least = lit< tt; order = lit≤ tt }
 
 -- ---- the answers of `bin32` and `bin64`: the bin of an allowed k, or none

@@ -1,6 +1,6 @@
 -- What the library answers, case by case, and document 01's number of each case. 0 is success.
 use Prim.Native.Nat.{ℕ, _/_}
-use mathlib.Core.Bool.{Bool, cond}
+use mathlib.Core.Bool.{cond}
 use lib.Dec.{leb}
 use lib.IntN.{ℤ}
 use Rattle.numbers.specs.declared.tolerance.BinAnswer.{BinAnswer}

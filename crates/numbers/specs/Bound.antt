@@ -5,7 +5,7 @@ use lib.Dec.{leb, ltb, eqb}
 use lib.IntN.{ℤ, pos, subℕ}
 use Rattle.numbers.specs.declared.bound.BoundAnswer.{BoundAnswer}
 use Rattle.numbers.specs.declared.bound.BoundAnswer.the-variants.{Exponent, UnknownWidth, NoTolerance, TooSmall}
-use Rattle.numbers.specs.Tolerance.{leastK, lastBin, magnitude}
+use Rattle.numbers.specs.Tolerance.{kOffset, lastBin, magnitude}
 
 -- "a finite number above 0": above the pattern of 0 and below that of infinity, behind which come the not-a-numbers and all negatives
 unfoldable pub isTolerance : ℕ → Bool
@@ -13,11 +13,11 @@ isTolerance t = ltb 0 t && ltb t (2047 * 2 ^ 52)
 
 -- the k of a bin, at the width W: the difference j - (its smallest k without the sign), a signed number
 unfoldable pub exponentOf : ℕ → ℕ → ℕ → ℤ
-exponentOf W m j = subℕ j (leastK W m)
+exponentOf W m j = subℕ j (kOffset W m)
 
 -- "2^k not above it", for the k of the bin j. Both sides count in 2^-1075, half the smallest binary64 number: there 2^k is 2 ^ (k + 1075).
 unfoldable pub notAbove : ℕ → ℕ → ℕ → ℕ → Bool
-notAbove W m t j = leb (2 ^ (j + (leastK 64 52 - leastK W m))) (2 * magnitude 52 t)
+notAbove W m t j = leb (2 ^ (j + (kOffset 64 52 - kOffset W m))) (2 * magnitude 52 t)
 
 -- the largest of the bins 0 to n whose 2^k is not above t: tried from n down
 unfoldable pub largestUpTo : ℕ → ℕ → ℕ → ℕ → BoundAnswer

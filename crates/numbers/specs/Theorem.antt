@@ -4,14 +4,14 @@ use mathlib.Core.Bool.{true}
 use Prim.Native.Nat.{ℕ, _+_, _-_, _*_, _^_, _≤_, _<_}
 use lib.IntN.{ℤ}
 use lib.Signed.{_≤ℤ_}
-use Rattle.numbers.specs.Tolerance.{leastK, lastBin, allowedK, binOf, sign, ordinal, magnitude, threshold}
+use Rattle.numbers.specs.Tolerance.{kOffset, lastBin, allowedK, binOf, sign, ordinal, magnitude, threshold}
 use Rattle.numbers.specs.Bound.{notAbove}
 
 -- What is asked of a width W with m fraction bits: the sign and two exponent bits, a smallest k below 0, and a largest k that is not.
 pub record Format (W m : ℕ) : Type 0 where
   pub room : m + 3 ≤ W
-  pub least : 0 < leastK W m
-  pub order : leastK W m ≤ lastBin W m
+  pub least : 0 < kOffset W m
+  pub order : kOffset W m ≤ lastBin W m
 
 -- how far two magnitudes are apart: one of the two differences is 0
 unfoldable pub distance : ℕ → ℕ → ℕ

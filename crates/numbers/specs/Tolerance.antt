@@ -1,18 +1,19 @@
 -- Document 01, "Tolerance code (mode 1)". W is the width and m the number of fraction bits.
 -- "Distances are stated over whole numbers: finite values count in units of 2^-149 or 2^-1074." In that unit the bin E = 2^(k+1)
 -- is 2 ^ j with j = k + 150 (k + 1075), a natural number for every allowed k. The definitions use j, and k meets them at `binOf`.
-use Prim.Native.Nat.{ℕ, suc, _+_, _-_, _*_, _/_, _%_, _^_, min}
-use mathlib.Core.Bool.{Bool, true, false, _&&_, cond}
-use lib.Dec.{leb, ltb, eqb}
-use lib.IntN.{ℤ, pos, negsuc, negℤ, natAbs, subℕ, _+ℤ_}
+use Prim.Native.Nat.{ℕ, suc, _+_, _-_, _*_, _/_, _%_, _^_}
+use mathlib.Core.Bool.{Bool, _&&_, cond}
+use lib.Dec.{ltb, eqb}
+use lib.IntN.{ℤ, pos, negℤ, natAbs, subℕ, _+ℤ_}
 use lib.Signed.{leZ}
 use lib.Ieee.{size}
 
 -- ---- the allowed k
 
--- The smallest allowed k is -150 for width 32 and -1075 for width 64: half of the smallest number above 0.
-unfoldable pub leastK : ℕ → ℕ → ℕ
-leastK W m = 2 ^ (W - 2 - m) + m - 1
+-- What is added to k to count from the smallest allowed one, which is -150 for width 32 and -1075 for width 64: half of the smallest
+-- number above 0.
+unfoldable pub kOffset : ℕ → ℕ → ℕ
+kOffset W m = 2 ^ (W - 2 - m) + m - 1
 
 -- The largest j: 253 and 2045, so that the largest k is 103 and 970. Above it T would be no finite number.
 unfoldable pub lastBin : ℕ → ℕ → ℕ
@@ -20,11 +21,11 @@ lastBin W m = 2 ^ (W - 1 - m) - 3
 
 -- "Allowed k: -150..103 for width 32, -1075..970 for width 64."
 unfoldable pub allowedK : ℕ → ℕ → ℤ → Bool
-allowedK W m k = leZ (negℤ (pos (leastK W m))) k && leZ k (subℕ (lastBin W m) (leastK W m))
+allowedK W m k = leZ (negℤ (pos (kOffset W m))) k && leZ k (subℕ (lastBin W m) (kOffset W m))
 
 -- j of an allowed k: E is 2 ^ j units
 unfoldable pub binOf : ℕ → ℕ → ℤ → ℕ
-binOf W m k = natAbs (k +ℤ pos (leastK W m))
+binOf W m k = natAbs (k +ℤ pos (kOffset W m))
 
 -- ---- what a pattern stands for
 

@@ -7,7 +7,7 @@ use lib.IntN.{negsuc}
 use lib.Ieee.{size}
 use lib.ListN.{replicate}
 use Rattle.numbers.specs.Signed.{signedView, folded}
-use Rattle.numbers.specs.Tolerance.{leastK, lastBin, binOf, largestU}
+use Rattle.numbers.specs.Tolerance.{kOffset, lastBin, binOf, largestU}
 use Rattle.numbers.specs.Lossless.{rotated, field, minus, lowered, stepped, losslessCode}
 use Rattle.stream.specs.Bytes.{number, digits}
 use Rattle.stream.specs.Group.{bytesFor, largest, widthOf, packed, groupBytes, givenWidth, groupLength, groupNumber, groupCodes, within, goodGroup}
@@ -46,7 +46,7 @@ rows =
     ∷ []
 
 rules : rows ≡ true ∷ true ∷ false ∷ false ∷ false ∷ false ∷ false ∷ []
-unfolding rows mostU limitOf binFor clipped fractionBits binOf leastK lastBin largestU goodGroup within givenWidth groupLength groupNumber groupCodes groupBytes widthOf largest packed bytesFor digits number size
+unfolding rows mostU limitOf binFor clipped fractionBits binOf kOffset lastBin largestU goodGroup within givenWidth groupLength groupNumber groupCodes groupBytes widthOf largest packed bytesFor digits number size
 rules = refl
 
 -- the list itself, coded losslessly, as a chunk

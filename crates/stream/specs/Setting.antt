@@ -1,6 +1,6 @@
 -- Document 01, "Levels", and what a setting (width, mode, k) says of codes. The number rules are those of the library `numbers`.
 use Prim.Native.Nat.{ℕ, _-_, _^_, min, max}
-use mathlib.Core.Bool.{Bool, true, false, _&&_, _||_, cond}
+use mathlib.Core.Bool.{Bool, false, _&&_, _||_, cond}
 use mathlib.Core.List.{List, map}
 use lib.Dec.{leb, eqb}
 use lib.IntN.{ℤ, pos, negsuc}

@@ -1,7 +1,7 @@
 -- Document 01, "The stream", from the writer's side: the bytes of a list of values, W bits wide, at a level and a setting (mode, k); whole,
 -- with side parts behind it, and half written.
 use mathlib.Core.Path.{_≡_}
-use Prim.Native.Nat.{ℕ, suc, _+_, _-_, _*_, _^_, _≤_, _<_}
+use Prim.Native.Nat.{ℕ, suc, _+_, _-_, _*_, _^_, _≤_}
 use mathlib.Core.Bool.{Bool, true, _&&_}
 use mathlib.Core.List.{List, [], _∷_, _++_}
 use lib.Dec.{leb}

@@ -5,7 +5,7 @@ ghost use mathlib.Core.List.{List, [], _∷_, _++_};
 ghost use Prim.Native.Nat.{ℕ, _+_, _-_, _*_, _≤_, _<_, min};
 ghost use lib.ListN.{length, take, drop, getD, replicate};
 ghost use Rattle.stream.specs.Bytes.{digits};
-ghost use Rattle.stream.specs.Setting.{knownWidth, need, allowedSetting};
+ghost use Rattle.stream.specs.Setting.{knownWidth, allowedSetting};
 ghost use Rattle.stream.specs.Header.{chunksIn};
 ghost use Rattle.stream.specs.Rows.{first};
 ghost use Rattle.stream.specs.Writing.{spell, piece, dataOf, headerNumbers, endOf, stream, unfinished};

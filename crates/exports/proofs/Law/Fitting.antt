@@ -11,9 +11,7 @@ use mir.Facts.{toZ-ofZ}
 use Rattle.numbers.specs.Tolerance.{allowedK, binOf, toleranceCode, toleranceRestored, largestU}
 use Rattle.numbers.specs.Answers.{codeAnswer, patternAnswer}
 use Rattle.numbers.specs.Theorem.{Format}
-use Rattle.numbers.specs.declared.tolerance.CodeAnswer.{CodeAnswer}
 use Rattle.numbers.specs.declared.tolerance.CodeAnswer.the-variants as code
-use Rattle.numbers.specs.declared.tolerance.PatternAnswer.{PatternAnswer}
 use Rattle.numbers.specs.declared.tolerance.PatternAnswer.the-variants as pattern
 use Rattle.numbers.proofs.Law.Answers.{bin-small}
 use Rattle.numbers.proofs.Theorems.{tolerance-code-has-W-bits, tolerance-pattern-has-W-bits}

@@ -7,7 +7,7 @@ use native.Mathlib.Omega.{arith}
 use lib.Dec.{ltb, eqb, lit<, lit≤}
 use lib.IntN.{ℤ, pos, negsuc, subℕ}
 use Rattle.numbers.specs.Signed.{signedView, folded, bitsOf}
-use Rattle.numbers.specs.Tolerance.{leastK, lastBin, binOf}
+use Rattle.numbers.specs.Tolerance.{kOffset, lastBin, binOf}
 use Rattle.numbers.specs.Bound.{exponentOf, boundAt, boundAnswer, boundNumber, boundDetail}
 use Rattle.numbers.specs.Theorem.{Format}
 use Rattle.numbers.specs.declared.bound.BoundAnswer.{BoundAnswer}
@@ -56,7 +56,7 @@ difference-folded a b h l = go (ltb a b)
     go true = omega arith
     go false = omega arith
 
-module _ (W m : ℕ) (format : Format W m) (last : lastBin W m < 2 ^ 31) (least : leastK W m ≤ 2 ^ 31) (t : ℕ) where
+module _ (W m : ℕ) (format : Format W m) (last : lastBin W m < 2 ^ 31) (least : kOffset W m ≤ 2 ^ 31) (t : ℕ) where
   folded-at : folded (boundDetail (boundAt W m t)) < 2 ^ 32
   unfolding boundDetail folded exponentOf
   folded-at = go (boundAt W m t) refl
@@ -64,13 +64,13 @@ module _ (W m : ℕ) (format : Format W m) (last : lastBin W m < 2 ^ 31) (least 
       go : (a : BoundAnswer) → boundAt W m t ≡ a → folded (boundDetail a) < 2 ^ 32
       go (Exponent k) e =
           let allowed = bound-is-the-largest W m format t k e .allowed in
-          rw (← (exponent-back W m format k allowed)) (difference-folded (binOf W m k) (leastK W m) (omega (arith, an-allowed-k-has-a-bin W m format k allowed)) least)
+          rw (← (exponent-back W m format k allowed)) (difference-folded (binOf W m k) (kOffset W m) (omega (arith, an-allowed-k-has-a-bin W m format k allowed)) least)
       go UnknownWidth e = lit< tt
       go NoTolerance e = lit< tt
       go TooSmall e = lit< tt
 
 pub bound-folded : (width t : ℕ) → folded (boundDetail (boundAnswer width t)) < 2 ^ 32
-unfolding boundAnswer lastBin leastK boundDetail folded
+unfolding boundAnswer lastBin kOffset boundDetail folded
 bound-folded width t = go (eqb width 32) (eqb width 64)
   where
     go : (a b : Bool) → folded (boundDetail (cond a (boundAt 32 23 t) (cond b (boundAt 64 52 t) UnknownWidth))) < 2 ^ 32

@@ -14,7 +14,7 @@ use Rattle.numbers.specs.declared.tolerance.BinAnswer.{BinAnswer}
 use Rattle.numbers.specs.declared.tolerance.BinAnswer.the-variants as bin
 use Rattle.numbers.specs.declared.tolerance.CodeAnswer.the-variants as code
 use Rattle.numbers.specs.declared.tolerance.PatternAnswer.the-variants as pattern
-use Rattle.numbers.specs.Tolerance.{leastK, lastBin, allowedK, binOf, toleranceCode, toleranceRestored, largestU}
+use Rattle.numbers.specs.Tolerance.{kOffset, lastBin, allowedK, binOf, toleranceCode, toleranceRestored, largestU}
 use Rattle.numbers.specs.Answers.{binAnswer, codeAnswer, patternAnswer}
 use Rattle.numbers.proofs.Law.Exponent.{lifted}
 
@@ -32,15 +32,15 @@ answered W m k f r e a b = ap (binAnswer W m) (sym (toZ-ofZ f)) ∙ sym a ∙ b
 
 module _ (W m : ℕ) (k : ℤ) where
   -- an allowed k has a bin up to the last
-  pub bin-small : 0 < leastK W m → leastK W m ≤ lastBin W m → allowedK W m k ≡ true → binOf W m k ≤ lastBin W m
+  pub bin-small : 0 < kOffset W m → kOffset W m ≤ lastBin W m → allowedK W m k ≡ true → binOf W m k ≤ lastBin W m
   unfolding allowedK binOf
-  bin-small some order e = go (leastK W m - 1) (omega arith) (lastBin W m - leastK W m) (omega arith)
+  bin-small some order e = go (kOffset W m - 1) (omega arith) (lastBin W m - kOffset W m) (omega arith)
     where
-      go : (least : ℕ) → leastK W m ≡ suc least → (last : ℕ) → last + leastK W m ≡ lastBin W m → natAbs (k +ℤ pos (leastK W m)) ≤ lastBin W m
+      go : (least : ℕ) → kOffset W m ≡ suc least → (last : ℕ) → last + kOffset W m ≡ lastBin W m → natAbs (k +ℤ pos (kOffset W m)) ≤ lastBin W m
       go least l last h =
-          let low : leZ (negsuc least) k ≡ true = rw l at (and-left (leZ (negℤ (pos (leastK W m))) k) (leZ k (subℕ (lastBin W m) (leastK W m))) e) in
-          let sub : subℕ (lastBin W m) (leastK W m) ≡ pos last = rw (le-ltb (lastBin W m) (leastK W m) order) (ap pos (let q : lastBin W m - leastK W m ≡ last = omega arith in q)) in
-          let high : leZ k (pos last) ≡ true = rw sub at (and-right (leZ (negℤ (pos (leastK W m))) k) (leZ k (subℕ (lastBin W m) (leastK W m))) e) in
+          let low : leZ (negsuc least) k ≡ true = rw l at (and-left (leZ (negℤ (pos (kOffset W m))) k) (leZ k (subℕ (lastBin W m) (kOffset W m))) e) in
+          let sub : subℕ (lastBin W m) (kOffset W m) ≡ pos last = rw (le-ltb (lastBin W m) (kOffset W m) order) (ap pos (let q : lastBin W m - kOffset W m ≡ last = omega arith in q)) in
+          let high : leZ k (pos last) ≡ true = rw sub at (and-right (leZ (negℤ (pos (kOffset W m))) k) (leZ k (subℕ (lastBin W m) (kOffset W m))) e) in
           let r = lifted least last k low high in
           rw (l, r .1) (omega (arith, r .2))
 
@@ -70,7 +70,7 @@ module _ (W m : ℕ) (k : ℤ) where
     above-is c h = rw (allowed, bin-is, lt-leb (c / 2) (largestU W m j) h)
 
     -- a bin of an allowed k is not clipped
-    pub unclipped : 0 < leastK W m → leastK W m ≤ lastBin W m → min j (lastBin W m) ≡ j
+    pub unclipped : 0 < kOffset W m → kOffset W m ≤ lastBin W m → min j (lastBin W m) ≡ j
     unclipped some order = min-eq-left (rw bin-is at (bin-small some order allowed))
 
   pub refused-is : (b : Bool) → allowedK W m k ≡ b → binAnswer W m k ≡ bin.NotAllowed → allowedK W m k ≡ false

@@ -1,12 +1,12 @@
 -- The laws of bound: the answer by the magnitude's digits, and that it is the largest. Once over W and m.
 use mathlib.Core.Path.{_≡_, refl, sym, ap, ap₂, subst, _∙_}
 use mathlib.Core.Logic.{_⊎_, inl, inr}
-use mathlib.Core.Bool.{Bool, true, false, _&&_, cond}
+use mathlib.Core.Bool.{Bool, true, false}
 use Prim.Native.Nat.{ℕ, zero, suc, _+_, _-_, _*_, _/_, _%_, _^_, _≤_, _<_, min}
-use native.Mathlib.Nat.{le-refl, le-step, min-le-right, le-trans, le-antisymm, le-of-eq, lt-of-lt-of-le, le-div-iff-mul-le, div-lt-iff-lt-mul, one-mul, two-pow-succ, mod-lt, pos-of-ne-zero, mul-pos}
+use native.Mathlib.Nat.{le-refl, le-step, min-le-right, le-antisymm, two-pow-succ, mod-lt, mul-pos}
 use native.Mathlib.Omega.{arith}
-use borrow.Author.Tests.{lt-ltb, le-ltb, le-leb, lt-leb, leb-true}
-use lib.Dec.{T, leb, ltb}
+use borrow.Author.Tests.{lt-ltb, le-ltb, le-leb, lt-leb}
+use lib.Dec.{T}
 use lib.IntN.{ℤ, pos, negsuc, negℤ, natAbs, subℕ, _+ℤ_, _-ℤ_}
 use lib.Signed.{leZ}
 use lib.Count.{leadingZeros}
@@ -16,14 +16,13 @@ use lib.Ieee.Digits.{size-lt, size-reaches, size-le}
 use mir.Syntax.{Width}
 use mir.Val.{hbits, SFits, toZ, ofZ}
 use mir.Facts.{toZ-ofZ, toZ-pos}
-use Rattle.numbers.specs.declared.bound.BoundAnswer.{BoundAnswer}
-use Rattle.numbers.specs.declared.bound.BoundAnswer.the-variants.{Exponent, UnknownWidth, NoTolerance, TooSmall}
-use Rattle.numbers.specs.Tolerance.{leastK, lastBin, allowedK, binOf, magnitude}
-use Rattle.numbers.specs.Bound.{isTolerance, exponentOf, notAbove, largestUpTo, boundAt, boundAnswer}
+use Rattle.numbers.specs.declared.bound.BoundAnswer.the-variants.{Exponent, NoTolerance, TooSmall}
+use Rattle.numbers.specs.Tolerance.{kOffset, lastBin, allowedK, binOf, magnitude}
+use Rattle.numbers.specs.Bound.{isTolerance, exponentOf, notAbove, largestUpTo, boundAt}
 use Rattle.numbers.specs.Theorem.{Format, IsBound}
 use Rattle.numbers.proofs.Law.Exponent.{sub-mono, add-sub, sub-add}
 use Rattle.numbers.proofs.Law.Answers.{and-left, bin-small}
-use Rattle.numbers.proofs.Law.Number.{le-or-lt, twice-half, fraction-only, led-by-one}
+use Rattle.numbers.proofs.Law.Number.{le-or-lt, twice-half}
 use Rattle.numbers.proofs.Law.Tolerance.{size-from, size-together, significand-led, magnitude-plain, exponent-some}
 use Rattle.numbers.proofs.Law.Working.{zeros-size}
 
@@ -158,32 +157,32 @@ module _ (W m t : ℕ) where
   -- ---- by the digits of the magnitude
 
   module _ (some : 0 < magnitude 52 t) where
-    pub not-above-yes : (j : ℕ) → j + (leastK 64 52 - leastK W m) ≤ size (magnitude 52 t) → notAbove W m t j ≡ true
+    pub not-above-yes : (j : ℕ) → j + (kOffset 64 52 - kOffset W m) ≤ size (magnitude 52 t) → notAbove W m t j ≡ true
     unfolding notAbove
     not-above-yes j h =
         let x = magnitude 52 t in
         let d : 0 < size x = size-from x 0 some in
-        let l : 2 ^ (j + (leastK 64 52 - leastK W m)) ≤ 2 ^ size x = pow-mono h in
-        le-leb (2 ^ (j + (leastK 64 52 - leastK W m))) (2 * x) (omega (arith, twice-half (size x) d, size-reaches x (size x - 1) (omega arith)))
+        let l : 2 ^ (j + (kOffset 64 52 - kOffset W m)) ≤ 2 ^ size x = pow-mono h in
+        le-leb (2 ^ (j + (kOffset 64 52 - kOffset W m))) (2 * x) (omega (arith, twice-half (size x) d, size-reaches x (size x - 1) (omega arith)))
 
-    pub not-above-no : (j : ℕ) → size (magnitude 52 t) < j + (leastK 64 52 - leastK W m) → notAbove W m t j ≡ false
+    pub not-above-no : (j : ℕ) → size (magnitude 52 t) < j + (kOffset 64 52 - kOffset W m) → notAbove W m t j ≡ false
     unfolding notAbove
     not-above-no j h =
         let x = magnitude 52 t in
-        let l : 2 ^ suc (size x) ≤ 2 ^ (j + (leastK 64 52 - leastK W m)) = pow-mono h in
-        lt-leb (2 ^ (j + (leastK 64 52 - leastK W m))) (2 * x) (omega (arith, two-pow-succ (size x), size-lt x))
+        let l : 2 ^ suc (size x) ≤ 2 ^ (j + (kOffset 64 52 - kOffset W m)) = pow-mono h in
+        lt-leb (2 ^ (j + (kOffset 64 52 - kOffset W m))) (2 * x) (omega (arith, two-pow-succ (size x), size-lt x))
 
-    pub bound-is : isTolerance t ≡ true → leastK 64 52 - leastK W m ≤ size (magnitude 52 t)
-        → boundAt W m t ≡ Exponent (exponentOf W m (min (size (magnitude 52 t) - (leastK 64 52 - leastK W m)) (lastBin W m)))
+    pub bound-is : isTolerance t ≡ true → kOffset 64 52 - kOffset W m ≤ size (magnitude 52 t)
+        → boundAt W m t ≡ Exponent (exponentOf W m (min (size (magnitude 52 t) - (kOffset 64 52 - kOffset W m)) (lastBin W m)))
     unfolding boundAt
     bound-is e h =
-        let lift = leastK 64 52 - leastK W m in
+        let lift = kOffset 64 52 - kOffset W m in
         let d = size (magnitude 52 t) in
         rw e
         (largest-found (lastBin W m) (min (d - lift) (lastBin W m)) (min-le-right (d - lift) (lastBin W m))
         (not-above-yes (min (d - lift) (lastBin W m)) (omega arith)) (λ i a b. not-above-no i (omega arith)))
 
-    pub bound-none : isTolerance t ≡ true → size (magnitude 52 t) < leastK 64 52 - leastK W m → boundAt W m t ≡ TooSmall
+    pub bound-none : isTolerance t ≡ true → size (magnitude 52 t) < kOffset 64 52 - kOffset W m → boundAt W m t ≡ TooSmall
     unfolding boundAt
     bound-none e h = rw e (largest-none (lastBin W m) (λ i a. not-above-no i (omega arith)))
 
@@ -214,29 +213,29 @@ module _ (w : Width) (j least : ℕ) (h : j < 2 ^ hbits w) (l : suc least < 2 ^ 
 -- ---- in the exponents' own terms
 
 module _ (W m : ℕ) (format : Format W m) where
-  previous : (n : ℕ) × (leastK W m ≡ suc n)
-  previous = (leastK W m - 1, omega (arith, format .least))
+  previous : (n : ℕ) × (kOffset W m ≡ suc n)
+  previous = (kOffset W m - 1, omega (arith, format .least))
 
-  lowest : negℤ (pos (leastK W m)) ≡ subℕ 0 (leastK W m)
+  lowest : negℤ (pos (kOffset W m)) ≡ subℕ 0 (kOffset W m)
   lowest = go (previous .0) (previous .1)
     where
-      go : (n : ℕ) → leastK W m ≡ suc n → negℤ (pos (leastK W m)) ≡ subℕ 0 (leastK W m)
+      go : (n : ℕ) → kOffset W m ≡ suc n → negℤ (pos (kOffset W m)) ≡ subℕ 0 (kOffset W m)
       go n e = rw e (sym (rw (lt-ltb 0 (suc n) (omega arith)) (ap negsuc (let q : suc n - 1 ≡ n = omega arith in q))))
 
   pub bin-allowed : (j : ℕ) → j ≤ lastBin W m → allowedK W m (exponentOf W m j) ≡ true
   unfolding allowedK exponentOf
-  bin-allowed j h = rw (lowest) (rw (sub-mono (leastK W m) 0 j (omega arith), sub-mono (leastK W m) j (lastBin W m) h))
+  bin-allowed j h = rw (lowest) (rw (sub-mono (kOffset W m) 0 j (omega arith), sub-mono (kOffset W m) j (lastBin W m) h))
 
   pub bin-back : (j : ℕ) → binOf W m (exponentOf W m j) ≡ j
   unfolding binOf exponentOf
-  bin-back j = ap natAbs (add-sub (leastK W m) j)
+  bin-back j = ap natAbs (add-sub (kOffset W m) j)
 
   pub exponent-back : (k : ℤ) → allowedK W m k ≡ true → exponentOf W m (binOf W m k) ≡ k
   unfolding allowedK binOf exponentOf
   exponent-back k e = go (previous .0) (previous .1)
     where
-      go : (n : ℕ) → leastK W m ≡ suc n → subℕ (natAbs (k +ℤ pos (leastK W m))) (leastK W m) ≡ k
-      go n l = rw l (sub-add n k (rw l at (and-left (leZ (negℤ (pos (leastK W m))) k) (leZ k (subℕ (lastBin W m) (leastK W m))) e)))
+      go : (n : ℕ) → kOffset W m ≡ suc n → subℕ (natAbs (k +ℤ pos (kOffset W m))) (kOffset W m) ≡ k
+      go n l = rw l (sub-add n k (rw l at (and-left (leZ (negℤ (pos (kOffset W m))) k) (leZ k (subℕ (lastBin W m) (kOffset W m))) e)))
 
   pub largest-bound : (t : ℕ) (k : ℤ) → Largest W m t (lastBin W m) k → IsBound W m t k
   unfolding exponentOf
@@ -246,7 +245,7 @@ module _ (W m : ℕ) (format : Format W m) where
         below = rw (r .is) (rw (bin-back (r .bin)) (r .below));
         largest = λ other a b.
             let up : binOf W m other ≤ r .bin = r .above (binOf W m other) (bin-small W m other (format .least) (format .order) a) b in
-            record { le = subst T (sym (ap₂ leZ (sym (exponent-back other a)) (r .is) ∙ sub-mono (leastK W m) (binOf W m other) (r .bin) up)) tt };
+            record { le = subst T (sym (ap₂ leZ (sym (exponent-back other a)) (r .is) ∙ sub-mono (kOffset W m) (binOf W m other) (r .bin) up)) tt };
       }
 
   pub bound-sound : (t : ℕ) (k : ℤ) → boundAt W m t ≡ Exponent k → IsBound W m t k

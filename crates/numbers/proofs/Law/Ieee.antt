@@ -1,15 +1,13 @@
 -- The magnitude of specs/Tolerance.antt is the toolchain's own account of IEEE 754 (lib.Ieee), once over its formats:
 -- a reader need not believe ours. In that account a format f has prec f - 1 fraction bits, and its smallest number is 2 ^ -low f.
-use mathlib.Core.Path.{_≡_, refl, sym, ap, ap₂, _∙_, subst}
-use mathlib.Core.Logic.{_⊎_, inl, inr}
-use mathlib.Core.Bool.{Bool, true, false, cond}
-use Prim.Native.Nat.{ℕ, zero, suc, _+_, _-_, _*_, _/_, _%_, _^_, _≤_, _<_}
-use native.Mathlib.Nat.{mod-lt, mod-mod-of-dvd, dvd-mul-right, mul-one}
+use mathlib.Core.Path.{_≡_, refl, sym, ap, subst}
+use mathlib.Core.Bool.{Bool, cond}
+use Prim.Native.Nat.{ℕ, zero, suc, _+_, _-_, _*_, _/_, _%_, _^_, _<_}
+use native.Mathlib.Nat.{mod-mod-of-dvd, dvd-mul-right}
 use native.Mathlib.Omega.{arith}
 use borrow.Author.Tests.{eq-eqb, ne-eqb}
 use lib.Dec.{leb, eqb}
-use lib.Pow.{pow-pos}
-use lib.Ieee.{Float, nan, inf, fin, Format, binary32, binary64, prec, low, hid, ones, top, odd, ofFields, ofBits}
+use lib.Ieee.{nan, inf, Format, prec, low, hid, ones, top, odd, ofFields, ofBits}
 use lib.Ieee.Exact.{HasValue, odd-sign}
 use Rattle.numbers.specs.Tolerance.{significand, magnitude}
 

@@ -1,16 +1,14 @@
 -- The laws of the lossless code, once over W and m with m + 2 ≤ W: every pattern is restored, and every code below 2 ^ W has exactly one pattern.
 -- With H = 2 ^ (W - 1) and F = 2 ^ (m + 1) as plain numbers, the exponent step is three linear pieces, and so is its inverse.
-use mathlib.Core.Path.{_≡_, refl, sym, ap, ap₂, _∙_}
+use mathlib.Core.Path.{_≡_, sym, ap, ap₂, _∙_}
 use mathlib.Core.Logic.{_⊎_, inl, inr}
-use mathlib.Core.Bool.{Bool, true, false, _||_, cond}
 use Prim.Native.Nat.{ℕ, suc, _+_, _-_, _*_, _/_, _%_, _^_, _≤_, _<_, zero-le}
 use native.Mathlib.Nat.{le-trans, le-of-suc-le-suc, mul-le-mul-right, mod-eq-of-lt, mod-lt, add-comm, div-lt-iff-lt-mul, mod-add-div', two-pow-succ, div-eq-of-lt, le-div-iff-mul-le, one-mul, zero-mul, add-zero, sub-zero, add-mul, div-eq-of-lt-le, zero-div}
 use native.Mathlib.Omega.{arith}
-use borrow.Author.Tests.{lt-ltb, le-ltb, le-leb, lt-leb, eq-eqb, ne-eqb}
-use lib.Dec.{leb, ltb, eqb}
+use borrow.Author.Tests.{le-leb, lt-leb}
 use lib.Arith.{digits-div, digits-mod}
 use lib.Pow.{pow-pos, pow-mono, pow-add}
-use Rattle.numbers.specs.Signed.{signedView, folded, unfolded, bitsOf}
+use Rattle.numbers.specs.Signed.{signedView, unfolded, bitsOf}
 use Rattle.numbers.specs.Lossless.{rotated, field, minus, lowered, stepped, losslessCode, plus, raised, unstepped, unrotated, losslessRestored}
 use Rattle.numbers.proofs.Law.Signed.{unfolded-folded, folded-unfolded, bits-of-view, view-of-bits, bits-below, folded-below}
 use Rattle.numbers.proofs.Law.Number.{le-or-lt, mod-once, minus-plain, minus-wraps, quotient-zero, quotient-some, twice-half}

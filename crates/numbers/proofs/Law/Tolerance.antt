@@ -1,11 +1,10 @@
 -- The laws of the tolerance code, once over the fraction bits m and the bin j (E is 2 ^ j units), and over W where the sign comes in.
-use mathlib.Core.Path.{_≡_, refl, sym, ap, ap₂, _∙_}
+use mathlib.Core.Path.{_≡_, sym, ap, ap₂, _∙_}
 use mathlib.Core.Logic.{_⊎_, inl, inr}
-use mathlib.Core.Bool.{true, false}
-use Prim.Native.Nat.{ℕ, zero, suc, _+_, _-_, _*_, _/_, _%_, _^_, _≤_, _<_, min, zero-le}
-use native.Mathlib.Nat.{add-zero, zero-mul, le-antisymm, le-of-eq, le-of-suc-le-suc, mul-add, le-trans, lt-of-lt-of-le, lt-of-le-of-lt, le-of-lt, mul-le-mul, mul-le-mul-left, mul-le-mul-right, mul-lt-mul-of-pos-right, div-lt-iff-lt-mul, le-div-iff-mul-le, mod-lt, mod-eq-of-lt, mod-add-div', mul-comm, mul-assoc, mul-one, one-mul, add-mul, suc-mul, two-pow-succ, div-eq-of-lt, div-eq-of-lt-le, add-comm, mul-pos, mul-div-mul-right, lt-div-mul-add, div-mul-le-self, mul-div-cancel}
+use Prim.Native.Nat.{ℕ, suc, _+_, _-_, _*_, _/_, _%_, _^_, _≤_, _<_, min}
+use native.Mathlib.Nat.{add-zero, zero-mul, le-antisymm, le-of-eq, le-of-suc-le-suc, mul-add, le-trans, lt-of-lt-of-le, le-of-lt, mul-le-mul, mul-le-mul-right, mul-lt-mul-of-pos-right, div-lt-iff-lt-mul, le-div-iff-mul-le, mod-lt, mod-eq-of-lt, mod-add-div', mul-comm, mul-assoc, mul-one, one-mul, add-mul, suc-mul, two-pow-succ, div-eq-of-lt, div-eq-of-lt-le, add-comm, lt-div-mul-add, div-mul-le-self, mul-div-cancel}
 use native.Mathlib.Omega.{arith}
-use borrow.Author.Tests.{lt-ltb, le-ltb, eq-eqb, ne-eqb}
+use borrow.Author.Tests.{lt-ltb, le-ltb}
 use lib.Arith.{digits-div, digits-mod}
 use lib.Pow.{pow-pos, pow-mono, pow-add}
 use lib.Ieee.{size}

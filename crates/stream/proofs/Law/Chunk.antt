@@ -4,17 +4,16 @@ use mathlib.Core.Logic.{_⊎_, inl, inr}
 use mathlib.Core.Bool.{Bool, true, false, cond}
 use mathlib.Core.List.{List, [], _∷_, _++_, append-nil}
 use Prim.Native.Nat.{ℕ, zero, suc, _+_, _-_, _*_, _/_, _^_, _≤_, _<_, min, zero-le}
-use native.Mathlib.Nat.{le-trans, div-eq-of-lt, div-eq-sub-div, suc-mul, mul-add, mul-assoc, min-eq-left, min-eq-right, lt-of-lt-of-le, add-le-add, lt-div-mul-add, zero-sub, zero-mul, min-zero, not-suc-le-zero}
+use native.Mathlib.Nat.{div-eq-of-lt, div-eq-sub-div, suc-mul, mul-add, mul-assoc, min-eq-left, lt-div-mul-add, zero-sub, zero-mul, min-zero, not-suc-le-zero}
 use native.Mathlib.Numerals.{add-one}
 use native.Mathlib.Omega.{arith}
 use borrow.Author.Tests.{ne-eqb}
 use lib.Pow.{pow-pos}
 use lib.Dec.{eqb}
-use lib.ListN.{length, take, drop, getD, length-append, length-take, length-drop, take-append-drop, drop-of-length-le}
-use lib.Seq.{take-at, drop-at, take-all, take-append-seam, drop-append-seam, take-append-le, drop-append-le}
+use lib.ListN.{length, take, drop, length-append, length-take, length-drop, take-append-drop, drop-of-length-le}
+use lib.Seq.{take-at, drop-at, take-all, drop-append-seam}
 use Rattle.stream.specs.Bytes.{Below, digits}
 use Rattle.stream.specs.Group.{bytesFor, groupBytes, groupLength, groupCodes, goodGroup}
-use Rattle.stream.specs.declared.chunk.ChunkAnswer.{ChunkAnswer}
 use Rattle.stream.specs.declared.chunk.ChunkAnswer.the-variants.{Good, Bad}
 use Rattle.stream.specs.Chunk.{groupsIn, groupsBytes, chunkBytes, firstFault, chunkAnswer, groupsCodes, chunkCodes}
 use Rattle.stream.specs.Theorem.{Limited, Starts}

@@ -9,7 +9,7 @@ use lib.Dec.{leb, eqb}
 use lib.IntN.{ℤ, pos, negsuc}
 use lib.Signed.{mag, leZ}
 use Rattle.numbers.specs.Signed.{signedView, bitsOf}
-use Rattle.numbers.specs.Tolerance.{leastK, lastBin, allowedK}
+use Rattle.numbers.specs.Tolerance.{kOffset, lastBin, allowedK}
 use Rattle.stream.specs.Setting.{knownWidth, fractionBits, isZero, allowedSetting}
 use Rattle.stream.proofs.Law.Truth.{and-left, and-right}
 use Rattle.stream.proofs.Law.Settings.{width-cases}
@@ -25,7 +25,7 @@ zero-small (pos n) e = omega (arith, eqb-true n 0 e)
 zero-small (negsuc n) e = let z : false ≡ true = e in let q : _≡_ {A = ℕ} 0 1 = cc in omega arith
 
 k-small : (W : ℕ) (k : ℤ) → (W ≡ 32) ⊎ (W ≡ 64) → allowedK W (fractionBits W) k ≡ true → mag k < 2 ^ 31
-unfolding allowedK leastK lastBin fractionBits
+unfolding allowedK kOffset lastBin fractionBits
 k-small W k (inl e) a = between 149 103 k (rw e at a) (omega arith) (omega arith)
 k-small W k (inr e) a = between 1074 970 k (rw e at a) (omega arith) (omega arith)
 

@@ -5,19 +5,18 @@ use mathlib.Core.Bool.{Bool, true, false, cond}
 use mathlib.Core.List.{List, [], _∷_, _++_}
 use Prim.Native.Nat.{ℕ, zero, suc, _+_, _*_, _^_, _≤_, _<_, max}
 use native.Mathlib.Omega.{arith}
-use borrow.Author.Tests.{leb-true, le-ltb, le-leb, eq-eqb}
-use lib.Dec.{eqb, leb, lit<, lit≤}
+use borrow.Author.Tests.{le-ltb, le-leb, eq-eqb}
+use lib.Dec.{eqb, lit<, lit≤}
 use lib.IntN.{ℤ}
 use lib.ListN.{length, getD}
 use Rattle.numbers.specs.Signed.{bitsOf}
 use Rattle.stream.specs.Bytes.{Below}
-use Rattle.stream.specs.Setting.{knownLevel, widthNeed, modeNeed, need}
+use Rattle.stream.specs.Setting.{widthNeed, modeNeed, need}
 use Rattle.stream.specs.Header.{word, headerOf, kOf, chunksIn, tooMany, needRight, settingRight, layoutRight}
 use Rattle.stream.specs.Writing.{spell, dataOf, startsOf, headerNumbers, endOf}
 use Rattle.stream.specs.Packing.{Packable}
 use Rattle.stream.specs.declared.header.Header.{Header}
 use Rattle.stream.proofs.Law.Bytes.{everywhere}
-use Rattle.stream.proofs.Law.Truth.{and-right}
 use Rattle.stream.proofs.Law.Settings.{width-most, mode-small}
 use Rattle.stream.proofs.Law.Widths.{need-small}
 use Rattle.stream.proofs.Law.Exponents.{exponent-bits, exponent-back}

@@ -4,7 +4,7 @@ use Prim.Native.Nat.{ℕ}
 use mathlib.Core.List.{List, [], _∷_, _++_}
 use lib.Ieee.{size}
 use Rattle.numbers.specs.Signed.{signedView}
-use Rattle.numbers.specs.Tolerance.{leastK, lastBin, allowedK, binOf, largestU}
+use Rattle.numbers.specs.Tolerance.{kOffset, lastBin, allowedK, binOf, largestU}
 use Rattle.stream.specs.Bytes.{number, digits}
 use Rattle.stream.specs.Group.{bytesFor, largest, widthOf, givenWidth, groupLength, groupNumber, groupCodes, within, goodGroup}
 use Rattle.stream.specs.Setting.{knownLevel, knownWidth, fractionBits, widthNeed, modeNeed, need, isZero, allowedSetting, binFor, groupSize, limitOf}
@@ -46,7 +46,7 @@ noneText =
 
 -- no values, in mode 1 with k = -2
 pub none-listed : listing (spell (1 ∷ 9 ∷ 9 ∷ 32 ∷ 1 ∷ 4294967294 ∷ 0 ∷ 0 ∷ 48 ∷ 48 ∷ 0 ∷ 48 ∷ [])) ≡ noneText
-unfolding size signedView number digits bytesFor largest widthOf givenWidth groupLength groupNumber groupCodes within goodGroup knownLevel knownWidth fractionBits widthNeed modeNeed need isZero allowedSetting binFor groupSize limitOf groupsIn firstFault chunkAnswer first answer word headerOf kOf binIn chunksIn tooMany needRight settingRight layoutRight every startAt startRight chunkTableRight partAt sideTableRight joined countOf chunkOf chunkState spell headerRows openingRows tableRows faultDetail faultRow rowsFrom chunkRow chunkRows contentRows checkRows checkAnswer mostInput highestLevel digit decimalIn decimal minus signedDecimal newline point formatWord needsWord widthWord modeWord boundWord valuesWord chunksWord sidesWord chunkWord atWord bytesWord groupsWord refusedWord detailWord labelled formatLine settingLine countLine chunkLine streamLines refusedLine answerLines listing leastK lastBin allowedK binOf largestU noneText
+unfolding size signedView number digits bytesFor largest widthOf givenWidth groupLength groupNumber groupCodes within goodGroup knownLevel knownWidth fractionBits widthNeed modeNeed need isZero allowedSetting binFor groupSize limitOf groupsIn firstFault chunkAnswer first answer word headerOf kOf binIn chunksIn tooMany needRight settingRight layoutRight every startAt startRight chunkTableRight partAt sideTableRight joined countOf chunkOf chunkState spell headerRows openingRows tableRows faultDetail faultRow rowsFrom chunkRow chunkRows contentRows checkRows checkAnswer mostInput highestLevel digit decimalIn decimal minus signedDecimal newline point formatWord needsWord widthWord modeWord boundWord valuesWord chunksWord sidesWord chunkWord atWord bytesWord groupsWord refusedWord detailWord labelled formatLine settingLine countLine chunkLine streamLines refusedLine answerLines listing kOffset lastBin allowedK binOf largestU noneText
 none-listed = refl
 
 -- `refused 7 detail 11`

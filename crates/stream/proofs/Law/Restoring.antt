@@ -1,7 +1,7 @@
 -- A good chunk's values restored group by group: what has been put, and what the rest of the bytes has still to give. Over the width, the
 -- setting and the group size.
-use mathlib.Core.Path.{_≡_, refl, sym, ap, ap₂, _∙_, subst}
-use mathlib.Core.Bool.{Bool, true, false, cond}
+use mathlib.Core.Path.{_≡_, refl, sym, ap, ap₂, _∙_}
+use mathlib.Core.Bool.{Bool, true, false}
 use mathlib.Core.List.{List, [], _∷_, _++_, map, map-append}
 use Prim.Native.Nat.{ℕ, zero, suc, _+_, _-_, _^_, _≤_, _<_, min}
 use native.Mathlib.Nat.{lt-of-lt-of-le, le-trans, le-of-suc-le-suc, not-suc-le-zero}
@@ -11,14 +11,13 @@ use lib.Seq.{drop-drop, getD-append-add}
 use lib.Pow.{pow-mono}
 use Rattle.stream.specs.Bytes.{Below}
 use Rattle.stream.specs.Group.{givenWidth, groupLength, groupCodes, goodGroup}
-use Rattle.stream.specs.declared.chunk.ChunkAnswer.the-variants.{Good, Bad}
+use Rattle.stream.specs.declared.chunk.ChunkAnswer.the-variants.{Good}
 use Rattle.stream.specs.Setting.{patternAt, patternsOf}
-use Rattle.stream.specs.Chunk.{groupsIn, firstFault, chunkAnswer, chunkCodes}
+use Rattle.stream.specs.Chunk.{chunkAnswer, chunkCodes}
 use Rattle.stream.proofs.Law.Group.{codes-below, length-codes}
 use Rattle.stream.proofs.Law.Exact.{true-good}
 use Rattle.stream.proofs.Law.Chunk.{codes-none, codes-step, length-chunk-codes, never-good}
 use Rattle.stream.proofs.Law.Walking.{found, found-bad, found-good, part-is, within-bytes}
-use Rattle.stream.proofs.Law.Appending.{Appended, nothing-yet}
 
 pub length-patterns : (W mode bin : ℕ) (cs : List ℕ) → length (patternsOf W mode bin cs) ≡ length cs
 unfolding patternsOf

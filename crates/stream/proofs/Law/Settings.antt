@@ -1,5 +1,5 @@
 -- What is known of a setting: its need by cases, and its bin where it is allowed.
-use mathlib.Core.Path.{_≡_, refl, sym, ap, _∙_}
+use mathlib.Core.Path.{_≡_, refl, sym, _∙_}
 use mathlib.Core.Logic.{_⊎_, inl, inr, ⊎-elim}
 use mathlib.Core.Bool.{Bool, true, false, _&&_, cond}
 use Prim.Native.Nat.{ℕ, suc, _-_, _^_, _≤_, _<_}
@@ -10,7 +10,7 @@ use lib.IntN.{ℤ, pos, negsuc}
 use mir.Syntax.{w32}
 use mir.Val.{SFits, ofZ}
 use Rattle.numbers.specs.declared.tolerance.BinAnswer.the-variants as bin
-use Rattle.numbers.specs.Tolerance.{allowedK, binOf}
+use Rattle.numbers.specs.Tolerance.{allowedK}
 use Rattle.numbers.specs.Answers.{binAnswer}
 use Rattle.numbers.proofs.Theorems.{a-bin-is-that-of-k, no-bin-means-not-allowed}
 use Rattle.stream.specs.Setting.{knownWidth, fractionBits, widthNeed, modeNeed, need, isZero, allowedSetting, binFor}

@@ -2,14 +2,14 @@
 use mathlib.Core.Path.{_≡_, refl, sym, ap, ap₂, _∙_}
 use mathlib.Core.Bool.{true}
 use mathlib.Core.List.{List, [], _∷_, _++_}
-use Prim.Native.Nat.{ℕ, zero, suc, _+_, _*_, _^_, _≤_, _<_}
+use Prim.Native.Nat.{ℕ, suc, _+_, _*_, _≤_, _<_}
 use native.Mathlib.Nat.{add-zero, zero-add}
 use native.Mathlib.Omega.{arith}
 use borrow.Author.Tests.{leb-true, le-leb, eq-eqb}
-use lib.Dec.{leb, lit<}
+use lib.Dec.{leb}
 use lib.ListN.{length, take, drop, getD, length-append}
 use lib.Seq.{drop-append-add}
-use Rattle.stream.specs.Bytes.{Below, number}
+use Rattle.stream.specs.Bytes.{number}
 use Rattle.stream.specs.Header.{word}
 use Rattle.stream.specs.Tables.{every, sideId, sidePlace, sideLength, idFloor, partAt, entryRight, sideTableRight}
 use Rattle.stream.specs.Writing.{spell, Side, entries, parts, increasing, WellFormedSides}

@@ -2,13 +2,13 @@
 -- group size.
 use mathlib.Core.Path.{_≡_, refl, sym, ap, ap₂, _∙_}
 use mathlib.Core.Logic.{_⊎_, inl, inr}
-use mathlib.Core.List.{List, [], _∷_, _++_, map}
-use Prim.Native.Nat.{ℕ, zero, suc, _+_, _-_, _*_, _/_, _^_, _≤_, _<_, min}
+use mathlib.Core.List.{List, [], _++_, map}
+use Prim.Native.Nat.{ℕ, _+_, _-_, _*_, _^_, _≤_, _<_, min}
 use native.Mathlib.Nat.{mul-le-mul}
 use native.Mathlib.Omega.{arith}
 use lib.Dec.{lit<}
-use lib.ListN.{length, take, drop, length-append, length-map, length-take, length-drop, drop-of-length-le}
-use lib.Seq.{take-all, take-take, drop-drop}
+use lib.ListN.{length, take, drop, length-append, length-map, length-drop, drop-of-length-le}
+use lib.Seq.{take-all, drop-drop}
 use Rattle.numbers.specs.Theorem.{Format}
 use Rattle.stream.specs.Bytes.{Below}
 use Rattle.stream.specs.Group.{groupBytes}

@@ -1,22 +1,21 @@
 -- A chunk's bytes walked group by group: what is left of the values and of the bytes decides the answer, and the codes.
 use mathlib.Core.Path.{_≡_, refl, sym, ap, ap₂, _∙_}
 use mathlib.Core.Bool.{Bool, true, false, cond}
-use mathlib.Core.List.{List, [], _++_}
+use mathlib.Core.List.{List}
 use Prim.Native.Nat.{ℕ, suc, _+_, _-_, _≤_, _<_, min}
 use native.Mathlib.Numerals.{add-one}
 use native.Mathlib.Omega.{arith}
 use borrow.Author.Tests.{eq-eqb, ne-eqb}
-use lib.Dec.{eqb}
 use lib.ListN.{length, take, drop, length-drop}
 use lib.Seq.{take-all, drop-drop}
-use Rattle.stream.specs.Group.{groupLength, groupCodes, goodGroup}
+use Rattle.stream.specs.Group.{groupLength, goodGroup}
 use Rattle.stream.specs.Answer.{groupAnswer}
 use Rattle.stream.specs.declared.group.GroupAnswer.the-variants as group
 use Rattle.stream.specs.declared.chunk.ChunkAnswer.{ChunkAnswer}
 use Rattle.stream.specs.declared.chunk.ChunkAnswer.the-variants.{Good, Bad}
-use Rattle.stream.specs.Chunk.{groupsIn, firstFault, chunkAnswer, chunkCodes}
+use Rattle.stream.specs.Chunk.{groupsIn, firstFault}
 use Rattle.stream.proofs.Law.Exact.{true-good}
-use Rattle.stream.proofs.Law.Chunk.{groups-none, fault-none, fault-step, codes-step}
+use Rattle.stream.proofs.Law.Chunk.{fault-none, fault-step}
 
 -- ---- a group's answer, after a match
 

@@ -1,5 +1,4 @@
 -- `numbers::bound::bound` meets its contract.
-use mathlib.Core.Path.{_∙_, sym}
 use borrow.Author.Tests.{eq-eqb, ne-eqb}
 use Rattle.numbers.specs.Bound.{boundAnswer}
 use borrow.Author.Needs.{needs}

@@ -7,7 +7,7 @@ use borrow.Author.Tests.{not-true, not-false}
 use lib.Dec.{lit<}
 use mir.Syntax.{w32}
 use Rattle.numbers.specs.declared.bound.BoundAnswer.the-variants.{Exponent}
-use Rattle.numbers.specs.Tolerance.{leastK, lastBin}
+use Rattle.numbers.specs.Tolerance.{kOffset, lastBin}
 use Rattle.numbers.specs.Bound.{exponentOf}
 use Rattle.numbers.proofs.Law.Bound.{tolerance-some, refused-is, bound-is, magnitude-some, difference-fits, difference-is}
 use borrow.Author.Needs.{needs}
@@ -37,7 +37,7 @@ sub-t7 : tie.Need-sub-t7
 sub-t7 c = difference-fits w32 (c .clipped64 .result) 1074 (small c) (lit< tt)
 
 returns-2 : tie.Need-returns-2
-unfolding leastK lastBin exponentOf
+unfolding kOffset lastBin exponentOf
 returns-2 c = ap Exponent (difference-is w32 (c .clipped64 .result) 1074 (small c) (lit< tt) ∙ ap (exponentOf 64 52) (c .clipped64 .ensures ∙ ap (λ (d : ℕ). min d (lastBin 64 52)) (c .before .digits-of .ensures ∙ sym (sub-zero _)))) ∙ sym (bound-is 64 52 (c .before .before .before .before .args .t) (magnitude-some 52 (c .before .before .before .before .args .t) (tolerance-some (c .before .before .before .before .args .t) (sym (c .before .before .before .is-tolerance .ensures) ∙ not-false _ (c .before .before .if1 .left)))) (sym (c .before .before .before .is-tolerance .ensures) ∙ not-false _ (c .before .before .if1 .left)) (omega arith))
 
 pub bound64-spec : {M : Type 1} → statement M

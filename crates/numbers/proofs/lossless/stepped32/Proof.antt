@@ -2,7 +2,7 @@
 use mathlib.Core.Path.{_∙_, ap}
 use Prim.Native.Nat.{ℕ, _-_, _*_, _^_}
 use lib.Dec.{lit≤}
-use Rattle.numbers.specs.Lossless.{minus, stepped}
+use Rattle.numbers.specs.Lossless.{minus}
 use Rattle.numbers.proofs.Law.Lossless.{someUnit, highUnit, half-room, unit-room, stepped-units}
 use Rattle.numbers.proofs.Law.Number.{wraps-minus}
 use borrow.Author.Needs.{needs}

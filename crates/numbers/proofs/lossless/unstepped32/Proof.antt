@@ -2,7 +2,7 @@
 use mathlib.Core.Path.{_∙_, ap}
 use Prim.Native.Nat.{ℕ, _*_, _^_}
 use lib.Dec.{lit≤}
-use Rattle.numbers.specs.Lossless.{plus, unstepped}
+use Rattle.numbers.specs.Lossless.{plus}
 use Rattle.numbers.proofs.Law.Lossless.{someUnit, unstepped-units}
 use borrow.Author.Needs.{needs}
 use Rattle.numbers.proofs.lossless.unstepped32.Statement.{statement}

@@ -3,7 +3,7 @@ use mathlib.Core.Path.{_∙_, sym, ap}
 use Prim.Native.Nat.{ℕ}
 use lib.Dec.{lit<, lit≤}
 use Rattle.numbers.specs.declared.tolerance.CodeAnswer.the-variants.{Code}
-use Rattle.numbers.specs.Tolerance.{leastK, lastBin, toleranceCode}
+use Rattle.numbers.specs.Tolerance.{kOffset, lastBin, toleranceCode}
 use Rattle.numbers.proofs.Law.Answers.{answered, code-is, no-code, unclipped}
 use borrow.Author.Needs.{needs}
 use Rattle.numbers.proofs.tolerance.code32.Statement.{statement}
@@ -25,7 +25,7 @@ enum-told : tie.Need-enum-told
 enum-told c = search needs
 
 returns : tie.Need-returns
-unfolding leastK lastBin
+unfolding kOffset lastBin
 returns c =
     ap Code (c .code-at-bin32 .ensures ∙ ap (λ (j : ℕ). toleranceCode 32 23 j (c .before .before .before .before .before .args .p)) (unclipped 32 23 (c .before .before .before .before .before .args .k) _ (answered 32 23 (c .before .before .before .before .before .args .k) (c .before .before .before .before .before .fits .k) (c .before .before .before .before .bin32 .result) _ (c .before .before .before .before .bin32 .ensures) (c .before .before .b .given .1)) (lit< tt) (lit≤ tt)))
     ∙ sym (code-is 32 23 (c .before .before .before .before .before .args .k) _ (answered 32 23 (c .before .before .before .before .before .args .k) (c .before .before .before .before .before .fits .k) (c .before .before .before .before .bin32 .result) _ (c .before .before .before .before .bin32 .ensures) (c .before .before .b .given .1)) (c .before .before .before .before .before .args .p))

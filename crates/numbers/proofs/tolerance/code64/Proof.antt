@@ -3,7 +3,7 @@ use mathlib.Core.Path.{_∙_, sym, ap}
 use Prim.Native.Nat.{ℕ}
 use lib.Dec.{lit<, lit≤}
 use Rattle.numbers.specs.declared.tolerance.CodeAnswer.the-variants.{Code}
-use Rattle.numbers.specs.Tolerance.{leastK, lastBin, toleranceCode}
+use Rattle.numbers.specs.Tolerance.{kOffset, lastBin, toleranceCode}
 use Rattle.numbers.proofs.Law.Answers.{answered, code-is, no-code, unclipped}
 use borrow.Author.Needs.{needs}
 use Rattle.numbers.proofs.tolerance.code64.Statement.{statement}
@@ -22,7 +22,7 @@ enum-told : tie.Need-enum-told
 enum-told c = search needs
 
 returns : tie.Need-returns
-unfolding leastK lastBin
+unfolding kOffset lastBin
 returns c =
     ap Code (c .code-at-bin64 .ensures ∙ ap (λ (j : ℕ). toleranceCode 64 52 j (c .before .before .before .before .before .args .p)) (unclipped 64 52 (c .before .before .before .before .before .args .k) _ (answered 64 52 (c .before .before .before .before .before .args .k) (c .before .before .before .before .before .fits .k) (c .before .before .before .before .bin64 .result) _ (c .before .before .before .before .bin64 .ensures) (c .before .before .b .given .1)) (lit< tt) (lit≤ tt)))
     ∙ sym (code-is 64 52 (c .before .before .before .before .before .args .k) _ (answered 64 52 (c .before .before .before .before .before .args .k) (c .before .before .before .before .before .fits .k) (c .before .before .before .before .bin64 .result) _ (c .before .before .before .before .bin64 .ensures) (c .before .before .b .given .1)) (c .before .before .before .before .before .args .p))

@@ -4,7 +4,7 @@ use Prim.Native.Nat.{ℕ}
 use native.Mathlib.Omega.{arith}
 use lib.Dec.{lit<, lit≤}
 use Rattle.numbers.specs.declared.tolerance.PatternAnswer.the-variants.{Pattern}
-use Rattle.numbers.specs.Tolerance.{leastK, lastBin, toleranceRestored, largestU}
+use Rattle.numbers.specs.Tolerance.{kOffset, lastBin, toleranceRestored, largestU}
 use Rattle.numbers.proofs.Law.Answers.{answered, pattern-is, above-is, no-pattern, unclipped}
 use borrow.Author.Needs.{needs}
 use Rattle.numbers.proofs.tolerance.restored64.Statement.{statement}
@@ -26,11 +26,11 @@ enum-told : tie.Need-enum-told
 enum-told c = search needs
 
 returns : tie.Need-returns
-unfolding leastK lastBin
+unfolding kOffset lastBin
 returns c = let e = c .before .largest-u64 .ensures ∙ ap (largestU 64 52) (unclipped 64 52 (c .before .before .before .before .before .before .args .k) _ (answered 64 52 (c .before .before .before .before .before .before .args .k) (c .before .before .before .before .before .before .fits .k) (c .before .before .before .before .before .bin64 .result) _ (c .before .before .before .before .before .bin64 .ensures) (c .before .before .before .b .given .1)) (lit< tt) (lit≤ tt)) in sym (above-is 64 52 (c .before .before .before .before .before .before .args .k) _ (answered 64 52 (c .before .before .before .before .before .before .args .k) (c .before .before .before .before .before .before .fits .k) (c .before .before .before .before .before .bin64 .result) _ (c .before .before .before .before .before .bin64 .ensures) (c .before .before .before .b .given .1)) (c .before .before .before .before .before .before .args .c) (omega (arith, c .if1 .taken)))
 
 returns-2 : tie.Need-returns-2
-unfolding leastK lastBin
+unfolding kOffset lastBin
 returns-2 c = let e = c .before .before .largest-u64 .ensures ∙ ap (largestU 64 52) (unclipped 64 52 (c .before .before .before .before .before .before .before .args .k) _ (answered 64 52 (c .before .before .before .before .before .before .before .args .k) (c .before .before .before .before .before .before .before .fits .k) (c .before .before .before .before .before .before .bin64 .result) _ (c .before .before .before .before .before .before .bin64 .ensures) (c .before .before .before .before .b .given .1)) (lit< tt) (lit≤ tt)) in ap Pattern (c .restored-at-bin64 .ensures ∙ ap (λ (j : ℕ). toleranceRestored 64 52 j (c .before .before .before .before .before .before .before .args .c)) (unclipped 64 52 (c .before .before .before .before .before .before .before .args .k) _ (answered 64 52 (c .before .before .before .before .before .before .before .args .k) (c .before .before .before .before .before .before .before .fits .k) (c .before .before .before .before .before .before .bin64 .result) _ (c .before .before .before .before .before .before .bin64 .ensures) (c .before .before .before .before .b .given .1)) (lit< tt) (lit≤ tt))) ∙ sym (pattern-is 64 52 (c .before .before .before .before .before .before .before .args .k) _ (answered 64 52 (c .before .before .before .before .before .before .before .args .k) (c .before .before .before .before .before .before .before .fits .k) (c .before .before .before .before .before .before .bin64 .result) _ (c .before .before .before .before .before .before .bin64 .ensures) (c .before .before .before .before .b .given .1)) (c .before .before .before .before .before .before .before .args .c) (omega (arith, c .before .if1 .left)))
 
 returns-3 : tie.Need-returns-3

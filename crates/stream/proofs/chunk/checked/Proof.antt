@@ -1,12 +1,12 @@
 -- `stream::chunk::checked` meets its contract. The invariant: what is left decides the answer.
-use mathlib.Core.Path.{_≡_, refl, sym, ap, ap₂, _∙_}
+use mathlib.Core.Path.{_≡_, refl, sym, ap, _∙_}
 use mathlib.Core.Bool.{true}
 use mathlib.Core.List.{List}
 use Prim.Native.Nat.{ℕ, _+_, _-_, _≤_, min}
 use native.Mathlib.Omega.{arith}
 use borrow.Author.Needs.{needs}
 use lib.Dec.{lit<}
-use lib.ListN.{length, take, drop}
+use lib.ListN.{length, drop}
 use Rattle.stream.specs.Group.{groupLength, goodGroup}
 use Rattle.stream.specs.Answer.{groupAnswer}
 use Rattle.stream.specs.declared.chunk.ChunkAnswer.the-variants.{Bad}

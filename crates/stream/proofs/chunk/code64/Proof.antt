@@ -1,5 +1,4 @@
 -- `stream::chunk::code64` meets its contract: the number rule of the mode.
-use mathlib.Core.Path.{_∙_}
 use borrow.Author.Tests.{eq-eqb, ne-eqb}
 use Rattle.stream.specs.Setting.{fractionBits, clipped, codeAt}
 use borrow.Author.Needs.{needs}

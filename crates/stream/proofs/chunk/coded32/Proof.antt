@@ -1,5 +1,5 @@
 -- `stream::chunk::coded32` meets its contract: the codes of `codes32`, as `widened` hands them on.
-use mathlib.Core.Path.{_≡_, ap₂, _∙_}
+use mathlib.Core.Path.{ap₂, _∙_}
 use mathlib.Core.List.{List}
 use Prim.Native.Nat.{ℕ}
 use lib.ListN.{take}

@@ -1,5 +1,5 @@
 -- `stream::chunk::group_patterns32` meets its contract: zeros for a group of no bits, and the patterns of its codes for any other.
-use mathlib.Core.Path.{_≡_, sym, ap, _∙_}
+use mathlib.Core.Path.{sym, ap, _∙_}
 use mathlib.Core.List.{List, _++_}
 use Prim.Native.Nat.{ℕ, _^_, _≤_}
 use native.Mathlib.Nat.{lt-of-lt-of-le}

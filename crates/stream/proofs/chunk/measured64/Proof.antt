@@ -1,12 +1,11 @@
 -- `stream::chunk::measured64` meets its contract. The invariant: the bytes counted and those of the values left are all of them.
-use mathlib.Core.Path.{_≡_, refl, sym, ap, ap₂, _∙_}
+use mathlib.Core.Path.{_≡_, refl, ap, _∙_}
 use mathlib.Core.List.{List}
 use Prim.Native.Nat.{ℕ, _+_, _-_, _≤_}
 use native.Mathlib.Nat.{zero-add}
 use native.Mathlib.Omega.{arith}
 use lib.Dec.{lit<, lit≤}
-use lib.ListN.{length, take, drop, length-append, length-take, length-drop}
-use borrow.Author.Needs.{needs}
+use lib.ListN.{length, length-take, length-drop}
 use Rattle.numbers.proofs.Theorems.{format-64}
 use Rattle.stream.specs.Group.{groupBytes}
 use Rattle.stream.specs.Setting.{fractionBits, codesOf}

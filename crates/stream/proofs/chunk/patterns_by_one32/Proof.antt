@@ -4,9 +4,8 @@ use mathlib.Core.List.{List, _++_}
 use Prim.Native.Nat.{ℕ, _-_, _+_, _≤_}
 use native.Mathlib.Nat.{le-refl}
 use native.Mathlib.Omega.{arith}
-use lib.ListN.{length, take, drop, getD, set}
+use lib.ListN.{take, drop, set}
 use lib.Seq.{take-all, length-take-le, getD-take}
-use borrow.Author.Needs.{needs}
 use Rattle.stream.specs.Setting.{patternAt, patternsOf}
 use Rattle.stream.proofs.Law.Coding.{one-put, length-filled}
 use Rattle.stream.proofs.chunk.patterns_by_one32.Statement.{statement}

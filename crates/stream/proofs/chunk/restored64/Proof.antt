@@ -1,5 +1,5 @@
 -- `stream::chunk::restored64` meets its contract. The invariant: the values put so far, and those that the bytes left give, are all of them.
-use mathlib.Core.Path.{_≡_, refl, sym, ap, _∙_}
+use mathlib.Core.Path.{_≡_, sym, ap, _∙_}
 use mathlib.Core.List.{List, _++_}
 use Prim.Native.Nat.{ℕ, _-_, _+_, _≤_, min}
 use native.Mathlib.Nat.{zero-add, le-trans, le-of-eq}

@@ -1,19 +1,18 @@
 -- `stream::chunk::value32` meets its contract. The invariant: the value at `index` of what is left is the value that is asked for.
 use mathlib.Core.Path.{_≡_, refl, sym, ap, _∙_}
 use mathlib.Core.List.{List}
-use Prim.Native.Nat.{ℕ, _-_, _+_, _≤_, _<_, min}
+use Prim.Native.Nat.{ℕ, _-_, _≤_, _<_, min}
 use native.Mathlib.Nat.{le-refl}
 use native.Mathlib.Omega.{arith}
 use lib.Dec.{lit<, lit≤}
-use lib.ListN.{length, take, drop, getD}
+use lib.ListN.{drop, getD}
 use lib.Seq.{getD-take}
 use borrow.Author.Needs.{needs}
 use Rattle.stream.specs.Group.{groupLength, groupCodes}
 use Rattle.stream.specs.Setting.{patternAt, patternsOf, limitOf}
 use Rattle.stream.specs.Chunk.{chunkCodes}
-use Rattle.stream.proofs.Law.Group.{length-codes}
 use Rattle.stream.proofs.Law.Walking.{part-is}
-use Rattle.stream.proofs.Law.Restoring.{Onward, starts-onward, long-enough, part-opens, next-below, goes-on, behind-next, within-next}
+use Rattle.stream.proofs.Law.Restoring.{Onward, starts-onward, part-opens, next-below, goes-on, behind-next, within-next}
 use Rattle.stream.proofs.chunk.value32.Statement.{statement}
 use Rattle.stream.proofs.chunk.value32.Tie as tie
 

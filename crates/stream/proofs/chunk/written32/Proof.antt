@@ -1,15 +1,15 @@
 -- `stream::chunk::written32` meets its contract. The invariant: the bytes put so far, and those of the values left, are all of them.
-use mathlib.Core.Path.{_≡_, refl, sym, ap, ap₂, _∙_}
+use mathlib.Core.Path.{sym, ap, _∙_}
 use mathlib.Core.List.{List, _++_}
 use Prim.Native.Nat.{ℕ, _+_, _-_, _≤_}
 use native.Mathlib.Nat.{le-trans, le-of-eq}
 use native.Mathlib.Omega.{arith}
-use lib.Dec.{lit<, lit≤}
-use lib.ListN.{length, take, drop, length-append, length-take, length-drop}
+use lib.Dec.{lit<}
+use lib.ListN.{length, take, drop, length-take, length-drop}
 use borrow.Author.Needs.{needs}
 use borrow.Rule.Slice.PartMut.{putMid}
 use Rattle.stream.specs.Group.{groupBytes}
-use Rattle.stream.specs.Setting.{fractionBits, codesOf}
+use Rattle.stream.specs.Setting.{codesOf}
 use Rattle.stream.specs.Chunk.{chunkBytes}
 use Rattle.stream.proofs.Law.Stepping.{bytesFrom, group-next, next-fits, none-left}
 use Rattle.stream.proofs.Law.Appending.{Appended, nothing-yet, within, same-room, lent-room, one-piece, all-there}

@@ -7,7 +7,7 @@ use native.Mathlib.Nat.{add-assoc, mul-zero, mul-suc, mul-le-mul, mul-le-mul-lef
 use native.Mathlib.Numerals.{add-one}
 use native.Mathlib.Omega.{arith}
 use borrow.Author.Count.{below-none, below-more}
-use lib.ListN.{length, getD}
+use lib.ListN.{getD}
 use Rattle.stream.specs.Bytes.{number}
 use Rattle.stream.specs.Group.{within, groupCodes}
 use Rattle.stream.proofs.Law.Bytes.{everywhere}
