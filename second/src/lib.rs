@@ -35,10 +35,7 @@ impl Refusal {
     /// table fits 32 bits: lengths are bounded by the value limit, the needed
     /// minor is a header number, chunk numbers are below 1,024.
     pub const fn with_detail(number: u32, detail: u64) -> Refusal {
-        Refusal {
-            number,
-            detail: detail as u32,
-        }
+        Refusal { number, detail: detail as u32 }
     }
 }
 

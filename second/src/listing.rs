@@ -27,10 +27,7 @@ fn described(header: &Header, stretches: &[Range<u64>]) -> String {
         setting.mode(),
         setting.k()
     );
-    text += &format!(
-        "values {} chunks {} sides {}\n",
-        header.n, header.c, header.sides
-    );
+    text += &format!("values {} chunks {} sides {}\n", header.n, header.c, header.sides);
     for (chunk, stretch) in (0..).zip(stretches) {
         text += &format!(
             "chunk {} at {} bytes {} groups {}\n",

@@ -16,26 +16,14 @@ pub struct Width {
     greatest_k: i32,
 }
 
-pub const WIDTH_32: Width = Width {
-    bits: 32,
-    fraction_bits: 23,
-    least_k: -150,
-    greatest_k: 103,
-};
+pub const WIDTH_32: Width = Width { bits: 32, fraction_bits: 23, least_k: -150, greatest_k: 103 };
 
-pub const WIDTH_64: Width = Width {
-    bits: 64,
-    fraction_bits: 52,
-    least_k: -1075,
-    greatest_k: 970,
-};
+pub const WIDTH_64: Width = Width { bits: 64, fraction_bits: 52, least_k: -1075, greatest_k: 970 };
 
 impl Width {
     /// The width with this number, if it is 32 or 64.
     pub fn numbered(number: u32) -> Option<Width> {
-        [WIDTH_32, WIDTH_64]
-            .into_iter()
-            .find(|width| width.bits == number)
+        [WIDTH_32, WIDTH_64].into_iter().find(|width| width.bits == number)
     }
 
     /// W.
@@ -185,9 +173,7 @@ pub struct Tolerance {
 impl Tolerance {
     /// The tolerance of an allowed k, else nothing.
     pub fn allowed(width: Width, k: i32) -> Option<Tolerance> {
-        (width.least_k..=width.greatest_k)
-            .contains(&k)
-            .then_some(Tolerance { width, k })
+        (width.least_k..=width.greatest_k).contains(&k).then_some(Tolerance { width, k })
     }
 
     pub fn width(self) -> Width {

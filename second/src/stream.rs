@@ -133,13 +133,7 @@ fn level_known(level: u32) -> Result<(), Refusal> {
 // ------------------------------------------------------- pack and length
 
 /// Writes the packed stream to the front of the output. Order 1 2 3 4.
-pub fn pack<P: Pattern>(
-    level: u32,
-    mode: u32,
-    k: i32,
-    values: &[P],
-    output: &mut [u8],
-) -> Answer {
+pub fn pack<P: Pattern>(level: u32, mode: u32, k: i32, values: &[P], output: &mut [u8]) -> Answer {
     let stream = packed(level, mode, k, values)?;
     let length = stream.len() as u64;
     match output.get_mut(..stream.len()) {
@@ -155,12 +149,7 @@ pub fn length<P: Pattern>(level: u32, mode: u32, k: i32, values: &[P]) -> Answer
 }
 
 /// The whole packed stream, or one of the refusals 1 2 3.
-fn packed<P: Pattern>(
-    level: u32,
-    mode: u32,
-    k: i32,
-    values: &[P],
-) -> Result<Vec<u8>, Refusal> {
+fn packed<P: Pattern>(level: u32, mode: u32, k: i32, values: &[P]) -> Result<Vec<u8>, Refusal> {
     level_known(level)?;
     let setting = Setting::allowed(P::WIDTH.bits(), mode, k)
         .filter(|setting| setting.need() <= level)
@@ -354,11 +343,9 @@ fn side_table_holds(stream: &[u8], header: &Header) -> bool {
     let mut last_id = None;
     for side in 0..header.sides {
         let entry = header.data_end + SIDE_ENTRY_BYTES * side;
-        let (Some(id), Some(place), Some(length)) = (
-            number_at(stream, entry),
-            number_at(stream, entry + 4),
-            number_at(stream, entry + 8),
-        ) else {
+        let (Some(id), Some(place), Some(length)) =
+            (number_at(stream, entry), number_at(stream, entry + 4), number_at(stream, entry + 8))
+        else {
             return false; // the table runs past the bytes
         };
         if last_id.is_some_and(|last| id <= last) || place as u64 != next_place {
@@ -507,9 +494,7 @@ fn told_apart<P: Pattern>(pattern: u64) -> Probed<P> {
     if ordinal < infinity {
         Probed::Finite(P::of_number(pattern))
     } else if ordinal == infinity {
-        Probed::Infinity {
-            negative: P::WIDTH.sign(pattern) == 1,
-        }
+        Probed::Infinity { negative: P::WIDTH.sign(pattern) == 1 }
     } else {
         Probed::NotANumber(P::of_number(pattern))
     }

@@ -4,7 +4,7 @@
 use super::fields::Cell;
 use super::timing::Who;
 use crate::compare::outcome::answered;
-use crate::plain;
+use crate::plain::{self, Plain, Style, Tuned};
 
 /// All settings are allowed at the highest level.
 pub const LEVEL: u32 = 10;
@@ -35,17 +35,27 @@ impl Value for u32 {}
 impl Value for u64 {}
 
 pub fn plain_codec<P: Value>() -> Codec<P> {
+    codec_of::<Plain, P>(Who::Plain)
+}
+
+pub fn tuned_codec<P: Value>() -> Codec<P> {
+    codec_of::<Tuned, P>(Who::Tuned)
+}
+
+fn codec_of<S: Style, P: Value>(who: Who) -> Codec<P> {
     Codec {
-        who: Who::Plain,
+        who,
         pack: |setting, values, output| {
-            answered(plain::pack(LEVEL, setting.mode, setting.k, values, output))
+            answered(plain::pack::<S, P>(LEVEL, setting.mode, setting.k, values, output))
         },
-        length: |setting, values| answered(plain::length(LEVEL, setting.mode, setting.k, values)),
-        check: |stream| answered(plain::check(LEVEL, stream)),
-        unpack: |stream, output| answered(plain::unpack(LEVEL, stream, output)),
+        length: |setting, values| {
+            answered(plain::length::<S, P>(LEVEL, setting.mode, setting.k, values))
+        },
+        check: |stream| answered(plain::check::<S>(LEVEL, stream)),
+        unpack: |stream, output| answered(plain::unpack::<S, P>(LEVEL, stream, output)),
         probe: |stream, index, pattern| {
-            let probed = plain::probe(LEVEL, stream, index);
-            answered(probed.map(|found: P| {
+            let probed = plain::probe::<S, P>(LEVEL, stream, index);
+            answered(probed.map(|found| {
                 *pattern = found;
                 found.kind()
             }))

@@ -96,7 +96,11 @@ pub trait Cell: Copy {
     /// As probe answers it: 0 finite, 1 infinite, 2 not-a-number.
     fn kind(self) -> u64 {
         let value = self.float();
-        if value.is_nan() { 2 } else { value.is_infinite().into() }
+        if value.is_nan() {
+            2
+        } else {
+            value.is_infinite().into()
+        }
     }
 }
 
@@ -114,7 +118,11 @@ macro_rules! cell {
             fn finite(random: u64) -> $word {
                 let pattern = (random >> (64 - $word::BITS)) as $word;
                 let second_highest = 1 << ($word::BITS - 2);
-                if pattern.kind() == 0 { pattern } else { pattern & !second_highest }
+                if pattern.kind() == 0 {
+                    pattern
+                } else {
+                    pattern & !second_highest
+                }
             }
 
             fn not_a_number(random: u64) -> $word {

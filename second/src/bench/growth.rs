@@ -31,8 +31,7 @@ pub fn measure<P: Value>(setting: Setting, ours: &Codec<P>, watch: Watch) -> Gro
     let lists: Vec<_> =
         LENGTHS.iter().map(|&length| lists_of(setting, length, &values, &plain)).collect();
     let room = LENGTHS.iter().map(|&length| VALUES / length * most_bytes::<P>(length)).max();
-    let mut space =
-        Space { bytes: vec![1; room.unwrap_or(0)], values: vec![P::default(); VALUES] };
+    let mut space = Space { bytes: vec![1; room.unwrap_or(0)], values: vec![P::default(); VALUES] };
     let mut contenders = Vec::new();
     for lists in &lists {
         verify(lists, ours, &mut space.bytes);

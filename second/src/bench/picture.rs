@@ -201,6 +201,7 @@ fn colour(who: Who) -> &'static str {
     match who {
         Who::Ours => "#0072b2",
         Who::Plain => "#e69f00",
+        Who::Tuned => "#56b4e9",
         Who::Lz4 => "#009e73",
         Who::Zstd => "#cc79a7",
         Who::Zfp => "#d55e00",
@@ -212,6 +213,7 @@ fn colour(who: Who) -> &'static str {
 fn mark(svg: &mut String, who: Who, filled: bool, x: f64, y: f64) {
     let corners: &[(f64, f64)] = match who {
         Who::Plain => &[(-5.5, 0.0), (0.0, -5.5), (5.5, 0.0), (0.0, 5.5)],
+        Who::Tuned => &[(-5.5, -5.5), (5.5, 0.0), (-5.5, 5.5)],
         Who::Lz4 => &[(-5.5, 4.5), (0.0, -5.5), (5.5, 4.5)],
         Who::Zstd => &[(-4.5, -4.5), (4.5, -4.5), (4.5, 4.5), (-4.5, 4.5)],
         Who::Zfp => &[(-5.5, -4.5), (5.5, -4.5), (0.0, 5.5)],

@@ -106,16 +106,18 @@ fn megabytes_a_second(row: &Row, seconds: f64) -> f64 {
 
 // ------------------------------------------------------------------ tables
 
-/// Each operation's speed, and as a share of the plain version's.
-pub fn beside_plain(rows: &[Row]) -> String {
-    let mut text = String::from(
-        "MB (10^6 raw bytes) a second, or ns a probe; in brackets the share of the plain version's \
-         speed, by medians and by minima.\n\n\
+/// Each operation's speed, and as a share of a baseline's.
+pub fn beside(baseline: Who, rows: &[Row]) -> String {
+    let mut text = format!(
+        "MB (10^6 raw bytes) a second, or ns a probe; in brackets the share of the speed of {}, by \
+         medians and by minima.\n\n\
          | width | mode | field | size | pack | pack, exact room | length | check | unpack | probe \
          | memcpy |\n|---|---|---|---|---|---|---|---|---|---|---|\n",
+        baseline.name()
     );
     for row in rows {
-        let cells: Vec<String> = TIMED.iter().map(|&operation| cell(row, operation)).collect();
+        let cells: Vec<String> =
+            TIMED.iter().map(|&operation| cell(row, baseline, operation)).collect();
         let copy = timing_of(&row.timings, Who::Memcpy, Operation::Copy);
         let copy = copy.map_or(0.0, |copy| megabytes_a_second(row, copy.median));
         let size = share(row, Who::Ours);
@@ -129,15 +131,16 @@ pub fn beside_plain(rows: &[Row]) -> String {
     text + "\n"
 }
 
-fn cell(row: &Row, operation: Operation) -> String {
-    let [Some(ours), Some(plain)] = BOTH.map(|who| timing_of(&row.timings, who, operation)) else {
+fn cell(row: &Row, baseline: Who, operation: Operation) -> String {
+    let found = [Who::Ours, baseline].map(|who| timing_of(&row.timings, who, operation));
+    let [Some(ours), Some(baseline)] = found else {
         return String::new();
     };
     let speed = match operation {
         Operation::Probe => format!("{:.0} ns", ours.median * 1e9 / PROBES as f64),
         _ => format!("{:.0}", megabytes_a_second(row, ours.median)),
     };
-    let (by_medians, by_minima) = (plain.median / ours.median, plain.minimum / ours.minimum);
+    let (by_medians, by_minima) = (baseline.median / ours.median, baseline.minimum / ours.minimum);
     format!("{speed} ({by_medians:.2}, {by_minima:.2})")
 }
 
@@ -210,14 +213,20 @@ pub fn keeping(keepings: &[Keeping]) -> String {
         let (who, finite) = (who.name(), told(lost.finite, all.finite));
         add(
             &mut text,
-            format_args!("| {who} | {width} | {mode} | {not_a_numbers} | {infinities} | {finite} |"),
+            format_args!(
+                "| {who} | {width} | {mode} | {not_a_numbers} | {infinities} | {finite} |"
+            ),
         );
     }
     text + "\n"
 }
 
 fn told(lost: usize, all: usize) -> String {
-    if lost == 0 { String::from("all kept") } else { format!("{lost} of {all} lost") }
+    if lost == 0 {
+        String::from("all kept")
+    } else {
+        format!("{lost} of {all} lost")
+    }
 }
 
 /// Time per value by the length of the list.

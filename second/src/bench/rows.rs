@@ -1,8 +1,8 @@
 //! One row of the benchmark: a field at one width and mode, every operation of
-//! both versions, memcpy and the other compressors. Results are verified
+//! the three versions, memcpy and the other compressors. Results are verified
 //! before anything is timed.
 
-use super::codec::{most_bytes, plain_codec, Codec, Setting, Value};
+use super::codec::{most_bytes, plain_codec, tuned_codec, Codec, Setting, Value};
 use super::fields::{Field, VALUES};
 use super::others::{lost, Lost, Other};
 use super::timing::{timed, Contender, Operation, Space, Timing, Watch, Who};
@@ -40,22 +40,22 @@ pub fn measure<P: Value>(
     others: &[Other<P>],
     watch: Watch,
 ) -> Row {
-    let plain = plain_codec();
+    let (plain, tuned) = (plain_codec(), tuned_codec());
     let case = case_of(field, setting, &plain);
-    let mut space = Space {
-        bytes: vec![MARK; most_bytes::<P>(VALUES)],
-        values: vec![P::default(); VALUES],
-    };
-    verify(&case, ours, &mut space);
-    verify(&case, &plain, &mut space);
+    let mut space =
+        Space { bytes: vec![MARK; most_bytes::<P>(VALUES)], values: vec![P::default(); VALUES] };
+    for codec in [ours, &plain, &tuned] {
+        verify(&case, codec, &mut space);
+    }
     let others: Vec<_> = others.iter().filter(|o| o.modes.contains(&setting.mode)).collect();
     let packed: Vec<_> = others.iter().map(|o| o.packed(setting, &case.values)).collect();
     let room = others.iter().map(|o| (o.room)(size_of_val(&case.values[..]))).max();
     space.bytes.resize(room.unwrap_or(0).max(space.bytes.len()), MARK);
 
-    let mut contenders = contenders_of(&case, ours);
-    contenders.extend(contenders_of(&case, &plain));
-    contenders.push(copy(&case));
+    let mut contenders = vec![copy(&case)];
+    for codec in [ours, &plain, &tuned] {
+        contenders.extend(contenders_of(&case, codec));
+    }
     for (other, packed) in others.iter().zip(&packed) {
         contenders.extend(contenders_of_other(&case, other, packed));
     }
@@ -63,7 +63,7 @@ pub fn measure<P: Value>(
         let restored = other.restored(setting, packed);
         (other.who, lost(setting, &case.values, &restored).total())
     });
-    let own = [(Who::Ours, case.stream.len()), (Who::Plain, case.stream.len())];
+    let own = [Who::Ours, Who::Plain, Who::Tuned].map(|who| (who, case.stream.len()));
     let foreign = others.iter().zip(&packed).map(|(other, packed)| (other.who, packed.len()));
     Row {
         width: P::W,

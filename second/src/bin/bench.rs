@@ -53,7 +53,8 @@ fn run(directory: &Path, watch: Watch) -> std::io::Result<()> {
     results.measure::<u64>(watch);
     std::fs::write(directory.join("results.csv"), report::csv(&results.rows))?;
     std::fs::write(directory.join("growth.csv"), report::growth_csv(&results.growths))?;
-    print!("{}", report::beside_plain(&results.rows));
+    print!("{}", report::beside(Who::Plain, &results.rows));
+    print!("{}", report::beside(Who::Tuned, &results.rows));
     print!("{}", report::beside_others(&results.rows));
     print!("{}", report::keeping(&results.keeping));
     print!("{}", report::growing(&results.growths));
