@@ -137,6 +137,7 @@ fn words_by_two(codes: &[u64], w: usize, out: &mut [u8]) -> Rest
     Rest { word, fill, at }
 }
 
+// Two at a time where the codes are narrow and the group is full, else one by one.
 fn words(codes: &[u64], w: usize, out: &mut [u8]) -> Rest
     requires { ⌜ (w ≤ 64) × Below (2 ^ w) (now codes) × (bytesFor w (length (now codes)) ≤ length (now out)) ⌝ }
     ensures { λ r. ⌜ Partway w (now (out .entry)) (now (codes .entry)) (r .word) (r .fill) (r .at) (now (out .exit)) ⌝ }
@@ -267,6 +268,7 @@ fn opened_narrow(s: &[u8], n: usize, w: usize) -> Group
     g
 }
 
+// The same of codes of any width: the bits to skip may push a wide one into a ninth byte.
 fn opened_wide(s: &[u8], n: usize, w: usize) -> Group
     requires { ⌜ (n ≤ 32) × (1 ≤ w) × (w ≤ 64) × (w * n / 8 + 10 ≤ length (now s)) ⌝ }
     ensures { λ r. ⌜ (r .count ≡ n) × (take n (r .codes) ≡ digits (2 ^ w) n (number 256 (now (s .entry)) / 256)) ⌝ }
@@ -282,6 +284,7 @@ fn opened_wide(s: &[u8], n: usize, w: usize) -> Group
     Group { count: n, codes }
 }
 
+// The codes are opened by the loop that serves their width.
 fn opened(s: &[u8], n: usize, w: usize) -> Group
     requires { ⌜ (n ≤ 32) × (1 ≤ w) × (w ≤ 64) × (w * n / 8 + 10 ≤ length (now s)) ⌝ }
     ensures { λ r. ⌜ (r .count ≡ n) × (take n (r .codes) ≡ digits (2 ^ w) n (number 256 (now (s .entry)) / 256)) ⌝ }

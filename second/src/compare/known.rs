@@ -11,7 +11,7 @@ use crate::numbers::{WIDTH_32, WIDTH_64};
 use crate::Refusal;
 
 /// Mode 0, width 32: pattern and code.
-const LOSSLESS_32: [(u64, u64); 10] = [
+pub const LOSSLESS_32: [(u64, u64); 10] = [
     (0x0000_0000, 0),
     (0x8000_0000, 2),
     (0x0000_0001, 4),

@@ -10,6 +10,7 @@
 
 pub mod call;
 pub mod judge;
+pub mod known;
 pub mod listings;
 pub mod outcome;
 pub mod random;
@@ -17,7 +18,6 @@ pub mod reference;
 
 mod damage;
 mod groups;
-mod known;
 mod lists;
 mod orders;
 mod readings;

@@ -1,21 +1,9 @@
 //! Every entry of "Known values" and of "Slips we have seen".
 
+use second::compare::known::LOSSLESS_32;
 use second::numbers::*;
 use second::plain::Tuned;
 use second::{plain, stream, Refusal};
-
-const LOSSLESS_32: [(u64, u64); 10] = [
-    (0x0000_0000, 0),
-    (0x8000_0000, 2),
-    (0x0000_0001, 4),
-    (0x3F80_0000, 0x03FF_FFFF),
-    (0xBF80_0000, 0x03FF_FFFD),
-    (0x4000_0000, 0x01FF_FFFF),
-    (0x4080_0000, 0x0200_0000),
-    (0x0080_0000, 0xFFFF_FFFF),
-    (0x7F80_0000, 0xFE00_0000),
-    (0x7FC0_0000, 0xFF00_0000),
-];
 
 fn pattern(value: f32) -> u64 {
     value.to_bits() as u64

@@ -13,8 +13,7 @@ use Rattle.numbers.specs.Answers.{codeAnswer, patternAnswer}
 use Rattle.numbers.specs.Theorem.{Format}
 use Rattle.numbers.specs.declared.tolerance.CodeAnswer.the-variants as code
 use Rattle.numbers.specs.declared.tolerance.PatternAnswer.the-variants as pattern
-use Rattle.numbers.proofs.Law.Answers.{bin-small}
-use Rattle.numbers.proofs.Theorems.{tolerance-code-has-W-bits, tolerance-pattern-has-W-bits}
+use Rattle.numbers.proofs.Theorems.{an-allowed-k-has-a-bin, tolerance-code-has-W-bits, tolerance-pattern-has-W-bits}
 
 -- A signed argument arrives as the number that its bits spell, which is itself.
 pub told : {A : Type 0} (f : ℤ → A) (k : ℤ) → SFits w32 k → (r e : A) → r ≡ f (toZ w32 (ofZ w32 k)) → r ≡ e → f k ≡ e
@@ -25,7 +24,7 @@ module _ (W m : ℕ) (format : Format W m) (k : ℤ) where
     coded : (b : Bool) → allowedK W m k ≡ b → cond b (code.Code (toleranceCode W m (binOf W m k) p)) code.NotAllowed ≡ code.Code c → c < 2 ^ W
     coded true a e =
         let same : toleranceCode W m (binOf W m k) p ≡ c = cc in
-        rw (sym same) (tolerance-code-has-W-bits W m format (binOf W m k) (bin-small W m k (format .least) (format .order) a) p small)
+        rw (sym same) (tolerance-code-has-W-bits W m format (binOf W m k) (an-allowed-k-has-a-bin W m format k a) p small)
     coded false a e = let none : c ≡ 0 = cc in rw none (pow-pos W)
 
     pub code-fits : codeAnswer W m k p ≡ code.Code c → c < 2 ^ W
@@ -37,7 +36,7 @@ module _ (W m : ℕ) (format : Format W m) (k : ℤ) where
         → cond b (cond o (pattern.Pattern (toleranceRestored W m (binOf W m k) c)) pattern.AboveLargest) pattern.NotAllowed ≡ pattern.Pattern p → p < 2 ^ W
     restored true a true e =
         let same : toleranceRestored W m (binOf W m k) c ≡ p = cc in
-        rw (sym same) (tolerance-pattern-has-W-bits W m format (binOf W m k) (bin-small W m k (format .least) (format .order) a) c)
+        rw (sym same) (tolerance-pattern-has-W-bits W m format (binOf W m k) (an-allowed-k-has-a-bin W m format k a) c)
     restored true a false e = let none : p ≡ 0 = cc in rw none (pow-pos W)
     restored false a o e = let none : p ≡ 0 = cc in rw none (pow-pos W)
 
