@@ -62,7 +62,7 @@ static uint8_t *packed(const float *values, size_t n, int32_t k, size_t *length)
     return stream;
 }
 
-/* The values of a stream, for the caller to free. The bytes may come from anywhere: a damaged stream is refused. */
+/* The values of a stream, for the caller to free. The bytes may come from anywhere: what breaks a rule of the format is refused. */
 static float *unpacked(const uint8_t *stream, size_t length, size_t *n)
 {
     *n = gwz_answer(not_refused("check", gwz_check(GWZ_HIGHEST_LEVEL, stream, length)));
