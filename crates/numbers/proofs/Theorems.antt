@@ -15,7 +15,7 @@ use Rattle.numbers.specs.declared.bound.BoundAnswer.the-variants.{Expone
 use Rattle.numbers.specs.Lossless.{losslessCode, losslessRestored}
 use Rattle.numbers.specs.Tolerance.{kOffset, lastBin, allowedK, binOf, sign, ordinal, magnitude, restoredOrdinal, toleranceCode, toleranceRestored, largestU}
 use Rattle.numbers.specs.Answers.{binAnswer}
-use Rattle.numbers.specs.Bound.{isTolerance, notAbove, boundAt}
+use Rattle.numbers.specs.Bound.{isTolerance, exponentOf, notAbove, boundAt}
 use Rattle.numbers.specs.Theorem.{Format, distance, Within, IsBound}
 use Rattle.numbers.proofs.Law.Lossless as Lossless
 use Rattle.numbers.proofs.Law.Tolerance as Tolerance
@@ -45,6 +45,17 @@ a-bin-is-that-of-k W m k j e = (allowed W m k j e, bin-is W m k j e)
 
 pub no-bin-means-not-allowed : (W m : ℕ) (k : ℤ) → binAnswer W m k ≡ NotAllowed → allowedK W m k ≡ false
 no-bin-means-not-allowed W m k e = refused-is W m k (allowedK W m k) refl e
+
+-- a bin and its k: each gives the other back
+module _ (W m : ℕ) (format : Format W m) where
+  pub the-k-of-a-bin-is-allowed : (j : ℕ) → j ≤ lastBin W m → allowedK W m (exponentOf W m j) ≡ true
+  the-k-of-a-bin-is-allowed = Bound.bin-allowed W m format
+
+  pub the-bin-of-its-k : (j : ℕ) → binOf W m (exponentOf W m j) ≡ j
+  the-bin-of-its-k = Bound.bin-back W m format
+
+  pub the-k-of-its-bin : (k : ℤ) → allowedK W m k ≡ true → exponentOf W m (binOf W m k) ≡ k
+  the-k-of-its-bin = Bound.exponent-back W m format
 
 -- ---- lossless
 

@@ -3,7 +3,7 @@ use mathlib.Core.Path.{_≡_, refl}
 use mathlib.Core.Bool.{Bool, true, false}
 use mathlib.Core.List.{List, [], _∷_}
 use Prim.Native.Nat.{ℕ, _*_}
-use lib.IntN.{negsuc}
+use lib.IntN.{pos, negsuc}
 use lib.Ieee.{size}
 use lib.ListN.{replicate}
 use Rattle.numbers.specs.Signed.{signedView, folded}
@@ -11,7 +11,7 @@ use Rattle.numbers.specs.Tolerance.{kOffset, lastBin, binOf, largestU}
 use Rattle.numbers.specs.Lossless.{rotated, field, minus, lowered, stepped, losslessCode}
 use Rattle.stream.specs.Bytes.{number, digits}
 use Rattle.stream.specs.Group.{bytesFor, largest, widthOf, packed, groupBytes, givenWidth, groupLength, groupNumber, groupCodes, within, goodGroup}
-use Rattle.stream.specs.Setting.{fractionBits, binFor, clipped, codeAt, codesOf, limitOf}
+use Rattle.stream.specs.Setting.{fractionBits, binFor, settingOf, clipped, codeAt, codesOf, limitOf}
 use Rattle.stream.specs.Chunk.{groupsIn, groupsBytes, chunkBytes}
 
 -- the list 0, -0, 2^-149, whose codes are 0, 2 and 4: "then bytes 03 10 01"
@@ -26,7 +26,7 @@ all-zero = refl
 
 -- the largest u of a stream of width 32, mode 1, k = -2
 mostU : ℕ
-mostU = limitOf 32 1 (binFor 32 1 (negsuc 1))
+mostU = limitOf (settingOf 32 1 (negsuc 1))
 
 -- each row: the largest u, how many codes, the bytes; first two that are good, then one for each rule that a group can break at width 32
 rows : List Bool
@@ -50,11 +50,11 @@ unfolding rows mostU limitOf binFor clipped fractionBits binOf kOffset lastBin l
 rules = refl
 
 -- the list itself, coded losslessly, as a chunk
-three-values : chunkBytes 32 (codesOf 32 0 0 (0x00000000 ∷ 0x80000000 ∷ 0x00000001 ∷ [])) ≡ 3 ∷ 16 ∷ 1 ∷ []
-unfolding chunkBytes groupsBytes groupsIn codesOf codeAt fractionBits losslessCode rotated stepped lowered minus field signedView folded groupBytes widthOf largest packed bytesFor digits number size
+three-values : chunkBytes 32 (codesOf (settingOf 32 0 (pos 0)) (0x00000000 ∷ 0x80000000 ∷ 0x00000001 ∷ [])) ≡ 3 ∷ 16 ∷ 1 ∷ []
+unfolding chunkBytes groupsBytes groupsIn binFor codesOf codeAt fractionBits losslessCode rotated stepped lowered minus field signedView folded groupBytes widthOf largest packed bytesFor digits number size
 three-values = refl
 
 -- "1,024 zeros": 32 groups of one byte
-zeros : chunkBytes 32 (codesOf 32 0 0 (replicate 1024 0)) ≡ replicate 32 0
-unfolding chunkBytes groupsBytes groupsIn codesOf codeAt fractionBits losslessCode rotated stepped lowered minus field signedView folded groupBytes widthOf largest packed bytesFor digits number size
+zeros : chunkBytes 32 (codesOf (settingOf 32 0 (pos 0)) (replicate 1024 0)) ≡ replicate 32 0
+unfolding chunkBytes groupsBytes groupsIn binFor codesOf codeAt fractionBits losslessCode rotated stepped lowered minus field signedView folded groupBytes widthOf largest packed bytesFor digits number size
 zeros = refl

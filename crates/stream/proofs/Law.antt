@@ -62,3 +62,9 @@ pub mod Listing
 pub mod ListingKnown
 --   Small: numbers, details and answers of 32 bits, refusals that are not 0, values of W bits
 pub mod Small
+--   Chosen: the list of the stream's width
+pub mod Chosen
+pub mod Lending
+pub mod Beginning
+--   Opening: the header or a refusal
+pub mod Opening

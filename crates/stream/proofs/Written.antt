@@ -1,18 +1,18 @@
 -- What is written, and that it is read back: the theorems on packed streams, plain or with well-formed side parts behind the data, for
 -- any width that document 01 knows. The proofs are citations of the laws in proofs/Law/. The words are those of specs/.
-use mathlib.Core.Path.{_≡_, refl, sym, ap, _∙_}
+use mathlib.Core.Path.{_≡_, refl, sym, ap, subst, _∙_}
 use mathlib.Core.Logic.{_⊎_, inl, inr}
 use mathlib.Core.Bool.{true, cond}
 use mathlib.Core.List.{List, _++_}
 use Prim.Native.Nat.{ℕ, _+_, _-_, _*_, _/_, _^_, _≤_, _<_}
-use borrow.Author.Tests.{lt-ltb, le-ltb}
+use borrow.Author.Tests.{eq-eqb, lt-ltb, le-ltb}
 use lib.Dec.{ltb}
 use lib.IntN.{ℤ}
 use lib.ListN.{length, drop, getD}
 use Rattle.numbers.specs.Tolerance.{binOf, ordinal}
 use Rattle.numbers.specs.Theorem.{Within}
 use Rattle.stream.specs.Bytes.{Below}
-use Rattle.stream.specs.Setting.{knownLevel, fractionBits, need, binFor, groupSize, codesOf, patternsOf}
+use Rattle.stream.specs.Setting.{knownLevel, fractionBits, binFor, settingOf, need, groupSize, codesOf, patternsOf}
 use Rattle.stream.specs.Chunk.{groupsIn}
 use Rattle.stream.specs.Rows.{first, answer, after}
 use Rattle.stream.specs.Header.{word, headerOf, chunksIn, settingRight, layoutRight}
@@ -30,6 +30,7 @@ use Rattle.stream.proofs.Law.Agreed.{refused-stop}
 use Rattle.stream.proofs.Law.Pieces.{end-most}
 use Rattle.stream.proofs.Law.Answering.{rows-pass, room-enough, length-stream, length-done, pack-done}
 use Rattle.stream.proofs.Law.Admitted.{plain-sent, bytes-sent, header-words, header-read, setting-kept, layout-kept, chunk-table-kept, side-table-kept, chunks-kept, values-read, check-pass, check-stop, unpack-pass, unpack-stop, probe-pass, probe-stop}
+use Rattle.stream.proofs.Law.Settings.{made-allowed, storable}
 use Rattle.stream.proofs.Law.Returning.{lossless-back, tolerance-back, special-back}
 
 -- Demand 1: a refused pack has written nothing.
@@ -37,49 +38,49 @@ pub refused-pack-untouched : (W level mode : ℕ) (k : ℤ) (vs out : List ℕ) 
     → packAnswer W level mode k vs (length out) ≡ Refused number detail → packOut W level mode k vs out ≡ out
 unfolding packAnswer packOut after
 refused-pack-untouched W level mode k vs out number detail e =
-    rw (refused-stop (first (packRows W level mode k vs (length out))) (length (stream W level mode k vs)) number detail e)
+    rw (refused-stop (first (packRows W level mode k vs (length out))) (length (stream level (settingOf W mode k) vs)) number detail e)
 
 -- for a list that a stream may hold
 module _ (W level mode : ℕ) (k : ℤ) (vs : List ℕ) (p : Packable W level mode k vs) where
   -- ---- writing
 
   -- length answers the stream's length, at a level that we know
-  pub length-is-answered : knownLevel level ≡ true → lengthAnswer W level mode k vs ≡ Done (length (stream W level mode k vs))
-  length-is-answered known = sym (length-done W level mode k vs (length (stream W level mode k vs)) (rows-pass W level mode k vs known p) (length-stream W level mode k vs))
+  pub length-is-answered : knownLevel level ≡ true → lengthAnswer W level mode k vs ≡ Done (length (stream level (settingOf W mode k) vs))
+  length-is-answered known = sym (length-done W level mode k vs (length (stream level (settingOf W mode k) vs)) (rows-pass W level mode k vs known p) (length-stream level (settingOf W mode k) vs))
 
   -- pack writes the stream where there is room for it, and alters nothing past it
-  pub the-stream-is-packed : knownLevel level ≡ true → (out : List ℕ) → length (stream W level mode k vs) ≤ length out
-      → (packAnswer W level mode k vs (length out) ≡ Done (length (stream W level mode k vs)))
-      × (packOut W level mode k vs out ≡ stream W level mode k vs ++ drop (length (stream W level mode k vs)) out)
+  pub the-stream-is-packed : knownLevel level ≡ true → (out : List ℕ) → length (stream level (settingOf W mode k) vs) ≤ length out
+      → (packAnswer W level mode k vs (length out) ≡ Done (length (stream level (settingOf W mode k) vs)))
+      × (packOut W level mode k vs out ≡ stream level (settingOf W mode k) vs ++ drop (length (stream level (settingOf W mode k) vs)) out)
   the-stream-is-packed known out room =
       let done =
-      pack-done W level mode k vs out (rows-pass W level mode k vs known p) (length (stream W level mode k vs)) (stream W level mode k vs ++ drop (length (stream W level mode k vs)) out)
-      (sym (room-enough W mode k vs (length out) (rw (length-stream W level mode k vs) at room))) refl refl in
+      pack-done W level mode k vs out (rows-pass W level mode k vs known p) (length (stream level (settingOf W mode k) vs)) (stream level (settingOf W mode k) vs ++ drop (length (stream level (settingOf W mode k) vs)) out)
+      (sym (room-enough (settingOf W mode k) vs (length out) (rw (length-stream level (settingOf W mode k) vs) at room))) refl refl in
       (sym (done .0), sym (done .1))
 
   -- "Packed length is never above 48 + 4c + (n/32 rounded up) + n·W/8."
   pub packed-length-bound :
-      length (stream W level mode k vs) ≤ 48 + 4 * chunksIn (length vs) + groupsIn (groupSize mode) (length vs) + length vs * W / 8
+      length (stream level (settingOf W mode k) vs) ≤ 48 + 4 * chunksIn (length vs) + groupsIn (groupSize (settingOf W mode k)) (length vs) + length vs * W / 8
   unfolding mostBytes
-  packed-length-bound = rw (length-stream W level mode k vs) (end-most W mode k vs (p .width) (p .patterns))
+  packed-length-bound = rw (length-stream level (settingOf W mode k) vs) (end-most (settingOf W mode k) vs (p .width) (p .patterns))
 
   -- ---- what a reader meets: the plain stream, or one with side parts behind its data
 
-  pub the-plain-stream : Sent W level mode k vs (stream W level mode k vs)
-  the-plain-stream = plain-sent W level mode k vs
+  pub the-plain-stream : Sent level (settingOf W mode k) vs (stream level (settingOf W mode k) vs)
+  the-plain-stream = plain-sent level (settingOf W mode k) vs
 
-  pub with-side-parts : (ps : List Side) → WellFormedSides (firstPart W mode k vs (length ps)) ps → Sent W level mode k vs (withSides W level mode k vs ps)
+  pub with-side-parts : (ps : List Side) → WellFormedSides (firstPart (settingOf W mode k) vs (length ps)) ps → Sent level (settingOf W mode k) vs (withSides level (settingOf W mode k) vs ps)
   with-side-parts ps well = record { sides = ps; well-formed = well; bytes = refl }
 
-  module _ (s : List ℕ) (sent : Sent W level mode k vs s) where
+  module _ (s : List ℕ) (sent : Sent level (settingOf W mode k) vs s) where
     -- it is bytes
     pub bytes-only : Below 256 s
-    bytes-only = bytes-sent W level mode k vs p s sent
+    bytes-only = bytes-sent level (settingOf W mode k) vs (storable W level mode k vs p) s sent
 
     -- the table "at | number" is read as it was written
     pub the-header-is-read : (j : ℕ) → j < 12
-        → word s (4 * j) ≡ getD (headerNumbers W level mode k (length vs) (length (sent .sides)) (endOf W mode k vs (chunksIn (length vs)))) j 0
-    the-header-is-read = header-words W level mode k vs p s sent
+        → word s (4 * j) ≡ getD (headerNumbers level (settingOf W mode k) (length vs) (length (sent .sides)) (endOf (settingOf W mode k) vs (chunksIn (length vs)))) j 0
+    the-header-is-read = header-words level (settingOf W mode k) vs (storable W level mode k vs p) s sent
 
     -- no rule of the refusals 8, 9 and 10 is broken
     pub every-rule-is-kept :
@@ -87,69 +88,75 @@ module _ (W level mode : ℕ) (k : ℤ) (vs : List ℕ) (p : Packable W level mo
         × (chunkTableRight (headerOf s) s ≡ true) × (sideTableRight (headerOf s) s ≡ true)
         × ((j : ℕ) → j < chunksIn (length vs) → chunkState (headerOf s) s j ≡ Good)
     every-rule-is-kept = (
-      setting-kept W level mode k vs p s sent,
-      layout-kept W level mode k vs p s sent,
-      chunk-table-kept W level mode k vs p s sent,
-      side-table-kept W level mode k vs p s sent,
-      chunks-kept W level mode k vs p s sent,
+      setting-kept level (settingOf W mode k) vs (storable W level mode k vs p) s sent,
+      layout-kept level (settingOf W mode k) vs (storable W level mode k vs p) s sent,
+      chunk-table-kept level (settingOf W mode k) vs (storable W level mode k vs p) s sent,
+      side-table-kept level (settingOf W mode k) vs (storable W level mode k vs p) s sent,
+      chunks-kept level (settingOf W mode k) vs (storable W level mode k vs p) s sent,
     )
 
     -- the values are the patterns of the codes
-    pub the-values-are-read : values s ≡ patternsOf W mode (binFor W mode k) (codesOf W mode (binFor W mode k) vs)
-    the-values-are-read = values-read W level mode k vs p s sent
+    pub the-values-are-read : values s ≡ patternsOf (settingOf W mode k) (codesOf (settingOf W mode k) vs)
+    the-values-are-read = values-read level (settingOf W mode k) vs (storable W level mode k vs p) s sent
 
     -- "Lossless packing restores every bit pattern."
     pub lossless-values : mode ≡ 0 → values s ≡ vs
-    lossless-values e = the-values-are-read ∙ lossless-back W (p .width) k vs (p .patterns) mode (binFor W mode k) e
+    lossless-values e = the-values-are-read ∙ lossless-back (settingOf W mode k) (made-allowed W mode k (p .width) (p .allowed)) vs (p .patterns) e
+
+    bin-is : mode ≡ 1 → binFor W mode k ≡ binOf W (fractionBits W) k
+    unfolding binFor
+    bin-is e = rw (eq-eqb mode 1 e)
 
     -- "Under tolerance 2^k, a value whose magnitude is below the threshold returns at most 2^k off, exactly; all else returns bit for bit."
     pub tolerance-values : mode ≡ 1 → (i : ℕ) → i < length vs → Within W (fractionBits W) (binOf W (fractionBits W) k) (getD vs i 0) (getD (values s) i 0)
-    tolerance-values e i h = rw the-values-are-read (tolerance-back W (p .width) k vs (p .patterns) mode e (p .allowed) i h)
+    tolerance-values e i h = rw the-values-are-read
+        (subst (λ (j : ℕ). Within W (fractionBits W) j (getD vs i 0) (getD (patternsOf (settingOf W mode k) (codesOf (settingOf W mode k) vs)) i 0)) (bin-is e)
+        (tolerance-back (settingOf W mode k) (made-allowed W mode k (p .width) (p .allowed)) vs (p .patterns) e i h))
 
     -- "infinities and not-a-numbers too": their ordinals are those from the largest exponent on
     pub special-values : mode ≡ 1 → (i : ℕ) → i < length vs
         → (2 ^ (W - 1 - fractionBits W) - 1) * 2 ^ fractionBits W ≤ ordinal W (getD vs i 0) → getD (values s) i 0 ≡ getD vs i 0
-    special-values e i h l = rw the-values-are-read (special-back W (p .width) k vs (p .patterns) mode e (p .allowed) i h l)
+    special-values e i h l = rw the-values-are-read (special-back (settingOf W mode k) (made-allowed W mode k (p .width) (p .allowed)) vs (p .patterns) e i h l)
 
     -- ---- each level reads what its need allows, and refuses the rest by 7, with the need
 
     module _ (L : ℕ) (known : knownLevel L ≡ true) where
-      pub check-exactly : first (checkRows L s) ≡ cond (ltb L (need W mode)) (Stop 7 (need W mode)) Pass
-      check-exactly = go (le-or-lt (need W mode) L)
+      pub check-exactly : first (checkRows L s) ≡ cond (ltb L (need (settingOf W mode k))) (Stop 7 (need (settingOf W mode k))) Pass
+      check-exactly = go (le-or-lt (need (settingOf W mode k)) L)
         where
-          go : (need W mode ≤ L) ⊎ (L < need W mode) → first (checkRows L s) ≡ cond (ltb L (need W mode)) (Stop 7 (need W mode)) Pass
-          go (inl h) = rw (le-ltb L (need W mode) h) (check-pass W level mode k vs p s sent L known h)
-          go (inr h) = rw (lt-ltb L (need W mode) h) (check-stop W level mode k vs p s sent L known h)
+          go : (need (settingOf W mode k) ≤ L) ⊎ (L < need (settingOf W mode k)) → first (checkRows L s) ≡ cond (ltb L (need (settingOf W mode k))) (Stop 7 (need (settingOf W mode k))) Pass
+          go (inl h) = rw (le-ltb L (need (settingOf W mode k)) h) (check-pass level (settingOf W mode k) vs (storable W level mode k vs p) s sent L known h)
+          go (inr h) = rw (lt-ltb L (need (settingOf W mode k)) h) (check-stop level (settingOf W mode k) vs (storable W level mode k vs p) s sent L known h)
 
-      pub unpack-exactly : (room : ℕ) → length vs ≤ room → first (unpackRows W L s room) ≡ cond (ltb L (need W mode)) (Stop 7 (need W mode)) Pass
-      unpack-exactly room l = go (le-or-lt (need W mode) L)
+      pub unpack-exactly : (room : ℕ) → length vs ≤ room → first (unpackRows W L s room) ≡ cond (ltb L (need (settingOf W mode k))) (Stop 7 (need (settingOf W mode k))) Pass
+      unpack-exactly room l = go (le-or-lt (need (settingOf W mode k)) L)
         where
-          go : (need W mode ≤ L) ⊎ (L < need W mode) → first (unpackRows W L s room) ≡ cond (ltb L (need W mode)) (Stop 7 (need W mode)) Pass
-          go (inl h) = rw (le-ltb L (need W mode) h) (unpack-pass W level mode k vs p s sent L known room h l)
-          go (inr h) = rw (lt-ltb L (need W mode) h) (unpack-stop W level mode k vs p s sent L known room h)
+          go : (need (settingOf W mode k) ≤ L) ⊎ (L < need (settingOf W mode k)) → first (unpackRows W L s room) ≡ cond (ltb L (need (settingOf W mode k))) (Stop 7 (need (settingOf W mode k))) Pass
+          go (inl h) = rw (le-ltb L (need (settingOf W mode k)) h) (unpack-pass level (settingOf W mode k) vs (storable W level mode k vs p) s sent L known room h l)
+          go (inr h) = rw (lt-ltb L (need (settingOf W mode k)) h) (unpack-stop level (settingOf W mode k) vs (storable W level mode k vs p) s sent L known room h)
 
       -- probe of each index likewise
-      pub probe-exactly : (i : ℕ) → i < length vs → first (probeRows W L s i) ≡ cond (ltb L (need W mode)) (Stop 7 (need W mode)) Pass
-      probe-exactly i l = go (le-or-lt (need W mode) L)
+      pub probe-exactly : (i : ℕ) → i < length vs → first (probeRows W L s i) ≡ cond (ltb L (need (settingOf W mode k))) (Stop 7 (need (settingOf W mode k))) Pass
+      probe-exactly i l = go (le-or-lt (need (settingOf W mode k)) L)
         where
-          go : (need W mode ≤ L) ⊎ (L < need W mode) → first (probeRows W L s i) ≡ cond (ltb L (need W mode)) (Stop 7 (need W mode)) Pass
-          go (inl h) = rw (le-ltb L (need W mode) h) (probe-pass W level mode k vs p s sent L known i l h)
-          go (inr h) = rw (lt-ltb L (need W mode) h) (probe-stop W level mode k vs p s sent L known i h)
+          go : (need (settingOf W mode k) ≤ L) ⊎ (L < need (settingOf W mode k)) → first (probeRows W L s i) ≡ cond (ltb L (need (settingOf W mode k))) (Stop 7 (need (settingOf W mode k))) Pass
+          go (inl h) = rw (le-ltb L (need (settingOf W mode k)) h) (probe-pass level (settingOf W mode k) vs (storable W level mode k vs p) s sent L known i l h)
+          go (inr h) = rw (lt-ltb L (need (settingOf W mode k)) h) (probe-stop level (settingOf W mode k) vs (storable W level mode k vs p) s sent L known i h)
 
       -- so where the level reaches the need, check counts the values and unpack hands them out
-      pub it-is-read : need W mode ≤ L → (out : List ℕ) → length vs ≤ length out
+      pub it-is-read : need (settingOf W mode k) ≤ L → (out : List ℕ) → length vs ≤ length out
           → (checkAnswer L s ≡ Done (length vs)) × (unpackAnswer W L s (length out) ≡ Done (length vs))
           × (unpackOut W L s out ≡ values s ++ drop (length vs) out)
       unfolding checkAnswer unpackAnswer unpackOut answer after
       it-is-read h out l =
-          let n = ap (λ (x : Header). x .count) (header-read W level mode k vs p s sent) in
-          let passes = unpack-pass W level mode k vs p s sent L known (length out) h l in
-          (rw (check-pass W level mode k vs p s sent L known h) (ap Done n), rw passes (ap Done n), rw passes (ap (λ (m : ℕ). values s ++ drop m out) n))
+          let n = ap (λ (x : Header). x .count) (header-read level (settingOf W mode k) vs (storable W level mode k vs p) s sent) in
+          let passes = unpack-pass level (settingOf W mode k) vs (storable W level mode k vs p) s sent L known (length out) h l in
+          (rw (check-pass level (settingOf W mode k) vs (storable W level mode k vs p) s sent L known h) (ap Done n), rw passes (ap Done n), rw passes (ap (λ (m : ℕ). values s ++ drop m out) n))
 
       -- and where it does not, both say which level is needed, and the output stays as it was
-      pub it-is-too-new : L < need W mode → (out : List ℕ)
-          → (checkAnswer L s ≡ Refused 7 (need W mode)) × (unpackAnswer W L s (length out) ≡ Refused 7 (need W mode)) × (unpackOut W L s out ≡ out)
+      pub it-is-too-new : L < need (settingOf W mode k) → (out : List ℕ)
+          → (checkAnswer L s ≡ Refused 7 (need (settingOf W mode k))) × (unpackAnswer W L s (length out) ≡ Refused 7 (need (settingOf W mode k))) × (unpackOut W L s out ≡ out)
       unfolding checkAnswer unpackAnswer unpackOut answer after
       it-is-too-new h out =
-          let stops = unpack-stop W level mode k vs p s sent L known (length out) h in
-          (rw (check-stop W level mode k vs p s sent L known h), rw stops, rw stops)
+          let stops = unpack-stop level (settingOf W mode k) vs (storable W level mode k vs p) s sent L known (length out) h in
+          (rw (check-stop level (settingOf W mode k) vs (storable W level mode k vs p) s sent L known h), rw stops, rw stops)

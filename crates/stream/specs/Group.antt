@@ -1,12 +1,14 @@
 -- Document 01, "The stream", of a group: "Its first byte w is the bit length of the group's largest code (0 if all are 0); then the
 -- codes, w bits each, lowest bit first, filling each byte from its lowest bit, with zero bits to the next byte."
 use Prim.Native.Nat.{ℕ, suc, _+_, _*_, _/_, _^_, max}
-use mathlib.Core.Bool.{Bool, true, _&&_}
+use mathlib.Core.Bool.{Bool, true, _&&_, cond}
 use mathlib.Core.List.{List, [], _∷_}
 use lib.Dec.{leb, ltb, eqb}
 use lib.Ieee.{size}
 use lib.ListN.{length, take, drop, getD}
 use Rattle.stream.specs.Bytes.{number, digits}
+use Rattle.stream.specs.declared.group.GroupAnswer.{GroupAnswer}
+use Rattle.stream.specs.declared.group.GroupAnswer.the-variants.{Bad, Good}
 
 -- "with zero bits to the next byte": how many bytes hold n codes of w bits each
 unfoldable pub bytesFor : ℕ → ℕ → ℕ
@@ -62,3 +64,7 @@ goodGroup W U n s =
     && eqb (givenWidth s) (widthOf (groupCodes n s))
     && ltb (groupNumber n s) (2 ^ (givenWidth s * n))
     && within U (groupCodes n s)
+
+-- what the check of a group answers: how many bytes a good one has, or that it is bad
+unfoldable pub groupAnswer : ℕ → ℕ → ℕ → List ℕ → GroupAnswer
+groupAnswer W U n s = cond (goodGroup W U n s) (Good (groupLength n s)) Bad

@@ -7,8 +7,9 @@ use lib.IntN.{ℤ}
 use lib.ListN.{take, drop}
 use Rattle.numbers.specs.Signed.{signedView}
 use Rattle.stream.specs.Bytes.{number}
-use Rattle.stream.specs.Setting.{knownWidth, need, allowedSetting, binFor}
+use Rattle.stream.specs.Setting.{knownWidth, allowedSetting, settingOf, need}
 use Rattle.stream.specs.declared.header.Header.{Header}
+use Rattle.stream.specs.declared.setting.Setting.{Setting}
 
 -- "All header and table numbers are 32-bit little-endian": the number at the byte place p
 unfoldable pub word : List ℕ → ℕ → ℕ
@@ -36,9 +37,9 @@ headerOf s =
 unfoldable pub kOf : Header → ℤ
 kOf h = signedView 32 (h .exponent)
 
--- the bin of the header's setting
-unfoldable pub binIn : Header → ℕ
-binIn h = binFor (h .width) (h .mode) (kOf h)
+-- the header's setting
+abbrev pub settingIn : Header → Setting
+settingIn h = settingOf (h .width) (h .mode) (kOf h)
 
 -- "chunk count c = n/1024 rounded up"
 unfoldable pub chunksIn : ℕ → ℕ
@@ -52,7 +53,7 @@ tooMany n = ltb 1048576 n
 
 -- not "need below 8 or not that of the setting, written below needed"
 unfoldable pub needRight : Header → Bool
-needRight h = leb 8 (h .needed) && eqb (h .needed) (need (h .width) (h .mode)) && leb (h .needed) (h .written)
+needRight h = leb 8 (h .needed) && eqb (h .needed) (need (settingIn h)) && leb (h .needed) (h .written)
 
 -- and "width, mode, k"
 unfoldable pub settingRight : Header → Bool

@@ -4,7 +4,6 @@
 pub mod Bytes
 pub mod Group
 pub mod Partway
-pub mod Answer
 pub mod Setting
 pub mod Chunk
 pub mod Rows
@@ -18,3 +17,5 @@ pub mod Operations
 pub mod Listing
 pub mod Relied
 pub mod Theorem
+pub mod Opening
+pub mod Lent

@@ -8,7 +8,7 @@ use lib.IntN.{ℤ, pos, negsuc}
 use lib.ListN.{length, take, drop}
 use Rattle.stream.specs.Setting.{groupSize}
 use Rattle.stream.specs.Chunk.{groupsIn}
-use Rattle.stream.specs.Header.{headerOf, kOf}
+use Rattle.stream.specs.Header.{headerOf, kOf, settingIn}
 use Rattle.stream.specs.Tables.{startAt}
 use Rattle.stream.specs.Stream.{joined, countOf}
 use Rattle.stream.specs.Operations.{checkAnswer}
@@ -142,7 +142,7 @@ unfoldable pub chunkLine : Header → List ℕ → ℕ → List ℕ
 chunkLine h s j =
     labelled chunkWord j ++ labelled atWord (startAt h s j)
     ++ labelled bytesWord (startAt h s (j + 1) - startAt h s j)
-    ++ labelled groupsWord (groupsIn (groupSize (h .mode)) (countOf h j)) ++ newline
+    ++ labelled groupsWord (groupsIn (groupSize (settingIn h)) (countOf h j)) ++ newline
 
 -- the lines of an accepted stream, the last of them one for each chunk
 unfoldable pub streamLines : Header → List ℕ → List ℕ

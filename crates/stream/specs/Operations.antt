@@ -5,7 +5,7 @@ use mathlib.Core.List.{List, [], _∷_, _++_}
 use lib.Dec.{ltb, eqb}
 use lib.IntN.{ℤ}
 use lib.ListN.{length, drop}
-use Rattle.stream.specs.Setting.{knownLevel, need, allowedSetting}
+use Rattle.stream.specs.Setting.{knownLevel, allowedSetting, settingOf, need}
 use Rattle.stream.specs.Rows.{Row, row, rowsFrom, first, answer, after}
 use Rattle.stream.specs.Header.{headerOf, tooMany, settingRight, layoutRight}
 use Rattle.stream.specs.Tables.{chunkTableRight, sideTableRight}
@@ -107,24 +107,24 @@ probeAnswer64 level s i = probed64 (first (probeRows 64 level s i)) (valueAt s i
 unfoldable pub lengthRows : ℕ → ℕ → ℕ → ℤ → ℕ → List Row
 lengthRows W level mode k n =
     row 1 (not (knownLevel level)) 0
-    ∷ row 2 (not (allowedSetting W mode k) || ltb level (need W mode)) 0
+    ∷ row 2 (not (allowedSetting W mode k) || ltb level (need (settingOf W mode k))) 0
     ∷ row 3 (tooMany n) 0
     ∷ []
 
 unfoldable pub lengthAnswer : ℕ → ℕ → ℕ → ℤ → List ℕ → Answer
-lengthAnswer W level mode k vs = answer (first (lengthRows W level mode k (length vs))) (length (stream W level mode k vs))
+lengthAnswer W level mode k vs = answer (first (lengthRows W level mode k (length vs))) (length (stream level (settingOf W mode k) vs))
 
 unfoldable pub packRows : ℕ → ℕ → ℕ → ℤ → List ℕ → ℕ → List Row
 packRows W level mode k vs room =
     lengthRows W level mode k (length vs)
-    ++ (row 4 (ltb room (length (stream W level mode k vs))) (length (stream W level mode k vs)) ∷ [])
+    ++ (row 4 (ltb room (length (stream level (settingOf W mode k) vs))) (length (stream level (settingOf W mode k) vs)) ∷ [])
 
 unfoldable pub packAnswer : ℕ → ℕ → ℕ → ℤ → List ℕ → ℕ → Answer
-packAnswer W level mode k vs room = answer (first (packRows W level mode k vs room)) (length (stream W level mode k vs))
+packAnswer W level mode k vs room = answer (first (packRows W level mode k vs room)) (length (stream level (settingOf W mode k) vs))
 
 -- "past the packed bytes, nothing is altered"
 unfoldable pub packOut : ℕ → ℕ → ℕ → ℤ → List ℕ → List ℕ → List ℕ
 packOut W level mode k vs out =
     after (first (packRows W level mode k vs (length out)))
-    (stream W level mode k vs ++ drop (length (stream W level mode k vs)) out)
+    (stream level (settingOf W mode k) vs ++ drop (length (stream level (settingOf W mode k) vs)) out)
     out

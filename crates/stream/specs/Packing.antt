@@ -7,11 +7,12 @@ use lib.Dec.{ltb}
 use lib.IntN.{ℤ}
 use lib.ListN.{length}
 use Rattle.stream.specs.Bytes.{Below}
-use Rattle.stream.specs.Setting.{knownWidth, need, allowedSetting, groupSize}
+use Rattle.stream.specs.Setting.{knownWidth, allowedSetting, settingOf, need, groupSize}
 use Rattle.stream.specs.Chunk.{groupsIn}
 use Rattle.stream.specs.Header.{chunksIn}
 use Rattle.stream.specs.Rows.{Row, row}
 use Rattle.stream.specs.Writing.{endOf, Side, withSides, WellFormedSides}
+use Rattle.stream.specs.declared.setting.Setting.{Setting}
 
 -- A list of values, W bits wide, with a written minor and a setting that a stream may have: the minor reaches the need. The levels that
 -- pack takes are some of these minors (`knownLevel`); the others are those of later writers: "A stream from a later minor is read if its
@@ -20,24 +21,24 @@ pub record Packable (W level mode : ℕ) (k : ℤ) (vs : List ℕ) : Type 0 wher
   pub width : knownWidth W ≡ true
   pub minor : level < 2 ^ 32
   pub allowed : allowedSetting W mode k ≡ true
-  pub needs : need W mode ≤ level
+  pub needs : need (settingOf W mode k) ≤ level
   pub few : length vs ≤ 1048576
   pub patterns : Below (2 ^ W) vs
 
 -- where the first of so many side parts lies: right after the side table, which lies at the end of data
-unfoldable pub firstPart : ℕ → ℕ → ℤ → List ℕ → ℕ → ℕ
-firstPart W mode k vs sides = endOf W mode k vs (chunksIn (length vs)) + 12 * sides
+unfoldable pub firstPart : Setting → List ℕ → ℕ → ℕ
+firstPart t vs sides = endOf t vs (chunksIn (length vs)) + 12 * sides
 
 -- The bytes s of such a list as a reader may meet them: as pack wrote them, or with well-formed side parts added behind the data.
-pub record Sent (W level mode : ℕ) (k : ℤ) (vs s : List ℕ) : Type 0 where
+pub record Sent (level : ℕ) (t : Setting) (vs s : List ℕ) : Type 0 where
   pub sides : List Side
-  pub well-formed : WellFormedSides (firstPart W mode k vs (length sides)) sides
-  pub bytes : s ≡ withSides W level mode k vs sides
+  pub well-formed : WellFormedSides (firstPart t vs (length sides)) sides
+  pub bytes : s ≡ withSides level t vs sides
 
 -- "Packed length is never above 48 + 4c + (n/32 rounded up) + n·W/8."
-unfoldable pub mostBytes : ℕ → ℕ → ℕ → ℕ
-mostBytes W mode n = 48 + 4 * chunksIn n + groupsIn (groupSize mode) n + n * W / 8
+unfoldable pub mostBytes : Setting → ℕ → ℕ
+mostBytes t n = 48 + 4 * chunksIn n + groupsIn (groupSize t) n + n * t .width / 8
 
 -- 4, with the length by its end of data: no level alters it
-unfoldable pub shortRow : ℕ → ℕ → ℤ → List ℕ → ℕ → Row
-shortRow W mode k vs room = row 4 (ltb room (endOf W mode k vs (chunksIn (length vs)))) (endOf W mode k vs (chunksIn (length vs)))
+unfoldable pub shortRow : Setting → List ℕ → ℕ → Row
+shortRow t vs room = row 4 (ltb room (endOf t vs (chunksIn (length vs)))) (endOf t vs (chunksIn (length vs)))

@@ -5,10 +5,12 @@ use Prim.Native.Nat.{ℕ, _+_, _*_, _/_, _^_, _≤_, _<_}
 use mathlib.Core.Bool.{true}
 use mathlib.Core.List.{List}
 use lib.ListN.{length}
-use Rattle.stream.specs.Setting.{knownWidth, allowedSetting}
+use Rattle.numbers.specs.Tolerance.{lastBin}
+use Rattle.stream.specs.Setting.{knownWidth, fractionBits, allowedSetting}
 use Rattle.stream.specs.Header.{kOf}
 use Rattle.stream.specs.Tables.{chunkTableRight}
 use Rattle.stream.specs.declared.header.Header.{Header}
+use Rattle.stream.specs.declared.setting.Setting.{Setting}
 
 -- the numbers of a header have 32 bits, as far as that counts
 pub record Words (h : Header) : Type 0 where
@@ -16,7 +18,14 @@ pub record Words (h : Header) : Type 0 where
   pub count : h .count < 2 ^ 32
   pub chunks : h .chunks < 2 ^ 32
 
--- the setting is one that document 01 has
+-- a setting that document 01 allows
+pub record Allowed (t : Setting) : Type 0 where
+  pub known : knownWidth (t .width) ≡ true
+  pub mode : t .mode ≤ 1
+  pub bin : t .bin ≤ lastBin (t .width) (fractionBits (t .width))
+  pub none : (t .mode ≡ 1 → ⊥) → t .bin ≡ 0
+
+-- the setting of a header is one that document 01 allows
 pub record Settled (h : Header) : Type 0 where
   pub known : knownWidth (h .width) ≡ true
   pub narrow : h .width ≤ 64

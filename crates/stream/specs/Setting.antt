@@ -1,11 +1,16 @@
--- Document 01, "Levels", and what a setting (width, mode, k) says of codes. The number rules are those of the library `numbers`.
+-- Document 01, "Levels", and what a setting says of codes. A setting is a record of natural numbers (`Setting` of src/setting.rt): a width, a
+-- mode and a bin. It is made here, from the width, the mode and the k of a call or of a header; all else is said of the record.
+-- The number rules are those of the library `numbers`.
 use Prim.Native.Nat.{ℕ, _-_, _^_, min, max}
 use mathlib.Core.Bool.{Bool, false, _&&_, _||_, cond}
 use mathlib.Core.List.{List, map}
 use lib.Dec.{leb, eqb}
 use lib.IntN.{ℤ, pos, negsuc}
+use Rattle.numbers.specs.Signed.{bitsOf}
 use Rattle.numbers.specs.Lossless.{losslessCode, losslessRestored}
 use Rattle.numbers.specs.Tolerance.{allowedK, binOf, lastBin, toleranceCode, toleranceRestored, largestU}
+use Rattle.numbers.specs.Bound.{exponentOf}
+use Rattle.stream.specs.declared.setting.Setting.{Setting}
 
 -- "A level is a minor number: 8, 9 or 10."
 unfoldable pub knownLevel : ℕ → Bool
@@ -18,15 +23,7 @@ knownWidth W = eqb W 32 || eqb W 64
 unfoldable pub fractionBits : ℕ → ℕ
 fractionBits W = cond (eqb W 32) 23 52
 
--- "Width 64 needs 10; else mode 1 needs 9; else 8": the largest of the two needs
-unfoldable pub widthNeed : ℕ → ℕ
-widthNeed W = cond (eqb W 64) 10 8
-
-unfoldable pub modeNeed : ℕ → ℕ
-modeNeed mode = cond (eqb mode 1) 9 8
-
-unfoldable pub need : ℕ → ℕ → ℕ
-need W mode = max (widthNeed W) (modeNeed mode)
+-- ---- the setting of a width, a mode and a k
 
 -- "mode or k not allowed (in mode 0 only k = 0 is)"
 unfoldable pub isZero : ℤ → Bool
@@ -36,31 +33,54 @@ isZero (negsuc n) = false
 unfoldable pub allowedSetting : ℕ → ℕ → ℤ → Bool
 allowedSetting W mode k = cond (eqb mode 0) (isZero k) (eqb mode 1 && allowedK W (fractionBits W) k)
 
--- the bin of a setting: that of k in mode 1, and 0 in mode 0, which has none
+-- the bin: that of k in mode 1, and 0 in mode 0, which has none
 unfoldable pub binFor : ℕ → ℕ → ℤ → ℕ
 binFor W mode k = cond (eqb mode 1) (binOf W (fractionBits W) k) 0
 
--- "It is cut into groups of 32": the size of a group. It is the same in every mode; the laws hold of any.
-unfoldable pub groupSize : ℕ → ℕ
-groupSize mode = 32
+abbrev pub settingOf : ℕ → ℕ → ℤ → Setting
+settingOf W mode k = record { width = W; mode = mode; bin = binFor W mode k }
 
--- ---- the code of a pattern and the pattern of a code, by mode and bin. A bin past the last counts as the last.
+-- ---- what a setting says
 
-unfoldable pub clipped : ℕ → ℕ → ℕ
-clipped W bin = min bin (lastBin W (fractionBits W))
+-- "Width 64 needs 10; else mode 1 needs 9; else 8": the largest of the two needs
+unfoldable pub widthNeed : ℕ → ℕ
+widthNeed W = cond (eqb W 64) 10 8
 
-unfoldable pub codeAt : ℕ → ℕ → ℕ → ℕ → ℕ
-codeAt W mode bin p = cond (eqb mode 0) (losslessCode W (fractionBits W) p) (toleranceCode W (fractionBits W) (clipped W bin) p)
+unfoldable pub modeNeed : ℕ → ℕ
+modeNeed mode = cond (eqb mode 1) 9 8
 
-unfoldable pub patternAt : ℕ → ℕ → ℕ → ℕ → ℕ
-patternAt W mode bin c = cond (eqb mode 0) (losslessRestored W (fractionBits W) c) (toleranceRestored W (fractionBits W) (clipped W bin) c)
+unfoldable pub need : Setting → ℕ
+need t = max (widthNeed (t .width)) (modeNeed (t .mode))
 
-unfoldable pub codesOf : ℕ → ℕ → ℕ → List ℕ → List ℕ
-codesOf W mode bin = map (codeAt W mode bin)
+-- "k in two's complement (0 in mode 0)": the number that the header has for it
+unfoldable pub kBits : Setting → ℕ
+kBits t = cond (eqb (t .mode) 1) (bitsOf 32 (exponentOf (t .width) (fractionBits (t .width)) (t .bin))) 0
 
-unfoldable pub patternsOf : ℕ → ℕ → ℕ → List ℕ → List ℕ
-patternsOf W mode bin = map (patternAt W mode bin)
+-- "It is cut into groups of 32": the size of a group. It is the same in every setting; the laws hold of any.
+unfoldable pub groupSize : Setting → ℕ
+groupSize t = 32
+
+-- ---- the code of a pattern and the pattern of a code. A bin past the last counts as the last.
+
+unfoldable pub clipped : Setting → ℕ
+clipped t = min (t .bin) (lastBin (t .width) (fractionBits (t .width)))
+
+unfoldable pub codeAt : Setting → ℕ → ℕ
+codeAt t p =
+    cond (eqb (t .mode) 0) (losslessCode (t .width) (fractionBits (t .width)) p) (toleranceCode (t .width) (fractionBits (t .width)) (clipped t) p)
+
+unfoldable pub patternAt : Setting → ℕ → ℕ
+patternAt t c =
+    cond (eqb (t .mode) 0) (losslessRestored (t .width) (fractionBits (t .width)) c)
+    (toleranceRestored (t .width) (fractionBits (t .width)) (clipped t) c)
+
+-- the codes of a chunk's values, and the values of a chunk's codes
+unfoldable pub codesOf : Setting → List ℕ → List ℕ
+codesOf t = map (codeAt t)
+
+unfoldable pub patternsOf : Setting → List ℕ → List ℕ
+patternsOf t = map (patternAt t)
 
 -- "u above its largest": the largest u of the mode; in mode 0 every u of W - 1 bits is allowed
-unfoldable pub limitOf : ℕ → ℕ → ℕ → ℕ
-limitOf W mode bin = cond (eqb mode 0) (2 ^ (W - 1) - 1) (largestU W (fractionBits W) (clipped W bin))
+unfoldable pub limitOf : Setting → ℕ
+limitOf t = cond (eqb (t .mode) 0) (2 ^ (t .width - 1) - 1) (largestU (t .width) (fractionBits (t .width)) (clipped t))

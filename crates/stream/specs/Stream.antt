@@ -4,7 +4,7 @@ use mathlib.Core.List.{List, [], _++_}
 use lib.ListN.{take, drop, getD}
 use Rattle.stream.specs.Setting.{groupSize, limitOf, patternsOf}
 use Rattle.stream.specs.Chunk.{chunkAnswer, chunkCodes}
-use Rattle.stream.specs.Header.{headerOf, binIn}
+use Rattle.stream.specs.Header.{headerOf, settingIn}
 use Rattle.stream.specs.Tables.{startAt}
 use Rattle.stream.specs.declared.chunk.ChunkAnswer.{ChunkAnswer}
 use Rattle.stream.specs.declared.header.Header.{Header}
@@ -25,11 +25,11 @@ chunkOf h s j = take (startAt h s (j + 1) - startAt h s j) (drop (h .start + sta
 -- whether the chunk j keeps the rules of refusal 10, or its first bad group
 unfoldable pub chunkState : Header → List ℕ → ℕ → ChunkAnswer
 chunkState h s j =
-    chunkAnswer (h .width) (limitOf (h .width) (h .mode) (binIn h)) (groupSize (h .mode)) (countOf h j) (chunkOf h s j)
+    chunkAnswer (h .width) (limitOf (settingIn h)) (groupSize (settingIn h)) (countOf h j) (chunkOf h s j)
 
 -- the values of the chunk j, as patterns. It is read from its own bytes alone.
 unfoldable pub chunkValues : Header → List ℕ → ℕ → List ℕ
-chunkValues h s j = patternsOf (h .width) (h .mode) (binIn h) (chunkCodes (groupSize (h .mode)) (countOf h j) (chunkOf h s j))
+chunkValues h s j = patternsOf (settingIn h) (chunkCodes (groupSize (settingIn h)) (countOf h j) (chunkOf h s j))
 
 -- the values of a stream
 unfoldable pub valuesIn : Header → List ℕ → List ℕ

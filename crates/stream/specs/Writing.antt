@@ -1,18 +1,17 @@
--- Document 01, "The stream", from the writer's side: the bytes of a list of values, W bits wide, at a level and a setting (mode, k); whole,
--- with side parts behind it, and half written.
+-- Document 01, "The stream", from the writer's side: the bytes of a list of values at a level and a setting; whole, with side parts behind
+-- it, and half written.
 use mathlib.Core.Path.{_≡_}
 use Prim.Native.Nat.{ℕ, suc, _+_, _-_, _*_, _^_, _≤_}
 use mathlib.Core.Bool.{Bool, true, _&&_}
 use mathlib.Core.List.{List, [], _∷_, _++_}
 use lib.Dec.{leb}
-use lib.IntN.{ℤ}
 use lib.ListN.{length, take, drop, replicate}
-use Rattle.numbers.specs.Signed.{bitsOf}
 use Rattle.stream.specs.Bytes.{digits, Below}
-use Rattle.stream.specs.Setting.{need, binFor, groupSize, codesOf}
+use Rattle.stream.specs.Setting.{need, kBits, groupSize, codesOf}
 use Rattle.stream.specs.Chunk.{chunkBytes}
 use Rattle.stream.specs.Header.{chunksIn}
 use Rattle.stream.specs.Stream.{joined}
+use Rattle.stream.specs.declared.setting.Setting.{Setting}
 
 -- "All header and table numbers are 32-bit little-endian"
 unfoldable pub spell : List ℕ → List ℕ
@@ -24,54 +23,54 @@ unfoldable pub piece : List ℕ → ℕ → List ℕ
 piece vs j = take 1024 (drop (1024 * j) vs)
 
 -- the bytes of the chunk j
-unfoldable pub pieceBytes : ℕ → ℕ → ℤ → List ℕ → ℕ → List ℕ
-pieceBytes W mode k vs j = chunkBytes (groupSize mode) (codesOf W mode (binFor W mode k) (piece vs j))
+unfoldable pub pieceBytes : Setting → List ℕ → ℕ → List ℕ
+pieceBytes t vs j = chunkBytes (groupSize t) (codesOf t (piece vs j))
 
 -- the data of the first j chunks
-unfoldable pub dataOf : ℕ → ℕ → ℤ → List ℕ → ℕ → List ℕ
-dataOf W mode k vs = joined (pieceBytes W mode k vs)
+unfoldable pub dataOf : Setting → List ℕ → ℕ → List ℕ
+dataOf t vs = joined (pieceBytes t vs)
 
 -- "each chunk's start, counted from the data", of the first j chunks
-unfoldable pub startsOf : ℕ → ℕ → ℤ → List ℕ → ℕ → List ℕ
-startsOf W mode k vs = joined (λ j. length (dataOf W mode k vs j) ∷ [])
+unfoldable pub startsOf : Setting → List ℕ → ℕ → List ℕ
+startsOf t vs = joined (λ j. length (dataOf t vs j) ∷ [])
 
 -- The table "at | number", for n values, so many side parts, and the end of data. "Pack at level L writes L as written minor and the exact
 -- need as needed minor."
-unfoldable pub headerNumbers : ℕ → ℕ → ℕ → ℤ → ℕ → ℕ → ℕ → List ℕ
-headerNumbers W level mode k n sides end =
-    1 ∷ level ∷ need W mode
-    ∷ W ∷ mode ∷ bitsOf 32 k
+unfoldable pub headerNumbers : ℕ → Setting → ℕ → ℕ → ℕ → List ℕ
+headerNumbers level t n sides end =
+    1 ∷ level ∷ need t
+    ∷ t .width ∷ t .mode ∷ kBits t
     ∷ n ∷ chunksIn n
     ∷ 48 ∷ (48 + 4 * chunksIn n)
     ∷ sides ∷ end
     ∷ []
 
 -- "data at 48 + 4c", and behind it the data of the first j chunks
-unfoldable pub endOf : ℕ → ℕ → ℤ → List ℕ → ℕ → ℕ
-endOf W mode k vs j = 48 + 4 * chunksIn (length vs) + length (dataOf W mode k vs j)
+unfoldable pub endOf : Setting → List ℕ → ℕ → ℕ
+endOf t vs j = 48 + 4 * chunksIn (length vs) + length (dataOf t vs j)
 
 -- header, chunk table and data of a list, with a number of side parts in the header
-unfoldable pub body : ℕ → ℕ → ℕ → ℤ → List ℕ → ℕ → List ℕ
-body W level mode k vs sides =
+unfoldable pub body : ℕ → Setting → List ℕ → ℕ → List ℕ
+body level t vs sides =
     spell
-    (headerNumbers W level mode k (length vs) sides (endOf W mode k vs (chunksIn (length vs)))
-    ++ startsOf W mode k vs (chunksIn (length vs)))
-    ++ dataOf W mode k vs (chunksIn (length vs))
+    (headerNumbers level t (length vs) sides (endOf t vs (chunksIn (length vs)))
+    ++ startsOf t vs (chunksIn (length vs)))
+    ++ dataOf t vs (chunksIn (length vs))
 
 -- The packed stream of a list. "Pack writes none", of side parts.
-unfoldable pub stream : ℕ → ℕ → ℕ → ℤ → List ℕ → List ℕ
-stream W level mode k vs = body W level mode k vs 0
+unfoldable pub stream : ℕ → Setting → List ℕ → List ℕ
+stream level t vs = body level t vs 0
 
 -- The stream of a list whose first j chunks are written, over what lay in the output: header and table stand, a start that is not known
 -- yet is 0, and so is the end of data.
-unfoldable pub unfinished : ℕ → ℕ → ℕ → ℤ → List ℕ → ℕ → List ℕ → List ℕ
-unfinished W level mode k vs j out =
+unfoldable pub unfinished : ℕ → Setting → List ℕ → ℕ → List ℕ → List ℕ
+unfinished level t vs j out =
     spell
-    (headerNumbers W level mode k (length vs) 0 0
-    ++ startsOf W mode k vs j
+    (headerNumbers level t (length vs) 0 0
+    ++ startsOf t vs j
     ++ replicate (chunksIn (length vs) - j) 0)
-    ++ dataOf W mode k vs j
-    ++ drop (endOf W mode k vs j) out
+    ++ dataOf t vs j
+    ++ drop (endOf t vs j) out
 
 -- ---- side parts
 
@@ -90,10 +89,10 @@ parts [] = []
 parts (p ∷ ps) = p .bytes ++ parts ps
 
 -- the stream of a list with side parts behind its data
-unfoldable pub withSides : ℕ → ℕ → ℕ → ℤ → List ℕ → List Side → List ℕ
-withSides W level mode k vs ps =
-    body W level mode k vs (length ps)
-    ++ spell (entries (endOf W mode k vs (chunksIn (length vs)) + 12 * length ps) ps)
+unfoldable pub withSides : ℕ → Setting → List ℕ → List Side → List ℕ
+withSides level t vs ps =
+    body level t vs (length ps)
+    ++ spell (entries (endOf t vs (chunksIn (length vs)) + 12 * length ps) ps)
     ++ parts ps
 
 -- "Ids increase strictly", from a floor on

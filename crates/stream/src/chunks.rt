@@ -2,11 +2,11 @@
 ghost use mathlib.Core.Path.{_≡_};
 ghost use mathlib.Core.Bool.{true};
 ghost use mathlib.Core.List.{_∷_, []};
-ghost use Prim.Native.Nat.{_≤_, _<_};
-ghost use lib.ListN.{length};
-ghost use Rattle.stream.specs.Header.{binIn};
-ghost use Rattle.stream.specs.Relied.{Words, Settled, Layout, Opened};
-ghost use Rattle.stream.specs.Tables.{chunkTableRight};
+ghost use Prim.Native.Nat.{_≤_, _<_, _+_};
+ghost use lib.ListN.{length, drop};
+ghost use Rattle.stream.specs.Header.{settingIn};
+ghost use Rattle.stream.specs.Relied.{Words, Allowed, Settled, Layout, Opened};
+ghost use Rattle.stream.specs.Tables.{chunkTableRight, startAt};
 ghost use Rattle.stream.specs.Stream.{countOf, chunkOf};
 ghost use Rattle.stream.specs.Rows.{first};
 ghost use Rattle.stream.specs.Operations.{chunkRow, chunkRows, contentRows, ownRows};
@@ -16,6 +16,7 @@ use crate::chunk::ChunkAnswer;
 use crate::header;
 use crate::header::Header;
 use crate::setting;
+use crate::setting::Setting;
 use crate::tables;
 
 // The bytes of a chunk.
@@ -26,6 +27,15 @@ pub(crate) fn chunk_at(h: Header, bytes: &[u8], j: usize) -> &[u8]
     let from = h.start + tables::start_at(h, bytes, j);
     let to = h.start + tables::start_at(h, bytes, j + 1);
     &bytes[from..to]
+}
+
+// The bytes from a chunk on, to the stream's end.
+pub(crate) fn chunk_on(h: Header, bytes: &[u8], j: usize) -> &[u8]
+    requires { ⌜ Layout (length (now bytes)) h × (chunkTableRight h (now bytes) ≡ true) × (j < h .chunks) ⌝ }
+    ensures { λ r. ⌜ now r ≡ drop (h .start + startAt h (now (bytes .entry)) j) (now (bytes .entry)) ⌝ }
+{
+    let from = h.start + tables::start_at(h, bytes, j);
+    &bytes[from..]
 }
 
 // How many values a chunk has: 1,024, or what is left for the last one.
@@ -44,12 +54,12 @@ pub(crate) fn count_at(h: Header, j: usize) -> usize
     1024
 }
 
-// The bin of the header's setting.
-pub(crate) fn bin_in(h: Header) -> u32
+// The header's setting.
+pub(crate) fn setting_in(h: Header) -> Setting
     requires { ⌜ Words h × Settled h ⌝ }
-    ensures { λ r. ⌜ r ≡ binIn h ⌝ }
+    ensures { λ r. ⌜ (r ≡ settingIn h) × Allowed r ⌝ }
 {
-    setting::bin_for(h.width, h.mode, header::exponent_of(h))
+    setting::setting_of(h.width, h.mode, header::exponent_of(h))
 }
 
 // 10, for one chunk. The detail is the chunk; its first bad group is known too.
@@ -57,10 +67,9 @@ pub(crate) fn chunk_step(h: Header, bytes: &[u8], j: usize) -> Step
     requires { ⌜ Opened (length (now bytes)) h × (chunkTableRight h (now bytes) ≡ true) × (j < h .chunks) ⌝ }
     ensures { λ r. ⌜ r ≡ first (chunkRow h (now (bytes .entry)) j ∷ []) ⌝ }
 {
-    let width = h.width;
-    let limit = setting::limit_of(width, h.mode, bin_in(h));
+    let t = setting_in(h);
     let part = chunk_at(h, bytes, j);
-    let found = chunk::checked(part, count_at(h, j), width as u32, limit);
+    let found = chunk::checked(t, part, count_at(h, j));
     match found {
         ChunkAnswer::Good => Step::Pass,
         ChunkAnswer::Bad(_) => Step::Stop(10, j),

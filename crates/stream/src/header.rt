@@ -6,6 +6,7 @@ ghost use Rattle.stream.specs.Header.{word, headerOf, kOf, settingRight,
 ghost use Rattle.stream.specs.Relied.{Words};
 ghost use Rattle.stream.specs.Rows.{first};
 ghost use Rattle.stream.specs.Operations.{headerRows, openingRows};
+ghost use Rattle.stream.specs.Opening.{openedBy};
 use crate::answers::Step;
 use crate::setting;
 use numbers::signed;
@@ -25,6 +26,12 @@ pub struct Header {
     pub start: usize,
     pub sides: usize,
     pub end: usize,
+}
+
+// What opening a stream finds: its header, or the first refusal that is given.
+pub(crate) enum Opening {
+    Open(Header),
+    Shut(usize, usize),
 }
 
 fn byte(b: u8) -> usize
@@ -70,7 +77,7 @@ pub(crate) fn exponent_of(h: Header) -> i32
     signed::view32(h.exponent as u32)
 }
 
-// The part of refusal 8 that is about the setting.
+// The part of refusal 8 that is about the setting. A need is told of an allowed setting alone.
 fn setting_right(h: Header) -> bool
     requires { ⌜ Words h ⌝ }
     ensures { λ r. ⌜ r ≡ settingRight h ⌝ }
@@ -81,8 +88,12 @@ fn setting_right(h: Header) -> bool
     if !setting::known_width(width) {
         return false;
     }
-    let needs = (8 <= needed) & (needed == setting::need_of(width, mode)) & (needed <= h.written);
-    needs & setting::allowed(width, mode, exponent_of(h))
+    let k = exponent_of(h);
+    if !setting::allowed(width, mode, k) {
+        return false;
+    }
+    let need = setting::need_of(setting::setting_of(width, mode, k));
+    (8 <= needed) & (needed == need) & (needed <= h.written)
 }
 
 // The part of refusal 8 that is about the layout.
@@ -117,15 +128,26 @@ fn header_step(level: usize, size: usize, h: Header) -> Step
     Step::Stop(8, 0)
 }
 
-// 1 5 6 7 8: what every reader begins with.
-pub(crate) fn opening_step(level: usize, bytes: &[u8]) -> Step
-    ensures { λ r. ⌜ r ≡ first (openingRows level (now (bytes .entry))) ⌝ }
+// What rows behind the header find, with the header where none is given.
+pub(crate) fn opening_of(step: Step, h: Header) -> Opening
+    ensures { λ r. ⌜ r ≡ openedBy step h ⌝ }
+{
+    match step {
+        Step::Pass => Opening::Open(h),
+        Step::Stop(number, detail) => Opening::Shut(number, detail),
+    }
+}
+
+// 1 5 6 7 8: what every reader begins with; and the header where none of them is given, so that it is read once.
+pub(crate) fn opened(level: usize, bytes: &[u8]) -> Opening
+    ensures { λ r. ⌜ r ≡ openedBy (first (openingRows level (now (bytes .entry)))) (headerOf (now (bytes .entry))) ⌝ }
 {
     if !setting::known_level(level) {
-        return Step::Stop(1, 0);
+        return Opening::Shut(1, 0);
     }
     if bytes.len() < 48 {
-        return Step::Stop(5, 0);
+        return Opening::Shut(5, 0);
     }
-    header_step(level, bytes.len(), header_of(bytes))
+    let h = header_of(bytes);
+    opening_of(header_step(level, bytes.len(), h), h)
 }

@@ -2,8 +2,13 @@
 pub mod answers;
 mod chunk;
 mod chunks;
+mod coding;
 mod group;
+mod group_checked;
+mod group_read;
+mod group_written;
 mod header;
+mod lent;
 pub mod listing;
 pub mod pack;
 pub mod probe;

@@ -5,7 +5,9 @@ ghost use mathlib.Core.List.{List, [], _∷_, _++_};
 ghost use Prim.Native.Nat.{ℕ, _+_, _-_, _*_, _≤_, _<_, min};
 ghost use lib.ListN.{length, take, drop, getD, replicate};
 ghost use Rattle.stream.specs.Bytes.{digits};
-ghost use Rattle.stream.specs.Setting.{knownWidth, allowedSetting};
+ghost use Rattle.stream.specs.Setting.{knownWidth};
+ghost use Rattle.stream.specs.Lent.{chosen};
+ghost use Rattle.stream.specs.Relied.{Allowed};
 ghost use Rattle.stream.specs.Header.{chunksIn};
 ghost use Rattle.stream.specs.Rows.{first};
 ghost use Rattle.stream.specs.Writing.{spell, piece, dataOf, headerNumbers, endOf, stream, unfinished};
@@ -14,8 +16,9 @@ ghost use Rattle.stream.specs.Operations.{lengthRows, lengthAnswer, pack
 use crate::answers::Answer;
 use crate::answers::Step;
 use crate::chunk;
+use crate::lent;
 use crate::setting;
-use numbers::signed;
+use crate::setting::Setting;
 
 // 1 2 3: what is refused before a value is looked at.
 fn length_step(width: usize, level: usize, mode: usize, k: i32, n: usize) -> Step
@@ -25,7 +28,10 @@ fn length_step(width: usize, level: usize, mode: usize, k: i32, n: usize) -> Ste
     if !setting::known_level(level) {
         return Step::Stop(1, 0);
     }
-    if !setting::allowed(width, mode, k) | (level < setting::need_of(width, mode)) {
+    if !setting::allowed(width, mode, k) {
+        return Step::Stop(2, 0);
+    }
+    if level < setting::need_of(setting::setting_of(width, mode, k)) {
         return Step::Stop(2, 0);
     }
     if 1048576 < n {
@@ -42,12 +48,13 @@ fn chunks_of(n: usize) -> usize
     (n + 1023) / 1024
 }
 
-// The longest that a stream of n values of so many bytes gets.
-fn most(size: usize, n: usize) -> usize
-    requires { ⌜ (size ≤ 8) × (n ≤ 1048576) ⌝ }
-    ensures { λ r. ⌜ ((mode : ℕ) → r ≡ mostBytes (8 * size) mode n) ⌝ }
+// The longest that a stream of n values gets.
+fn most(t: Setting, n: usize) -> usize
+    requires { ⌜ Allowed t × (n ≤ 1048576) ⌝ }
+    ensures { λ r. ⌜ r ≡ mostBytes t n ⌝ }
 {
-    48 + 4 * chunks_of(n) + (n + 31) / 32 + n * size
+    let size = setting::group_size(t);
+    48 + 4 * chunks_of(n) + (n + (size - 1)) / size + n * (t.width as usize) / 8
 }
 
 // Where the chunk ends that starts at `from`, of n values.
@@ -89,19 +96,19 @@ fn put_numbers(numbers: &[u32], count: usize, out: &mut [u8])
 }
 
 // Header and chunk table, as they stand before the first chunk is written: the starts and the end of data are not known yet.
-fn put_front(width: u32, level: u32, mode: u32, k: i32, n: usize, out: &mut [u8])
-    requires { ⌜ (n ≤ 1048576) × (48 + 4 * chunksIn n ≤ length (now out)) ⌝ }
-    ensures { λ _. ⌜ now (out .exit) ≡ spell (headerNumbers width level mode k n 0 0 ++ replicate (chunksIn n) 0) ++ drop (48 + 4 * chunksIn n) (now (out .entry)) ⌝ }
+fn put_front(level: u32, t: Setting, n: usize, out: &mut [u8])
+    requires { ⌜ Allowed t × (n ≤ 1048576) × (48 + 4 * chunksIn n ≤ length (now out)) ⌝ }
+    ensures { λ _. ⌜ now (out .exit) ≡ spell (headerNumbers level t n 0 0 ++ replicate (chunksIn n) 0) ++ drop (48 + 4 * chunksIn n) (now (out .entry)) ⌝ }
 {
     let chunks = chunks_of(n);
-    let needed = setting::need_of(width as usize, mode as usize);
+    let needed = setting::need_of(t);
     let numbers: [u32; 12] = [
         1,
         level,
         needed as u32,
-        width,
-        mode,
-        signed::bits32(k),
+        t.width,
+        t.mode,
+        setting::k_bits(t),
         n as u32,
         chunks as u32,
         48,
@@ -112,79 +119,55 @@ fn put_front(width: u32, level: u32, mode: u32, k: i32, n: usize, out: &mut [u8]
     put_numbers(&numbers, 12 + chunks, out);
 }
 
-// The values of chunk j.
-fn piece32(values: &[u32], j: usize) -> &[u32]
-    requires { ⌜ (length (now values) ≤ 1048576) × (j < chunksIn (length (now values))) ⌝ }
+// The values of chunk j, of a list that may be too short to have it.
+fn part32(values: &[u32], j: usize) -> &[u32]
+    requires { ⌜ j ≤ 1024 ⌝ }
     ensures { λ r. ⌜ now r ≡ piece (now (values .entry)) j ⌝ }
 {
-    let from = 1024 * j;
+    let from = least(1024 * j, values.len());
     let to = piece_end(from, values.len());
     &values[from..to]
 }
 
-fn piece64(values: &[u64], j: usize) -> &[u64]
-    requires { ⌜ (length (now values) ≤ 1048576) × (j < chunksIn (length (now values))) ⌝ }
+fn part64(values: &[u64], j: usize) -> &[u64]
+    requires { ⌜ j ≤ 1024 ⌝ }
     ensures { λ r. ⌜ now r ≡ piece (now (values .entry)) j ⌝ }
 {
-    let from = 1024 * j;
+    let from = least(1024 * j, values.len());
     let to = piece_end(from, values.len());
     &values[from..to]
+}
+
+fn least(a: usize, b: usize) -> usize
+    ensures { λ r. ⌜ r ≡ min a b ⌝ }
+{
+    if a < b { a } else { b }
 }
 
 // The measuring pass: how long the stream is.
-fn measured32(mode: u32, k: i32, values: &[u32]) -> usize
-    requires { ⌜ (length (now values) ≤ 1048576) × (allowedSetting 32 mode k ≡ true) ⌝ }
-    ensures { λ r. ⌜ r ≡ endOf 32 mode k (now (values .entry)) (chunksIn (length (now (values .entry)))) ⌝ }
+fn measured(t: Setting, v32: &[u32], v64: &[u64], c32: &mut [u32], n: usize) -> usize
+    requires { ⌜ Allowed t × (n ≡ length (chosen (t .width) (now v32) (now v64))) × (n ≤ 1048576) × (min 1024 (length (now v32)) ≤ length (now c32)) ⌝ }
+    ensures { λ r. ⌜ r ≡ endOf t (chosen (t .width) (now (v32 .entry)) (now (v64 .entry))) (chunksIn (length (chosen (t .width) (now (v32 .entry)) (now (v64 .entry))))) ⌝ }
 {
-    let bin = setting::bin_for(32, mode as usize, k);
-    let chunks = chunks_of(values.len());
+    let chunks = chunks_of(n);
     let mut end = 48 + 4 * chunks;
     let mut j: usize = 0;
     while j < chunks {
-        end += chunk::measured32(piece32(values, j), mode, bin);
-        j += 1;
-    }
-    end
-}
-
-fn measured64(mode: u32, k: i32, values: &[u64]) -> usize
-    requires { ⌜ (length (now values) ≤ 1048576) × (allowedSetting 64 mode k ≡ true) ⌝ }
-    ensures { λ r. ⌜ r ≡ endOf 64 mode k (now (values .entry)) (chunksIn (length (now (values .entry)))) ⌝ }
-{
-    let bin = setting::bin_for(64, mode as usize, k);
-    let chunks = chunks_of(values.len());
-    let mut end = 48 + 4 * chunks;
-    let mut j: usize = 0;
-    while j < chunks {
-        end += chunk::measured64(piece64(values, j), mode, bin);
+        end += chunk::measured(t, part32(v32, j), part64(v64, j), c32);
         j += 1;
     }
     end
 }
 
 // 4. An output as long as the longest stream of so many values needs no measuring pass.
-fn room_step32(mode: u32, k: i32, values: &[u32], room: usize) -> Step
-    requires { ⌜ (length (now values) ≤ 1048576) × (allowedSetting 32 mode k ≡ true) ⌝ }
-    ensures { λ r. ⌜ r ≡ first (shortRow 32 mode k (now (values .entry)) room ∷ []) ⌝ }
+fn room_step(t: Setting, v32: &[u32], v64: &[u64], c32: &mut [u32], n: usize, room: usize) -> Step
+    requires { ⌜ Allowed t × (n ≡ length (chosen (t .width) (now v32) (now v64))) × (n ≤ 1048576) × (min 1024 (length (now v32)) ≤ length (now c32)) ⌝ }
+    ensures { λ r. ⌜ r ≡ first (shortRow t (chosen (t .width) (now (v32 .entry)) (now (v64 .entry))) room ∷ []) ⌝ }
 {
-    if most(4, values.len()) <= room {
+    if most(t, n) <= room {
         return Step::Pass;
     }
-    let needed = measured32(mode, k, values);
-    if room < needed {
-        return Step::Stop(4, needed);
-    }
-    Step::Pass
-}
-
-fn room_step64(mode: u32, k: i32, values: &[u64], room: usize) -> Step
-    requires { ⌜ (length (now values) ≤ 1048576) × (allowedSetting 64 mode k ≡ true) ⌝ }
-    ensures { λ r. ⌜ r ≡ first (shortRow 64 mode k (now (values .entry)) room ∷ []) ⌝ }
-{
-    if most(8, values.len()) <= room {
-        return Step::Pass;
-    }
-    let needed = measured64(mode, k, values);
+    let needed = measured(t, v32, v64, c32, n);
     if room < needed {
         return Step::Stop(4, needed);
     }
@@ -192,45 +175,47 @@ fn room_step64(mode: u32, k: i32, values: &[u64], room: usize) -> Step
 }
 
 // Chunk j, whose start is known: the start into the table and the bytes behind the chunks before it. The next chunk's start is returned.
-fn put_chunk32(mode: u32, k: i32, values: &[u32], j: usize, start: usize, out: &mut [u8]) -> usize
-    requires { ⌜ (length (now values) ≤ 1048576) × (allowedSetting 32 mode k ≡ true) × (j < chunksIn (length (now values))) ⌝ }
-    requires { ⌜ (start ≡ length (dataOf 32 mode k (now values) j)) × (endOf 32 mode k (now values) (chunksIn (length (now values))) ≤ length (now out)) ⌝ }
-    ensures { λ r. ⌜ r ≡ length (dataOf 32 mode k (now (values .entry)) (j + 1)) ⌝ }
-    ensures { λ _. ⌜ ((level : ℕ) (base : List ℕ) → now (out .entry) ≡ unfinished 32 level mode k (now (values .entry)) j base
-        → now (out .exit) ≡ unfinished 32 level mode k (now (values .entry)) (j + 1) base) ⌝ }
+fn put_chunk(
+    t: Setting,
+    v32: &[u32],
+    v64: &[u64],
+    c32: &mut [u32],
+    j: usize,
+    start: usize,
+    out: &mut [u8],
+) -> usize
+    requires { ⌜ Allowed t × (length (chosen (t .width) (now v32) (now v64)) ≤ 1048576) × (j < chunksIn (length (chosen (t .width) (now v32) (now v64)))) × (min 1024 (length (now v32)) ≤ length (now c32)) ⌝ }
+    requires { ⌜ (start ≡ length (dataOf t (chosen (t .width) (now v32) (now v64)) j)) × (endOf t (chosen (t .width) (now v32) (now v64)) (chunksIn (length (chosen (t .width) (now v32) (now v64)))) ≤ length (now out)) ⌝ }
+    ensures { λ r. ⌜ r ≡ length (dataOf t (chosen (t .width) (now (v32 .entry)) (now (v64 .entry))) (j + 1)) ⌝ }
+    ensures { λ _. ⌜ ((level : ℕ) (base : List ℕ) → now (out .entry) ≡ unfinished level t (chosen (t .width) (now (v32 .entry)) (now (v64 .entry))) j base
+        → now (out .exit) ≡ unfinished level t (chosen (t .width) (now (v32 .entry)) (now (v64 .entry))) (j + 1) base) ⌝ }
 {
-    let bin = setting::bin_for(32, mode as usize, k);
-    let at = 48 + 4 * chunks_of(values.len()) + start;
+    let at = 48 + 4 * chunks_of(lent::count(t, v32, v64)) + start;
     put_word(out, 48 + 4 * j, start as u32);
-    start + chunk::written32(piece32(values, j), mode, bin, &mut out[at..])
-}
-
-fn put_chunk64(mode: u32, k: i32, values: &[u64], j: usize, start: usize, out: &mut [u8]) -> usize
-    requires { ⌜ (length (now values) ≤ 1048576) × (allowedSetting 64 mode k ≡ true) × (j < chunksIn (length (now values))) ⌝ }
-    requires { ⌜ (start ≡ length (dataOf 64 mode k (now values) j)) × (endOf 64 mode k (now values) (chunksIn (length (now values))) ≤ length (now out)) ⌝ }
-    ensures { λ r. ⌜ r ≡ length (dataOf 64 mode k (now (values .entry)) (j + 1)) ⌝ }
-    ensures { λ _. ⌜ ((level : ℕ) (base : List ℕ) → now (out .entry) ≡ unfinished 64 level mode k (now (values .entry)) j base
-        → now (out .exit) ≡ unfinished 64 level mode k (now (values .entry)) (j + 1) base) ⌝ }
-{
-    let bin = setting::bin_for(64, mode as usize, k);
-    let at = 48 + 4 * chunks_of(values.len()) + start;
-    put_word(out, 48 + 4 * j, start as u32);
-    start + chunk::written64(piece64(values, j), mode, bin, &mut out[at..])
+    start + chunk::written(t, part32(v32, j), part64(v64, j), c32, &mut out[at..])
 }
 
 // The whole stream, into an output that is long enough. The end of data is known last.
-fn written32(level: u32, mode: u32, k: i32, values: &[u32], out: &mut [u8]) -> usize
-    requires { ⌜ (length (now values) ≤ 1048576) × (allowedSetting 32 mode k ≡ true) ⌝ }
-    requires { ⌜ endOf 32 mode k (now values) (chunksIn (length (now values))) ≤ length (now out) ⌝ }
-    ensures { λ r. ⌜ r ≡ length (stream 32 level mode k (now (values .entry))) ⌝ }
-    ensures { λ r. ⌜ now (out .exit) ≡ stream 32 level mode k (now (values .entry)) ++ drop r (now (out .entry)) ⌝ }
+fn written(
+    level: u32,
+    t: Setting,
+    v32: &[u32],
+    v64: &[u64],
+    c32: &mut [u32],
+    n: usize,
+    out: &mut [u8],
+) -> usize
+    requires { ⌜ Allowed t × (n ≡ length (chosen (t .width) (now v32) (now v64))) × (n ≤ 1048576) × (min 1024 (length (now v32)) ≤ length (now c32)) ⌝ }
+    requires { ⌜ endOf t (chosen (t .width) (now v32) (now v64)) (chunksIn (length (chosen (t .width) (now v32) (now v64)))) ≤ length (now out) ⌝ }
+    ensures { λ r. ⌜ r ≡ length (stream level t (chosen (t .width) (now (v32 .entry)) (now (v64 .entry)))) ⌝ }
+    ensures { λ r. ⌜ now (out .exit) ≡ stream level t (chosen (t .width) (now (v32 .entry)) (now (v64 .entry))) ++ drop r (now (out .entry)) ⌝ }
 {
-    let chunks = chunks_of(values.len());
-    put_front(32, level, mode, k, values.len(), out);
+    let chunks = chunks_of(n);
+    put_front(level, t, n, out);
     let mut start: usize = 0;
     let mut j: usize = 0;
     while j < chunks {
-        start = put_chunk32(mode, k, values, j, start, out);
+        start = put_chunk(t, v32, v64, c32, j, start, out);
         j += 1;
     }
     let end = 48 + 4 * chunks + start;
@@ -238,44 +223,71 @@ fn written32(level: u32, mode: u32, k: i32, values: &[u32], out: &mut [u8]) -> u
     end
 }
 
-fn written64(level: u32, mode: u32, k: i32, values: &[u64], out: &mut [u8]) -> usize
-    requires { ⌜ (length (now values) ≤ 1048576) × (allowedSetting 64 mode k ≡ true) ⌝ }
-    requires { ⌜ endOf 64 mode k (now values) (chunksIn (length (now values))) ≤ length (now out) ⌝ }
-    ensures { λ r. ⌜ r ≡ length (stream 64 level mode k (now (values .entry))) ⌝ }
-    ensures { λ r. ⌜ now (out .exit) ≡ stream 64 level mode k (now (values .entry)) ++ drop r (now (out .entry)) ⌝ }
+// How many bytes pack would use, of a list lent as the one of its width.
+fn measured_or_refused(
+    width: u32,
+    level: u32,
+    mode: u32,
+    k: i32,
+    v32: &[u32],
+    v64: &[u64],
+    c32: &mut [u32],
+    n: usize,
+) -> Answer
+    requires { ⌜ (knownWidth width ≡ true) × (n ≡ length (chosen width (now v32) (now v64))) × (min 1024 (length (now v32)) ≤ length (now c32)) ⌝ }
+    ensures { λ r. ⌜ r ≡ lengthAnswer width level mode k (chosen width (now (v32 .entry)) (now (v64 .entry))) ⌝ }
 {
-    let chunks = chunks_of(values.len());
-    put_front(64, level, mode, k, values.len(), out);
-    let mut start: usize = 0;
-    let mut j: usize = 0;
-    while j < chunks {
-        start = put_chunk64(mode, k, values, j, start, out);
-        j += 1;
+    let refused = length_step(width as usize, level as usize, mode as usize, k, n);
+    if let Step::Stop(number, detail) = refused {
+        return Answer::Refused(number, detail);
     }
-    let end = 48 + 4 * chunks + start;
-    put_word(out, 44, end as u32);
-    end
+    let t = setting::setting_of(width as usize, mode as usize, k);
+    Answer::Done(measured(t, v32, v64, c32, n))
+}
+
+// The packed stream at the front of `out`; on a refusal the output is as it was.
+fn packed_or_refused(
+    width: u32,
+    level: u32,
+    mode: u32,
+    k: i32,
+    v32: &[u32],
+    v64: &[u64],
+    c32: &mut [u32],
+    n: usize,
+    out: &mut [u8],
+) -> Answer
+    requires { ⌜ (knownWidth width ≡ true) × (n ≡ length (chosen width (now v32) (now v64))) × (min 1024 (length (now v32)) ≤ length (now c32)) ⌝ }
+    ensures { λ r. ⌜ r ≡ packAnswer width level mode k (chosen width (now (v32 .entry)) (now (v64 .entry))) (length (now (out .entry))) ⌝ }
+    ensures { λ _. ⌜ now (out .exit) ≡ packOut width level mode k (chosen width (now (v32 .entry)) (now (v64 .entry))) (now (out .entry)) ⌝ }
+{
+    let refused = length_step(width as usize, level as usize, mode as usize, k, n);
+    if let Step::Stop(number, detail) = refused {
+        return Answer::Refused(number, detail);
+    }
+    let t = setting::setting_of(width as usize, mode as usize, k);
+    let short = room_step(t, v32, v64, c32, n, out.len());
+    if let Step::Stop(number, detail) = short {
+        return Answer::Refused(number, detail);
+    }
+    Answer::Done(written(level, t, v32, v64, c32, n, out))
 }
 
 // How many bytes pack would use.
 pub fn length32(level: u32, mode: u32, k: i32, values: &[u32]) -> Answer
     ensures { λ r. ⌜ r ≡ lengthAnswer 32 level mode k (now (values .entry)) ⌝ }
 {
-    let refused = length_step(32, level as usize, mode as usize, k, values.len());
-    if let Step::Stop(number, detail) = refused {
-        return Answer::Refused(number, detail);
-    }
-    Answer::Done(measured32(mode, k, values))
+    let none = [0u64; 0];
+    let mut c32 = [0u32; 1024];
+    measured_or_refused(32, level, mode, k, values, &none, &mut c32, values.len())
 }
 
 pub fn length64(level: u32, mode: u32, k: i32, values: &[u64]) -> Answer
     ensures { λ r. ⌜ r ≡ lengthAnswer 64 level mode k (now (values .entry)) ⌝ }
 {
-    let refused = length_step(64, level as usize, mode as usize, k, values.len());
-    if let Step::Stop(number, detail) = refused {
-        return Answer::Refused(number, detail);
-    }
-    Answer::Done(measured64(mode, k, values))
+    let none = [0u32; 0];
+    let mut c32 = [0u32; 0];
+    measured_or_refused(64, level, mode, k, &none, values, &mut c32, values.len())
 }
 
 // The packed stream at the front of `out`; on a refusal the output is as it was.
@@ -283,28 +295,36 @@ pub fn pack32(level: u32, mode: u32, k: i32, values: &[u32], out: &mut [u8]) -> 
     ensures { λ r. ⌜ r ≡ packAnswer 32 level mode k (now (values .entry)) (length (now (out .entry))) ⌝ }
     ensures { λ _. ⌜ now (out .exit) ≡ packOut 32 level mode k (now (values .entry)) (now (out .entry)) ⌝ }
 {
-    let refused = length_step(32, level as usize, mode as usize, k, values.len());
-    if let Step::Stop(number, detail) = refused {
-        return Answer::Refused(number, detail);
-    }
-    let short = room_step32(mode, k, values, out.len());
-    if let Step::Stop(number, detail) = short {
-        return Answer::Refused(number, detail);
-    }
-    Answer::Done(written32(level, mode, k, values, out))
+    let none = [0u64; 0];
+    let mut c32 = [0u32; 1024];
+    packed_or_refused(
+        32,
+        level,
+        mode,
+        k,
+        values,
+        &none,
+        &mut c32,
+        values.len(),
+        out,
+    )
 }
 
 pub fn pack64(level: u32, mode: u32, k: i32, values: &[u64], out: &mut [u8]) -> Answer
     ensures { λ r. ⌜ r ≡ packAnswer 64 level mode k (now (values .entry)) (length (now (out .entry))) ⌝ }
     ensures { λ _. ⌜ now (out .exit) ≡ packOut 64 level mode k (now (values .entry)) (now (out .entry)) ⌝ }
 {
-    let refused = length_step(64, level as usize, mode as usize, k, values.len());
-    if let Step::Stop(number, detail) = refused {
-        return Answer::Refused(number, detail);
-    }
-    let short = room_step64(mode, k, values, out.len());
-    if let Step::Stop(number, detail) = short {
-        return Answer::Refused(number, detail);
-    }
-    Answer::Done(written64(level, mode, k, values, out))
+    let none = [0u32; 0];
+    let mut c32 = [0u32; 0];
+    packed_or_refused(
+        64,
+        level,
+        mode,
+        k,
+        &none,
+        values,
+        &mut c32,
+        values.len(),
+        out,
+    )
 }

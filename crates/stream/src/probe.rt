@@ -2,13 +2,15 @@
 // pattern." No other chunk's bytes are looked at.
 ghost use mathlib.Core.Path.{_≡_};
 ghost use Rattle.stream.specs.Rows.{first};
+ghost use Rattle.stream.specs.Header.{headerOf};
+ghost use Rattle.stream.specs.Opening.{openedBy};
 ghost use Rattle.stream.specs.Probe.{shown32, shown64};
 ghost use Rattle.stream.specs.Operations.{probeRows, probeAnswer32, probeAnswer64};
 use crate::answers::Probe32;
 use crate::answers::Probe64;
-use crate::answers::Step;
 use crate::chunks;
 use crate::header;
+use crate::header::Opening;
 use crate::restore;
 
 // The pattern without its sign is above that of infinity at a not-a-number, and below it at a finite number.
@@ -38,41 +40,41 @@ fn show64(p: u64) -> Probe64
     Probe64::Finite(f64::from_bits(p))
 }
 
-fn probe_step(width: usize, level: usize, bytes: &[u8], index: usize) -> Step
-    ensures { λ r. ⌜ r ≡ first (probeRows width level (now (bytes .entry)) index) ⌝ }
+// 1 5 6 7 8 14 11 9 10, the last for the value's own chunk only.
+fn probe_opening(width: usize, level: usize, bytes: &[u8], index: usize) -> Opening
+    ensures { λ r. ⌜ r ≡ openedBy (first (probeRows width level (now (bytes .entry)) index)) (headerOf (now (bytes .entry))) ⌝ }
 {
-    let opening = header::opening_step(level, bytes);
+    let opening = header::opened(level, bytes);
     match opening {
-        Step::Pass => {
-            let h = header::header_of(bytes);
+        Opening::Open(h) => {
             if h.width != width {
-                return Step::Stop(14, 0);
+                return Opening::Shut(14, 0);
             }
             if h.count <= index {
-                return Step::Stop(11, 0);
+                return Opening::Shut(11, 0);
             }
-            chunks::own_step(h, bytes, index)
+            header::opening_of(chunks::own_step(h, bytes, index), h)
         }
-        Step::Stop(number, detail) => Step::Stop(number, detail),
+        Opening::Shut(number, detail) => Opening::Shut(number, detail),
     }
 }
 
 pub fn probe32(level: u32, bytes: &[u8], index: usize) -> Probe32
     ensures { λ r. ⌜ r ≡ probeAnswer32 level (now (bytes .entry)) index ⌝ }
 {
-    let step = probe_step(32, level as usize, bytes, index);
-    match step {
-        Step::Pass => show32(restore::value_at32(header::header_of(bytes), bytes, index)),
-        Step::Stop(number, detail) => Probe32::Refused(number, detail),
+    let opening = probe_opening(32, level as usize, bytes, index);
+    match opening {
+        Opening::Open(h) => show32(restore::value_at(h, bytes, index) as u32),
+        Opening::Shut(number, detail) => Probe32::Refused(number, detail),
     }
 }
 
 pub fn probe64(level: u32, bytes: &[u8], index: usize) -> Probe64
     ensures { λ r. ⌜ r ≡ probeAnswer64 level (now (bytes .entry)) index ⌝ }
 {
-    let step = probe_step(64, level as usize, bytes, index);
-    match step {
-        Step::Pass => show64(restore::value_at64(header::header_of(bytes), bytes, index)),
-        Step::Stop(number, detail) => Probe64::Refused(number, detail),
+    let opening = probe_opening(64, level as usize, bytes, index);
+    match opening {
+        Opening::Open(h) => show64(restore::value_at(h, bytes, index)),
+        Opening::Shut(number, detail) => Probe64::Refused(number, detail),
     }
 }

@@ -1,8 +1,9 @@
 // The values of a stream that was accepted: each chunk's land in their own stretch of the lent output.
 ghost use mathlib.Core.Path.{_≡_};
 ghost use mathlib.Core.List.{_++_};
-ghost use Prim.Native.Nat.{_/_, _≤_, _<_};
+ghost use Prim.Native.Nat.{_*_, _+_, _/_, _≤_, _<_, min};
 ghost use lib.ListN.{length, drop};
+ghost use Rattle.stream.specs.Lent.{chosen, landed};
 ghost use Rattle.stream.specs.Stream.{countOf, chunkState, chunkValues, valuesIn, valueIn};
 ghost use Rattle.stream.specs.Rows.{first};
 ghost use Rattle.stream.specs.Operations.{chunkRows};
@@ -13,86 +14,58 @@ use crate::chunk;
 use crate::chunks;
 use crate::header::Header;
 
-// The values of the chunk j, at the front of `out`.
-fn restore_chunk32(h: Header, bytes: &[u8], j: usize, out: &mut [u32])
-    requires { ⌜ Readable 32 h (now bytes) × (j < h .chunks) × (chunkState h (now bytes) j ≡ Good) × (countOf h j ≤ length (now out)) ⌝ }
-    ensures { λ _. ⌜ now (out .exit) ≡ chunkValues h (now (bytes .entry)) j ++ drop (countOf h j) (now (out .entry)) ⌝ }
+fn least(a: usize, b: usize) -> usize
+    ensures { λ r. ⌜ r ≡ min a b ⌝ }
 {
-    let part = chunks::chunk_at(h, bytes, j);
-    chunk::restored32(
-        part,
-        chunks::count_at(h, j),
-        h.mode as u32,
-        chunks::bin_in(h),
-        out,
-    );
+    if a < b { a } else { b }
 }
 
-pub(crate) fn restore32(h: Header, bytes: &[u8], out: &mut [u32])
-    requires { ⌜ Readable 32 h (now bytes) × (first (chunkRows h (now bytes)) ≡ Pass) × (h .count ≤ length (now out)) ⌝ }
-    ensures { λ _. ⌜ now (out .exit) ≡ valuesIn h (now (bytes .entry)) ++ drop (h .count) (now (out .entry)) ⌝ }
+// The values of chunk j into its own stretch: the part of each output from 1,024 times the chunk's number on, or from its end.
+fn restore_chunk(
+    h: Header,
+    bytes: &[u8],
+    j: usize,
+    c32: &mut [u32],
+    c64: &mut [u64],
+    o32: &mut [u32],
+    o64: &mut [u64],
+)
+    requires { ⌜ Readable (h .width) h (now bytes) × (j < h .chunks) × (chunkState h (now bytes) j ≡ Good) × (1024 * j + countOf h j ≤ length (chosen (h .width) (now o32) (now o64))) × (countOf h j ≤ length (chosen (h .width) (now c32) (now c64))) ⌝ }
+    ensures { λ _. ⌜ chosen (h .width) (now (o32 .exit)) (now (o64 .exit)) ≡ landed (1024 * j) (chunkValues h (now (bytes .entry)) j) (chosen (h .width) (now (o32 .entry)) (now (o64 .entry))) ⌝ }
+{
+    let t = chunks::setting_in(h);
+    let n = chunks::count_at(h, j);
+    let part = chunks::chunk_on(h, bytes, j);
+    let a32 = least(1024 * j, o32.len());
+    let a64 = least(1024 * j, o64.len());
+    chunk::restored(t, part, n, c32, c64, &mut o32[a32..], &mut o64[a64..]);
+}
+
+pub(crate) fn restore(
+    h: Header,
+    bytes: &[u8],
+    c32: &mut [u32],
+    c64: &mut [u64],
+    o32: &mut [u32],
+    o64: &mut [u64],
+)
+    requires { ⌜ Readable (h .width) h (now bytes) × (first (chunkRows h (now bytes)) ≡ Pass) × (h .count ≤ length (chosen (h .width) (now o32) (now o64))) × (min 1024 (h .count) ≤ length (chosen (h .width) (now c32) (now c64))) ⌝ }
+    ensures { λ _. ⌜ chosen (h .width) (now (o32 .exit)) (now (o64 .exit)) ≡ valuesIn h (now (bytes .entry)) ++ drop (h .count) (chosen (h .width) (now (o32 .entry)) (now (o64 .entry))) ⌝ }
 {
     let mut j: usize = 0;
     while j < h.chunks {
-        let at = 1024 * j;
-        restore_chunk32(h, bytes, j, &mut out[at..]);
-        j += 1;
-    }
-}
-
-fn restore_chunk64(h: Header, bytes: &[u8], j: usize, out: &mut [u64])
-    requires { ⌜ Readable 64 h (now bytes) × (j < h .chunks) × (chunkState h (now bytes) j ≡ Good) × (countOf h j ≤ length (now out)) ⌝ }
-    ensures { λ _. ⌜ now (out .exit) ≡ chunkValues h (now (bytes .entry)) j ++ drop (countOf h j) (now (out .entry)) ⌝ }
-{
-    let part = chunks::chunk_at(h, bytes, j);
-    chunk::restored64(
-        part,
-        chunks::count_at(h, j),
-        h.mode as u32,
-        chunks::bin_in(h),
-        out,
-    );
-}
-
-pub(crate) fn restore64(h: Header, bytes: &[u8], out: &mut [u64])
-    requires { ⌜ Readable 64 h (now bytes) × (first (chunkRows h (now bytes)) ≡ Pass) × (h .count ≤ length (now out)) ⌝ }
-    ensures { λ _. ⌜ now (out .exit) ≡ valuesIn h (now (bytes .entry)) ++ drop (h .count) (now (out .entry)) ⌝ }
-{
-    let mut j: usize = 0;
-    while j < h.chunks {
-        let at = 1024 * j;
-        restore_chunk64(h, bytes, j, &mut out[at..]);
+        restore_chunk(h, bytes, j, c32, c64, o32, o64);
         j += 1;
     }
 }
 
 // One value, by its index, from its own chunk.
-pub(crate) fn value_at32(h: Header, bytes: &[u8], i: usize) -> u32
-    requires { ⌜ Readable 32 h (now bytes) × (i < h .count) × (chunkState h (now bytes) (i / 1024) ≡ Good) ⌝ }
+pub(crate) fn value_at(h: Header, bytes: &[u8], i: usize) -> u64
+    requires { ⌜ Readable (h .width) h (now bytes) × (i < h .count) × (chunkState h (now bytes) (i / 1024) ≡ Good) ⌝ }
     ensures { λ r. ⌜ r ≡ valueIn h (now (bytes .entry)) i ⌝ }
 {
     let j = i / 1024;
+    let t = chunks::setting_in(h);
     let part = chunks::chunk_at(h, bytes, j);
-    chunk::value32(
-        part,
-        chunks::count_at(h, j),
-        i % 1024,
-        h.mode as u32,
-        chunks::bin_in(h),
-    )
-}
-
-pub(crate) fn value_at64(h: Header, bytes: &[u8], i: usize) -> u64
-    requires { ⌜ Readable 64 h (now bytes) × (i < h .count) × (chunkState h (now bytes) (i / 1024) ≡ Good) ⌝ }
-    ensures { λ r. ⌜ r ≡ valueIn h (now (bytes .entry)) i ⌝ }
-{
-    let j = i / 1024;
-    let part = chunks::chunk_at(h, bytes, j);
-    chunk::value64(
-        part,
-        chunks::count_at(h, j),
-        i % 1024,
-        h.mode as u32,
-        chunks::bin_in(h),
-    )
+    chunk::value(t, part, chunks::count_at(h, j), i % 1024)
 }

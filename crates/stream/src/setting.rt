@@ -1,10 +1,21 @@
-// Levels and settings: what a level knows, what a setting needs, and the numbers that the chunk layer wants of it.
+// Levels and settings: what a level knows, how a setting is made from a call or a header, and what it says of codes.
 ghost use mathlib.Core.Path.{_≡_};
 ghost use mathlib.Core.Bool.{true};
+ghost use Prim.Native.Nat.{_^_, _≤_, _<_};
+ghost use lib.IntN.{subℕ};
 ghost use Rattle.numbers.specs.Answers.{binAnswer};
-ghost use Rattle.stream.specs.Setting.{knownLevel, knownWidth, fractionBits, need, allowedSetting, binFor, limitOf};
+ghost use Rattle.numbers.specs.Signed.{bitsOf};
+ghost use Rattle.stream.specs.Setting.{knownLevel, knownWidth, fractionBits, need, allowedSetting, binFor, settingOf, kBits, groupSize, limitOf};
+ghost use Rattle.stream.specs.Relied.{Allowed};
 use numbers::tolerance;
 use numbers::tolerance::BinAnswer;
+
+// What everything below the header wants of a setting: natural numbers, with the bin for k.
+pub(crate) struct Setting {
+    pub width: u32,
+    pub mode: u32,
+    pub bin: u32,
+}
 
 pub(crate) fn known_level(level: usize) -> bool
     ensures { λ r. ⌜ r ≡ knownLevel level ⌝ }
@@ -16,19 +27,6 @@ pub(crate) fn known_width(width: usize) -> bool
     ensures { λ r. ⌜ r ≡ knownWidth width ⌝ }
 {
     (width == 32) | (width == 64)
-}
-
-// The largest of the needs of the width and the mode.
-pub(crate) fn need_of(width: usize, mode: usize) -> usize
-    ensures { λ r. ⌜ r ≡ need width mode ⌝ }
-{
-    if width == 64 {
-        return 10;
-    }
-    if mode == 1 {
-        return 9;
-    }
-    8
 }
 
 // The bin of k at a width, by the number rules of that width.
@@ -61,7 +59,7 @@ pub(crate) fn allowed(width: usize, mode: usize, k: i32) -> bool
 }
 
 // The bin of an allowed setting. Mode 0 has none, and counts as bin 0.
-pub(crate) fn bin_for(width: usize, mode: usize, k: i32) -> u32
+fn bin_for(width: usize, mode: usize, k: i32) -> u32
     requires { ⌜ (knownWidth width ≡ true) × (allowedSetting width mode k ≡ true) ⌝ }
     ensures { λ r. ⌜ r ≡ binFor width mode k ⌝ }
 {
@@ -75,19 +73,76 @@ pub(crate) fn bin_for(width: usize, mode: usize, k: i32) -> u32
     }
 }
 
-// The largest u that a code may have.
-pub(crate) fn limit_of(width: usize, mode: usize, bin: u32) -> u64
-    requires { ⌜ knownWidth width ≡ true ⌝ }
-    ensures { λ r. ⌜ r ≡ limitOf width mode bin ⌝ }
+// The one place where a setting is made, of a call's numbers or a header's.
+pub(crate) fn setting_of(width: usize, mode: usize, k: i32) -> Setting
+    requires { ⌜ (knownWidth width ≡ true) × (allowedSetting width mode k ≡ true) ⌝ }
+    ensures { λ r. ⌜ (r ≡ settingOf width mode k) × Allowed r ⌝ }
 {
-    if width == 32 {
-        if mode == 0 {
+    Setting {
+        width: width as u32,
+        mode: mode as u32,
+        bin: bin_for(width, mode, k),
+    }
+}
+
+// The largest of the needs of the width and the mode.
+pub(crate) fn need_of(t: Setting) -> usize
+    ensures { λ r. ⌜ r ≡ need t ⌝ }
+{
+    if t.width == 64 {
+        return 10;
+    }
+    if t.mode == 1 {
+        return 9;
+    }
+    8
+}
+
+// "k in two's complement (0 in mode 0)": the smallest k, of bin 0, is -150 or -1075.
+pub(crate) fn k_bits(t: Setting) -> u32
+    requires { ⌜ Allowed t ⌝ }
+    ensures { λ r. ⌜ r ≡ kBits t ⌝ }
+{
+    if t.mode != 1 {
+        return 0;
+    }
+    if t.width == 32 {
+        return difference_bits(t.bin, 150);
+    }
+    difference_bits(t.bin, 1075)
+}
+
+// The number a - b in two's complement.
+fn difference_bits(a: u32, b: u32) -> u32
+    requires { ⌜ (a < 2 ^ 31) × (b < 2 ^ 31) ⌝ }
+    ensures { λ r. ⌜ r ≡ bitsOf 32 (subℕ a b) ⌝ }
+{
+    if a < b {
+        return u32::MAX - (b - a - 1);
+    }
+    a - b
+}
+
+// The size of a group.
+pub(crate) fn group_size(t: Setting) -> usize
+    ensures { λ r. ⌜ (r ≡ groupSize t) × (0 < r) × (r ≤ 32) ⌝ }
+{
+    32
+}
+
+// The largest u that a code may have.
+pub(crate) fn limit_of(t: Setting) -> u64
+    requires { ⌜ Allowed t ⌝ }
+    ensures { λ r. ⌜ r ≡ limitOf t ⌝ }
+{
+    if t.width == 32 {
+        if t.mode == 0 {
             return 0x7FFF_FFFF;
         }
-        return tolerance::largest_u32(bin) as u64;
+        return tolerance::largest_u32(t.bin) as u64;
     }
-    if mode == 0 {
+    if t.mode == 0 {
         return 0x7FFF_FFFF_FFFF_FFFF;
     }
-    tolerance::largest_u64(bin)
+    tolerance::largest_u64(t.bin)
 }

@@ -1,5 +1,5 @@
 -- What is known of a stream that rows have passed.
-use mathlib.Core.Path.{_≡_, ap, _∙_}
+use mathlib.Core.Path.{_≡_, sym, ap, subst, _∙_}
 use mathlib.Core.Bool.{Bool, true, false, _&&_, not}
 use mathlib.Core.List.{List, [], _∷_, _++_}
 use Prim.Native.Nat.{ℕ, _/_, _≤_, _<_}
@@ -180,6 +180,10 @@ module _ (W level : ℕ) (s : List ℕ) (i : ℕ) (e : first (probeRows W level 
   probe-ready b h is =
       let p = probing W level s i e in
       (readable W level s b h is (p .opening) (p .width) (p .tables), rw is (p .index), rw is (p .chunk))
+
+  -- the same at the header's own width
+  pub probe-reads : Below 256 s → (h : Header) → h ≡ headerOf s → Readable (h .width) h s × (i < h .count) × (chunkState h s (i / 1024) ≡ Good)
+  probe-reads b h is = let p = probe-ready b h is in (subst (λ (x : ℕ). Readable x h s) (sym (p .0 .width)) (p .0), p .1, p .2)
 
 -- ---- unpack's two equations, on acceptance and on refusal
 

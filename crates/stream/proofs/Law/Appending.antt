@@ -1,5 +1,5 @@
 -- A list of bytes written piece by piece over what was there: what is left to write decides how far it has come.
-use mathlib.Core.Path.{_≡_, refl, sym, ap, ap₂, _∙_}
+use mathlib.Core.Path.{_≡_, refl, sym, ap, ap₂, subst, _∙_}
 use mathlib.Core.List.{List, [], _++_, append-assoc, append-nil}
 use Prim.Native.Nat.{ℕ, _+_, _-_, _≤_}
 use native.Mathlib.Nat.{zero-add}
@@ -7,6 +7,21 @@ use native.Mathlib.Omega.{arith}
 use lib.ListN.{length, take, drop, length-append, length-drop, drop-of-length-le}
 use lib.Seq.{take-at, drop-at, drop-drop, take-all, take-add, length-take-le}
 use borrow.Rule.Slice.PartMut.{putMid}
+use Rattle.stream.specs.Lent.{landed}
+
+-- new elements, written into the part from `at` on
+pub landed-mid : (at n : ℕ) (new out ys : List ℕ) → length new ≡ n → ys ≡ new ++ drop n (take (length out - at) (drop at out))
+    → putMid at (length out - at) out ys ≡ landed at new out
+unfolding landed
+landed-mid at n new out ys l is =
+    ap (λ (t : List ℕ). take at out ++ t)
+    (ap₂ _++_
+    (is
+    ∙ ap (λ (t : List ℕ). new ++ drop n t) (take-all (length out - at) (drop at out) (rw (length-drop at out) (omega arith)))
+    ∙ ap (λ (t : List ℕ). new ++ t) (drop-drop n at out ∙ ap (λ (m : ℕ). drop (at + m) out) (sym l)))
+    (drop-of-length-le (drop at out) {i = length out - at} (rw (length-drop at out) (omega arith)))
+    ∙ append-nil (new ++ drop (at + length new) out))
+    ∙ sym (append-assoc (take at out) new (drop (at + length new) out))
 
 -- Of `all`, the first `put` bytes stand in `out`, which was `base`; `rest` is still to come.
 pub record Appended (all rest base out : List ℕ) (put : ℕ) : Type 0 where
@@ -62,3 +77,8 @@ module _ (all rest base out : List ℕ) (put : ℕ) (a : Appended all rest base 
         (drop-drop r put base);
     room = a .room;
   }
+
+  pub one-landed : (piece more now : List ℕ) (r : ℕ) → rest ≡ piece ++ more → r ≡ length piece → now ≡ landed put piece out → Appended all more base now (put + r)
+  one-landed piece more now r e l is =
+      let ys : List ℕ = piece ++ drop r (take (length out - put) (drop put out)) in
+      subst (λ (o : List ℕ). Appended all more base o (put + r)) (landed-mid put r piece out ys (sym l) refl ∙ sym is) (one-piece piece more ys r e l refl)

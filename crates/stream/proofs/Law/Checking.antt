@@ -10,7 +10,7 @@ use lib.Dec.{lit<}
 use lib.ListN.{length, take, drop, getD}
 use lib.Pow.{pow-pos, pow-mono, shr-shr, shl-exact, field}
 use Rattle.stream.specs.Bytes.{Below, number, digits}
-use Rattle.stream.specs.Answer.{groupAnswer}
+use Rattle.stream.specs.Group.{groupAnswer}
 use Rattle.stream.specs.declared.group.GroupAnswer.the-variants as answers
 use Rattle.stream.specs.Group.{bytesFor, widthOf, givenWidth, groupLength, groupNumber, groupCodes, goodGroup}
 use Rattle.stream.specs.Theorem.{Limited}

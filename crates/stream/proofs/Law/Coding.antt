@@ -2,20 +2,23 @@
 -- stay below 2 ^ W.
 use mathlib.Core.Path.{_≡_, refl, sym, ap, ap₂, _∙_}
 use mathlib.Core.Bool.{Bool, true, false, cond}
-use mathlib.Core.List.{List, [], _∷_, _++_, map, map-append, append-assoc}
+use mathlib.Core.Logic.{_⊎_, inl, inr}
+use mathlib.Core.List.{List, [], _∷_, _++_, map, map-append, append-assoc, append-nil}
 use Prim.Native.Nat.{ℕ, zero, suc, _+_, _-_, _^_, _≤_, _<_}
 use native.Mathlib.Nat.{min-le-right}
 use native.Mathlib.Numerals.{add-one}
 use native.Mathlib.Omega.{arith}
 use lib.Dec.{eqb}
 use lib.Pow.{pow-pos}
-use lib.ListN.{length, take, drop, getD, set, replicate, length-map, length-append, length-drop, length-replicate}
-use lib.Seq.{take-suc, take-suc-set, drop-cons, set-at, length-take-le}
+use lib.ListN.{length, take, drop, getD, set, replicate, length-map, length-append, length-drop, length-replicate, drop-of-length-le}
+use lib.Seq.{take-suc, take-suc-set, drop-cons, set-at, length-take-le, take-add, take-take, take-all, drop-at}
 use Rattle.numbers.specs.Theorem.{Format}
 use Rattle.numbers.specs.Tolerance.{lastBin}
 use Rattle.numbers.proofs.Theorems.{lossless-code-has-W-bits, lossless-pattern-has-W-bits, tolerance-code-has-W-bits, tolerance-pattern-has-W-bits, lossless-zero, tolerance-zero}
 use Rattle.stream.specs.Bytes.{Below}
+use Rattle.stream.proofs.Law.Truth.{le-or-lt}
 use Rattle.stream.specs.Setting.{fractionBits, clipped, codeAt, patternAt, codesOf, patternsOf}
+use Rattle.stream.specs.declared.setting.Setting.{Setting}
 
 -- one element more of a list that is filled by f from the elements of xs
 pub one-mapped : (f : ℕ → ℕ) (xs ys : List ℕ) (i : ℕ) → i < length xs → i < length ys → take i ys ≡ map f (take i xs)
@@ -23,7 +26,7 @@ pub one-mapped : (f : ℕ → ℕ) (xs ys : List ℕ) (i : ℕ) → i < length x
 one-mapped f xs ys i h l e =
     ap (λ (k : ℕ). take k (set ys i (f (getD xs i 0)))) (add-one i)
     ∙ take-suc-set ys i (f (getD xs i 0)) l
-    ∙ ap (λ (t : List ℕ). t ++ (f (getD xs i 0) ∷ [])) e
+    ∙ ap (λ (l : List ℕ). l ++ (f (getD xs i 0) ∷ [])) e
     ∙ sym (ap (map f) (ap (λ (k : ℕ). take k xs) (add-one i) ∙ take-suc xs i 0 h) ∙ map-append f (take i xs) (getD xs i 0 ∷ []))
 
 -- the same of a list that is copied
@@ -32,7 +35,7 @@ pub one-copied : (xs ys : List ℕ) (i : ℕ) → i < length xs → i < length y
 one-copied xs ys i h l e =
     ap (λ (k : ℕ). take k (set ys i (getD xs i 0))) (add-one i)
     ∙ take-suc-set ys i (getD xs i 0) l
-    ∙ ap (λ (t : List ℕ). t ++ (getD xs i 0 ∷ [])) e
+    ∙ ap (λ (l : List ℕ). l ++ (getD xs i 0 ∷ [])) e
     ∙ sym (ap (λ (k : ℕ). take k xs) (add-one i) ∙ take-suc xs i 0 h)
 
 -- the same over what was there: the images so far, and the rest of `base`
@@ -46,6 +49,23 @@ one-put f xs base i h l =
     (ap (map f) (ap (λ (k : ℕ). take k xs) (add-one i) ∙ take-suc xs i 0 h) ∙ map-append f (take i xs) (getD xs i 0 ∷ []))
     (ap (λ (k : ℕ). drop k base) (add-one i))
     ∙ append-assoc (map f (take i xs)) (f (getD xs i 0) ∷ []) (drop (suc i) base))
+
+-- the same of a copy
+map-same : (l : List ℕ) → map (λ (x : ℕ). x) l ≡ l
+map-same [] = refl
+map-same (x ∷ xs) = ap (λ (t : List ℕ). x ∷ t) (map-same xs)
+
+pub one-over : (xs base : List ℕ) (i : ℕ) → i < length xs → i < length base
+    → set (take i xs ++ drop i base) i (getD xs i 0) ≡ take (i + 1) xs ++ drop (i + 1) base
+one-over xs base i h l =
+    ap (λ (t : List ℕ). set (t ++ drop i base) i (getD xs i 0)) (sym (map-same (take i xs)))
+    ∙ one-put (λ (x : ℕ). x) xs base i h l
+    ∙ ap (λ (t : List ℕ). t ++ drop (i + 1) base) (map-same (take (i + 1) xs))
+
+pub length-over : (xs base out : List ℕ) (i : ℕ) → i ≤ length xs → i ≤ length base → out ≡ take i xs ++ drop i base → length out ≡ length base
+length-over xs base out i h l e =
+    ap length e ∙ length-append (take i xs) (drop i base)
+    ∙ ap₂ _+_ (length-take-le i xs h) (length-drop i base) ∙ (let q : i + (length base - i) ≡ length base = omega arith in q)
 
 -- the same of zeros
 replicate-snoc : (i : ℕ) (t : List ℕ) → replicate i 0 ++ (0 ∷ t) ≡ replicate (suc i) 0 ++ t
@@ -73,11 +93,16 @@ length-put f xs base i h l =
     ∙ (let e : i + (length base - i) ≡ length base = omega arith in e)
 
 -- so the output keeps its length
-pub length-filled : (W mode bin n : ℕ) (codes base out : List ℕ) (i : ℕ) → n ≤ length codes → n ≤ length base → i ≤ n
-    → out ≡ patternsOf W mode bin (take i (take n codes)) ++ drop i base → length out ≡ length base
+pub length-filled : (t : Setting) (n : ℕ) (codes base out : List ℕ) (i : ℕ) → n ≤ length codes → n ≤ length base → i ≤ n
+    → out ≡ patternsOf t (take i (take n codes)) ++ drop i base → length out ≡ length base
 unfolding patternsOf
-length-filled W mode bin n codes base out i h l k e =
-    ap length e ∙ length-put (patternAt W mode bin) (take n codes) base i (rw (length-take-le n codes h) k) (omega arith)
+length-filled t n codes base out i h l k e =
+    ap length e ∙ length-put (patternAt t) (take n codes) base i (rw (length-take-le n codes h) k) (omega arith)
+
+pub length-coded : (t : Setting) (values base out : List ℕ) (i : ℕ) → length values ≤ length base → i ≤ length values
+    → out ≡ codesOf t (take i values) ++ drop i base → length out ≡ length base
+unfolding codesOf
+length-coded t values base out i h k e = ap length e ∙ length-put (codeAt t) values base i k (omega arith)
 
 pub map-take : (f : ℕ → ℕ) (k : ℕ) (xs : List ℕ) → map f (take k xs) ≡ take k (map f xs)
 map-take f zero xs = refl
@@ -89,6 +114,24 @@ map-drop f zero xs = refl
 map-drop f (suc k) [] = refl
 map-drop f (suc k) (x ∷ xs) = map-drop f k xs
 
+take-none : (k : ℕ) → take {A = ℕ} k [] ≡ []
+take-none zero = refl
+take-none (suc k) = refl
+
+-- a part of what is at the front
+pub part-taken : (n at m : ℕ) (l : List ℕ) → at + n ≤ m → take n (drop at (take m l)) ≡ take n (drop at l)
+part-taken n at m l h =
+    ap (λ (k : ℕ). take n (drop at (take k l))) (let e : m ≡ at + (m - at) = omega arith in e)
+    ∙ ap (λ (x : List ℕ). take n (drop at x)) (take-add at (m - at) l)
+    ∙ go (le-or-lt at (length l))
+  where
+    go : (at ≤ length l) ⊎ (length l < at) → take n (drop at (take at l ++ take (m - at) (drop at l))) ≡ take n (drop at l)
+    go (inl k) = ap (take n) (drop-at (take at l) (take (m - at) (drop at l)) at (length-take-le at l k)) ∙ take-take n (m - at) (drop at l) (omega arith)
+    go (inr k) =
+        ap₂ (λ (x y : List ℕ). take n (drop at (x ++ take (m - at) y))) (take-all at l (omega arith)) (drop-of-length-le l {i = at} (omega arith))
+        ∙ ap (λ (x : List ℕ). take n (drop at (l ++ x))) (take-none (m - at))
+        ∙ ap (λ (x : List ℕ). take n (drop at x)) (append-nil l)
+
 -- what holds of every image holds of the list of images
 map-below : (f : ℕ → ℕ) (a b : ℕ) → 0 < b → ((x : ℕ) → x < a → f x < b) → (xs : List ℕ) → Below a xs → Below b (map f xs)
 map-below f a b some h [] below i = some
@@ -99,42 +142,45 @@ either-under : (b : Bool) (x y N : ℕ) → x < N → y < N → cond b x y < N
 either-under true x y N h l = h
 either-under false x y N h l = l
 
-module _ (W : ℕ) (format : Format W (fractionBits W)) (mode bin : ℕ) where
-  pub bin-in : clipped W bin ≤ lastBin W (fractionBits W)
-  unfolding clipped
-  bin-in = min-le-right bin (lastBin W (fractionBits W))
+module _ (t : Setting) (format : Format (t .width) (fractionBits (t .width))) where
+  abbrev W : ℕ
+  W = t .width
 
-  code-under : (p : ℕ) → p < 2 ^ W → codeAt W mode bin p < 2 ^ W
+  pub bin-in : clipped t ≤ lastBin W (fractionBits W)
+  unfolding clipped
+  bin-in = min-le-right (t .bin) (lastBin W (fractionBits W))
+
+  code-under : (p : ℕ) → p < 2 ^ W → codeAt t p < 2 ^ W
   unfolding codeAt
   code-under p h =
-      either-under (eqb mode 0) _ _ (2 ^ W) (lossless-code-has-W-bits W (fractionBits W) format p h)
-      (tolerance-code-has-W-bits W (fractionBits W) format (clipped W bin) bin-in p h)
+      either-under (eqb (t .mode) 0) _ _ (2 ^ W) (lossless-code-has-W-bits W (fractionBits W) format p h)
+      (tolerance-code-has-W-bits W (fractionBits W) format (clipped t) bin-in p h)
 
-  pattern-under : (c : ℕ) → c < 2 ^ W → patternAt W mode bin c < 2 ^ W
+  pattern-under : (c : ℕ) → c < 2 ^ W → patternAt t c < 2 ^ W
   unfolding patternAt
   pattern-under c h =
-      either-under (eqb mode 0) _ _ (2 ^ W) (lossless-pattern-has-W-bits W (fractionBits W) format c h)
-      (tolerance-pattern-has-W-bits W (fractionBits W) format (clipped W bin) bin-in c)
+      either-under (eqb (t .mode) 0) _ _ (2 ^ W) (lossless-pattern-has-W-bits W (fractionBits W) format c h)
+      (tolerance-pattern-has-W-bits W (fractionBits W) format (clipped t) bin-in c)
 
   -- zeros stand for zeros
-  pattern-zero : patternAt W mode bin 0 ≡ 0
+  pattern-zero : patternAt t 0 ≡ 0
   unfolding patternAt
   pattern-zero =
-      go (eqb mode 0) (lossless-zero W (fractionBits W) format) (tolerance-zero W (fractionBits W) format (clipped W bin) bin-in)
+      go (eqb (t .mode) 0) (lossless-zero W (fractionBits W) format) (tolerance-zero W (fractionBits W) format (clipped t) bin-in)
     where
       go : (b : Bool) {x y : ℕ} → x ≡ 0 → y ≡ 0 → cond b x y ≡ 0
       go true h l = h
       go false h l = l
 
-  pub patterns-zero : (n : ℕ) → patternsOf W mode bin (replicate n 0) ≡ replicate n 0
+  pub patterns-zero : (n : ℕ) → patternsOf t (replicate n 0) ≡ replicate n 0
   unfolding patternsOf
   patterns-zero zero = refl
   patterns-zero (suc n) = ap₂ (λ (x : ℕ) (r : List ℕ). x ∷ r) pattern-zero (patterns-zero n)
 
-  pub codes-under : (vs : List ℕ) → Below (2 ^ W) vs → Below (2 ^ W) (codesOf W mode bin vs)
+  pub codes-under : (vs : List ℕ) → Below (2 ^ W) vs → Below (2 ^ W) (codesOf t vs)
   unfolding codesOf
-  codes-under = map-below (codeAt W mode bin) (2 ^ W) (2 ^ W) (pow-pos W) code-under
+  codes-under = map-below (codeAt t) (2 ^ W) (2 ^ W) (pow-pos W) code-under
 
-  pub patterns-under : (cs : List ℕ) → Below (2 ^ W) cs → Below (2 ^ W) (patternsOf W mode bin cs)
+  pub patterns-under : (cs : List ℕ) → Below (2 ^ W) cs → Below (2 ^ W) (patternsOf t cs)
   unfolding patternsOf
-  patterns-under = map-below (patternAt W mode bin) (2 ^ W) (2 ^ W) (pow-pos W) pattern-under
+  patterns-under = map-below (patternAt t) (2 ^ W) (2 ^ W) (pow-pos W) pattern-under

@@ -1,13 +1,13 @@
 -- The rows of the tables and the chunks, from what the checks find.
-use mathlib.Core.Path.{_≡_, refl, sym, ap, ap₂, _∙_}
+use mathlib.Core.Path.{_≡_, refl, sym, ap, _∙_}
 use mathlib.Core.Bool.{Bool, true, false, _&&_}
 use mathlib.Core.List.{List, [], _∷_, _++_}
 use Prim.Native.Nat.{ℕ, _<_}
 use native.Mathlib.Omega.{arith}
-use lib.ListN.{drop, getD}
+use lib.ListN.{getD}
 use Rattle.stream.specs.Setting.{groupSize, limitOf, patternsOf}
 use Rattle.stream.specs.Chunk.{chunkAnswer, chunkCodes}
-use Rattle.stream.specs.Header.{binIn}
+use Rattle.stream.specs.Header.{settingIn}
 use Rattle.stream.specs.Stream.{countOf, chunkOf, chunkState, chunkValues}
 use Rattle.stream.specs.Rows.{first}
 use Rattle.stream.specs.Tables.{chunkTableRight, sideTableRight}
@@ -16,29 +16,27 @@ use Rattle.stream.specs.declared.answers.Step.the-variants.{Pass, Stop}
 use Rattle.stream.specs.declared.chunk.ChunkAnswer.{ChunkAnswer}
 use Rattle.stream.specs.declared.chunk.ChunkAnswer.the-variants.{Good, Bad}
 use Rattle.stream.specs.declared.header.Header.{Header}
+use Rattle.stream.specs.declared.setting.Setting.{Setting}
 use Rattle.stream.proofs.Law.Scan.{rows-at}
 
 module _ (h : Header) (s : List ℕ) (j : ℕ) where
   -- the chunk, from its parts as the code has them
-  module _ (W bin n : ℕ) (part : List ℕ) (width : h .width ≡ W) (bins : bin ≡ binIn h) (counts : n ≡ countOf h j) (parts : part ≡ chunkOf h s j) where
-    state-is : (limit : ℕ) → limit ≡ limitOf W (h .mode) bin → chunkAnswer W limit 32 n part ≡ chunkState h s j
-    unfolding chunkState groupSize
-    state-is limit limits = rw (limits, bins, counts, parts, width)
+  module _ (t : Setting) (n : ℕ) (part : List ℕ) (setting : t ≡ settingIn h) (counts : n ≡ countOf h j) (parts : part ≡ chunkOf h s j) where
+    state-is : chunkAnswer (t .width) (limitOf t) (groupSize t) n part ≡ chunkState h s j
+    unfolding chunkState
+    state-is = rw (setting, counts, parts)
 
-    pub found-is : (limit : ℕ) → limit ≡ limitOf W (h .mode) bin → (r a : ChunkAnswer) → r ≡ chunkAnswer W limit 32 n part → r ≡ a → chunkState h s j ≡ a
-    found-is limit limits r a e is = sym (state-is limit limits) ∙ sym e ∙ is
+    pub found-is : (r a : ChunkAnswer) → r ≡ chunkAnswer (t .width) (limitOf t) (groupSize t) n part → r ≡ a → chunkState h s j ≡ a
+    found-is r a e is = sym state-is ∙ sym e ∙ is
 
-    pub good-is : chunkState h s j ≡ Good → chunkAnswer W (limitOf W (h .mode) bin) 32 n part ≡ Good
-    good-is g = state-is (limitOf W (h .mode) bin) refl ∙ g
+    pub good-is : chunkState h s j ≡ Good → chunkAnswer (t .width) (limitOf t) (groupSize t) n part ≡ Good
+    good-is g = state-is ∙ g
 
-    values-are : patternsOf W (h .mode) bin (chunkCodes 32 n part) ≡ chunkValues h s j
-    unfolding chunkValues groupSize
-    values-are = rw (bins, counts, parts, width)
+    pub values-are : patternsOf t (chunkCodes (groupSize t) n part) ≡ chunkValues h s j
+    unfolding chunkValues
+    values-are = rw (setting, counts, parts)
 
-    pub restored-is : (now old : List ℕ) → now ≡ patternsOf W (h .mode) bin (chunkCodes 32 n part) ++ drop n old → now ≡ chunkValues h s j ++ drop (countOf h j) old
-    restored-is now old e = e ∙ ap₂ (λ (vs : List ℕ) (m : ℕ). vs ++ drop m old) values-are counts
-
-    pub value-is : (v i : ℕ) → v ≡ getD (patternsOf W (h .mode) bin (chunkCodes 32 n part)) i 0 → v ≡ getD (chunkValues h s j) i 0
+    pub value-is : (v i : ℕ) → v ≡ getD (patternsOf t (chunkCodes (groupSize t) n part)) i 0 → v ≡ getD (chunkValues h s j) i 0
     value-is v i e = e ∙ ap (λ (vs : List ℕ). getD vs i 0) values-are
 
   pub good-row : chunkState h s j ≡ Good → Pass ≡ first (chunkRow h s j ∷ [])

@@ -12,7 +12,7 @@ use lib.Seq.{take-take, drop-drop, take-set-le, drop-set-lt, drop-set-add}
 use Rattle.stream.specs.Bytes.{number}
 use Rattle.stream.specs.Setting.{groupSize, limitOf, patternsOf}
 use Rattle.stream.specs.Chunk.{chunkAnswer, chunkCodes}
-use Rattle.stream.specs.Header.{word, headerOf, binIn}
+use Rattle.stream.specs.Header.{word, headerOf, settingIn}
 use Rattle.stream.specs.Tables.{every, startAt, startRight, chunkTableRight, sideId, sidePlace, sideLength, idFloor, partAt, entryRight, sideTableRight}
 use Rattle.stream.specs.Stream.{countOf, chunkOf, chunkState, chunkValues, valueIn, valueAt}
 use Rattle.stream.specs.Operations.{openingRows, tableRows, faultRow, chunkRow, ownRows, probeRows}
@@ -128,13 +128,13 @@ module _ (j : ℕ) (s t : List ℕ) (apart : Apart j s t) where
   row-same : chunkRow (headerOf s) s j ≡ chunkRow (headerOf s) t j
   unfolding chunkRow chunkState
   row-same =
-      ap (λ (part : List ℕ). faultRow j (chunkAnswer (headerOf s .width) (limitOf (headerOf s .width) (headerOf s .mode) (binIn (headerOf s))) (groupSize (headerOf s .mode)) (countOf (headerOf s) j) part))
+      ap (λ (part : List ℕ). faultRow j (chunkAnswer (headerOf s .width) (limitOf (settingIn (headerOf s))) (groupSize (settingIn (headerOf s))) (countOf (headerOf s) j) part))
       chunk-same
 
   values-same : chunkValues (headerOf s) s j ≡ chunkValues (headerOf s) t j
   unfolding chunkValues
   values-same =
-      ap (λ (part : List ℕ). patternsOf (headerOf s .width) (headerOf s .mode) (binIn (headerOf s)) (chunkCodes (groupSize (headerOf s .mode)) (countOf (headerOf s) j) part))
+      ap (λ (part : List ℕ). patternsOf (settingIn (headerOf s)) (chunkCodes (groupSize (settingIn (headerOf s))) (countOf (headerOf s) j) part))
       chunk-same
 
 -- A byte in the data of another chunk: with any other in its place, the streams are apart.

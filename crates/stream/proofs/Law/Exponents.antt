@@ -1,57 +1,119 @@
--- An allowed k is a number of 32 bits in two's complement, and the header gives it back.
-use mathlib.Core.Path.{_≡_, refl, ap}
+-- The header's number for k is a number of 32 bits, and gives the setting back.
+use mathlib.Core.Path.{_≡_, refl, sym, ap, _∙_}
 use mathlib.Core.Logic.{_⊎_, inl, inr}
-use mathlib.Core.Bool.{Bool, true, false, _&&_}
-use Prim.Native.Nat.{ℕ, suc, _-_, _^_, _<_}
+use mathlib.Core.Bool.{Bool, true, false, _&&_, cond}
+use Prim.Native.Nat.{ℕ, suc, _+_, _-_, _^_, _≤_, _<_}
 use native.Mathlib.Omega.{arith}
-use borrow.Author.Tests.{leb-true, eqb-true, lt-ltb, le-ltb}
-use lib.Dec.{leb, eqb}
-use lib.IntN.{ℤ, pos, negsuc}
-use lib.Signed.{mag, leZ}
+use borrow.Author.Tests.{eq-eqb, ne-eqb, lt-ltb, le-ltb}
+use lib.Dec.{eqb, lit<}
+use lib.IntN.{ℤ, pos, negsuc, subℕ}
 use Rattle.numbers.specs.Signed.{signedView, bitsOf}
-use Rattle.numbers.specs.Tolerance.{kOffset, lastBin, allowedK}
-use Rattle.stream.specs.Setting.{knownWidth, fractionBits, isZero, allowedSetting}
-use Rattle.stream.proofs.Law.Truth.{and-left, and-right}
-use Rattle.stream.proofs.Law.Settings.{width-cases}
+use Rattle.numbers.specs.Tolerance.{kOffset, lastBin, allowedK, binOf}
+use Rattle.numbers.specs.Bound.{exponentOf}
+use Rattle.numbers.specs.Theorem.{Format}
+use Rattle.numbers.proofs.Theorems.{the-k-of-a-bin-is-allowed, the-bin-of-its-k}
+use Rattle.stream.specs.Setting.{fractionBits, isZero, allowedSetting, binFor, settingOf, kBits}
+use Rattle.stream.specs.Relied.{Allowed}
+use Rattle.stream.specs.declared.setting.Setting.{Setting}
+use Rattle.stream.proofs.Law.Truth.{le-or-lt}
+use Rattle.stream.proofs.Law.Settings.{width-cases, width-format}
 
--- below a limit on both sides
-between : (low high : ℕ) (k : ℤ) → leZ (negsuc low) k && leZ k (pos high) ≡ true → low < 2 ^ 31 → high < 2 ^ 31 → mag k < 2 ^ 31
-between low high (pos n) e l h = omega (arith, leb-true n high e)
-between low high (negsuc n) e l h = omega (arith, leb-true n low (and-left (leb n low) true e))
-
-zero-small : (k : ℤ) → isZero k ≡ true → mag k < 2 ^ 31
-unfolding isZero
-zero-small (pos n) e = omega (arith, eqb-true n 0 e)
-zero-small (negsuc n) e = let z : false ≡ true = e in let q : _≡_ {A = ℕ} 0 1 = cc in omega arith
-
-k-small : (W : ℕ) (k : ℤ) → (W ≡ 32) ⊎ (W ≡ 64) → allowedK W (fractionBits W) k ≡ true → mag k < 2 ^ 31
-unfolding allowedK kOffset lastBin fractionBits
-k-small W k (inl e) a = between 149 103 k (rw e at a) (omega arith) (omega arith)
-k-small W k (inr e) a = between 1074 970 k (rw e at a) (omega arith) (omega arith)
-
-module _ (W mode : ℕ) (k : ℤ) (known : knownWidth W ≡ true) (allowed : allowedSetting W mode k ≡ true) where
-  pub exponent-small : mag k < 2 ^ 31
-  unfolding allowedSetting
-  exponent-small = go (eqb mode 0) refl
-    where
-      go : (b : Bool) → eqb mode 0 ≡ b → mag k < 2 ^ 31
-      go true e = zero-small k (rw e at allowed)
-      go false e = k-small W k (width-cases W known) (and-right (eqb mode 1) (allowedK W (fractionBits W) k) (rw e at allowed))
-
-bits-small : (k : ℤ) → mag k < 2 ^ 31 → bitsOf 32 k < 2 ^ 32
-unfolding bitsOf
-bits-small (pos n) h = omega arith
-bits-small (negsuc n) h = omega arith
-
-bits-back : (k : ℤ) → mag k < 2 ^ 31 → signedView 32 (bitsOf 32 k) ≡ k
+-- a small number in two's complement, read back
+positive-back : (n : ℕ) → n < 2 ^ 31 → signedView 32 (bitsOf 32 (pos n)) ≡ pos n
 unfolding signedView bitsOf
-bits-back (pos n) h = rw (lt-ltb n (2 ^ 31) h)
-bits-back (negsuc n) h =
+positive-back n h = rw (lt-ltb n (2 ^ 31) h)
+
+negative-back : (n : ℕ) → n < 2 ^ 31 → signedView 32 (bitsOf 32 (negsuc n)) ≡ negsuc n
+unfolding signedView bitsOf
+negative-back n h =
     rw (le-ltb (2 ^ 32 - suc n) (2 ^ 31) (omega arith)) (ap negsuc (let e : 2 ^ 32 - suc (2 ^ 32 - suc n) ≡ n = omega arith in e))
 
-module _ (W mode : ℕ) (k : ℤ) (known : knownWidth W ≡ true) (allowed : allowedSetting W mode k ≡ true) where
-  pub exponent-bits : bitsOf 32 k < 2 ^ 32
-  exponent-bits = bits-small k (exponent-small W mode k known allowed)
+-- a difference of small numbers in two's complement
+module _ (a b : ℕ) (small-a : a < 2 ^ 31) (small-b : b < 2 ^ 31) where
+  pub below-bits : a < b → 2 ^ 32 - 1 - (b - a - 1) ≡ bitsOf 32 (subℕ a b)
+  unfolding bitsOf
+  below-bits h = rw (lt-ltb a b h) (omega arith)
 
-  pub exponent-back : signedView 32 (bitsOf 32 k) ≡ k
-  exponent-back = bits-back k (exponent-small W mode k known allowed)
+  pub above-bits : b ≤ a → a - b ≡ bitsOf 32 (subℕ a b)
+  unfolding bitsOf
+  above-bits h = rw (le-ltb a b h)
+
+  difference-bits : bitsOf 32 (subℕ a b) < 2 ^ 32
+  difference-bits = go (le-or-lt b a)
+    where
+      go : (b ≤ a) ⊎ (a < b) → bitsOf 32 (subℕ a b) < 2 ^ 32
+      go (inl h) = rw (← (above-bits h)) (omega arith)
+      go (inr h) = rw (← (below-bits h)) (omega arith)
+
+  difference-back : signedView 32 (bitsOf 32 (subℕ a b)) ≡ subℕ a b
+  difference-back = go (le-or-lt b a)
+    where
+      go : (b ≤ a) ⊎ (a < b) → signedView 32 (bitsOf 32 (subℕ a b)) ≡ subℕ a b
+      go (inl h) = rw (le-ltb a b h) (positive-back (a - b) (omega arith))
+      go (inr h) = rw (lt-ltb a b h) (negative-back (b - suc a) (omega arith))
+
+module _ (t : Setting) (allowed : Allowed t) where
+  abbrev W : ℕ
+  W = t .width
+
+  abbrev m : ℕ
+  m = fractionBits (t .width)
+
+  format : Format W m
+  format = width-format W (allowed .known)
+
+  -- both are small
+  offset-small : (kOffset W m < 2 ^ 31) × (lastBin W m < 2 ^ 31)
+  unfolding kOffset lastBin fractionBits
+  offset-small = go (width-cases W (allowed .known))
+    where
+      go : (W ≡ 32) ⊎ (W ≡ 64) → (kOffset W m < 2 ^ 31) × (lastBin W m < 2 ^ 31)
+      go (inl e) = rw e (lit< tt, lit< tt)
+      go (inr e) = rw e (lit< tt, lit< tt)
+
+  bin-small : t .bin < 2 ^ 31
+  bin-small = omega (arith, allowed .bin, offset-small .1)
+
+  pub bits-small : kBits t < 2 ^ 32
+  unfolding kBits exponentOf
+  bits-small = go (eqb (t .mode) 1)
+    where
+      go : (b : Bool) → cond b (bitsOf 32 (subℕ (t .bin) (kOffset W m))) 0 < 2 ^ 32
+      go true = difference-bits (t .bin) (kOffset W m) bin-small (offset-small .0)
+      go false = lit< tt
+
+  -- k is read as it was written: that of the bin, or 0
+  k-back : signedView 32 (kBits t) ≡ cond (eqb (t .mode) 1) (exponentOf W m (t .bin)) (pos 0)
+  unfolding kBits exponentOf signedView
+  k-back = go (eqb (t .mode) 1)
+    where
+      go : (b : Bool) → signedView 32 (cond b (bitsOf 32 (subℕ (t .bin) (kOffset W m))) 0) ≡ cond b (subℕ (t .bin) (kOffset W m)) (pos 0)
+      go true = difference-back (t .bin) (kOffset W m) bin-small (offset-small .0)
+      go false = refl
+
+  mode-cases : (t .mode ≡ 1) ⊎ (t .mode ≡ 0)
+  mode-cases = go (le-or-lt (t .mode) 0)
+    where
+      go : (t .mode ≤ 0) ⊎ (0 < t .mode) → (t .mode ≡ 1) ⊎ (t .mode ≡ 0)
+      go (inl h) = inr (omega arith)
+      go (inr h) = inl (omega (arith, allowed .mode))
+
+  bin-back : binFor W (t .mode) (signedView 32 (kBits t)) ≡ t .bin
+  unfolding binFor
+  bin-back = rw k-back (go mode-cases)
+    where
+      go : (t .mode ≡ 1) ⊎ (t .mode ≡ 0) → cond (eqb (t .mode) 1) (binOf W m (cond (eqb (t .mode) 1) (exponentOf W m (t .bin)) (pos 0))) 0 ≡ t .bin
+      go (inl e) = rw (eq-eqb (t .mode) 1 e) (the-bin-of-its-k W m format (t .bin))
+      go (inr e) = let n : t .mode ≡ 1 → ⊥ = λ o. omega arith in rw (ne-eqb (t .mode) 1 n) (sym (allowed .none n))
+
+  pub setting-back : settingOf W (t .mode) (signedView 32 (kBits t)) ≡ t
+  setting-back = ap (λ (b : ℕ). record { width = W; mode = t .mode; bin = b }) bin-back
+
+  pub allowed-back : allowedSetting W (t .mode) (signedView 32 (kBits t)) ≡ true
+  unfolding allowedSetting isZero
+  allowed-back = rw k-back (go mode-cases)
+    where
+      go : (t .mode ≡ 1) ⊎ (t .mode ≡ 0)
+          → allowedSetting W (t .mode) (cond (eqb (t .mode) 1) (exponentOf W m (t .bin)) (pos 0)) ≡ true
+      go (inl e) = rw (e, the-k-of-a-bin-is-allowed W m format (t .bin) (allowed .bin))
+      go (inr e) = rw e

@@ -7,44 +7,42 @@ use Prim.Native.Nat.{ℕ, zero, suc, _+_, _*_, _^_, _≤_, _<_, max}
 use native.Mathlib.Omega.{arith}
 use borrow.Author.Tests.{le-ltb, le-leb, eq-eqb}
 use lib.Dec.{eqb, lit<, lit≤}
-use lib.IntN.{ℤ}
 use lib.ListN.{length, getD}
-use Rattle.numbers.specs.Signed.{bitsOf}
 use Rattle.stream.specs.Bytes.{Below}
-use Rattle.stream.specs.Setting.{widthNeed, modeNeed, need}
+use Rattle.stream.specs.Setting.{widthNeed, modeNeed, need, kBits}
 use Rattle.stream.specs.Header.{word, headerOf, kOf, chunksIn, tooMany, needRight, settingRight, layoutRight}
 use Rattle.stream.specs.Writing.{spell, dataOf, startsOf, headerNumbers, endOf}
-use Rattle.stream.specs.Packing.{Packable}
 use Rattle.stream.specs.declared.header.Header.{Header}
+use Rattle.stream.specs.declared.setting.Setting.{Setting}
 use Rattle.stream.proofs.Law.Bytes.{everywhere}
-use Rattle.stream.proofs.Law.Settings.{width-most, mode-small}
+use Rattle.stream.proofs.Law.Settings.{Storable, width-most}
 use Rattle.stream.proofs.Law.Widths.{need-small}
-use Rattle.stream.proofs.Law.Exponents.{exponent-bits, exponent-back}
+use Rattle.stream.proofs.Law.Exponents.{bits-small, setting-back, allowed-back}
 use Rattle.stream.proofs.Law.Joining.{length-singles, singles-at}
 use Rattle.stream.proofs.Law.Spelling.{word-spelled}
 use Rattle.stream.proofs.Law.Pieces.{length-front, end-is, end-grows, end-small}
 
 -- the header of a list's stream with so many side parts
-abbrev pub headerFor : ℕ → ℕ → ℕ → ℤ → List ℕ → ℕ → Header
-headerFor W level mode k vs sides =
+abbrev pub headerFor : ℕ → Setting → List ℕ → ℕ → Header
+headerFor level t vs sides =
     record {
       major = 1;
       written = level;
-      needed = need W mode;
-      width = W;
-      mode = mode;
-      exponent = bitsOf 32 k;
+      needed = need t;
+      width = t .width;
+      mode = t .mode;
+      exponent = kBits t;
       count = length vs;
       chunks = chunksIn (length vs);
       table = 48;
       start = 48 + 4 * chunksIn (length vs);
       sides = sides;
-      end = endOf W mode k vs (chunksIn (length vs));
+      end = endOf t vs (chunksIn (length vs));
     }
 
-need-least : (W mode : ℕ) → 8 ≤ need W mode
+need-least : (t : Setting) → 8 ≤ need t
 unfolding need widthNeed modeNeed
-need-least W mode = go (eqb W 64) (eqb mode 1)
+need-least t = go (eqb (t .width) 64) (eqb (t .mode) 1)
   where
     go : (a b : Bool) → 8 ≤ max (cond a 10 8) (cond b 9 8)
     go true true = lit≤ tt
@@ -62,49 +60,49 @@ each-below b [] ys e h i = h i
 each-below b (x ∷ xs) ys e h zero = e .0
 each-below b (x ∷ xs) ys e h (suc i) = each-below b xs ys (e .1) h i
 
-module _ (W level mode : ℕ) (k : ℤ) (vs : List ℕ) where
+module _ (level : ℕ) (t : Setting) (vs : List ℕ) where
   abbrev chunks : ℕ
   chunks = chunksIn (length vs)
 
   abbrev end : ℕ
-  end = endOf W mode k vs chunks
+  end = endOf t vs chunks
 
   -- the numbers of the header and the chunk table
   abbrev pub frontNumbers : ℕ → List ℕ
-  frontNumbers sides = headerNumbers W level mode k (length vs) sides end ++ startsOf W mode k vs chunks
+  frontNumbers sides = headerNumbers level t (length vs) sides end ++ startsOf t vs chunks
 
   pub length-numbers : (sides : ℕ) → length (frontNumbers sides) ≡ 12 + chunks
-  length-numbers sides = length-front W mode k vs level (length vs) sides end chunks
+  length-numbers sides = length-front t vs level (length vs) sides end chunks
 
-  module _ (p : Packable W level mode k vs) (sides : ℕ) (few : sides ≤ 64) where
+  module _ (p : Storable level t vs) (sides : ℕ) (few : sides ≤ 64) where
     end-below : end < 2 ^ 24
-    end-below = end-small W mode k vs (p .width) (p .patterns) (p .few) chunks (omega arith)
+    end-below = end-small t vs (p .setting .known) (p .patterns) (p .few) chunks (omega arith)
 
-    starts-below : Below (2 ^ 32) (startsOf W mode k vs chunks)
+    starts-below : Below (2 ^ 32) (startsOf t vs chunks)
     unfolding startsOf
     starts-below =
-        everywhere (λ (n : ℕ). n < 2 ^ 32) (startsOf W mode k vs chunks) (lit< tt)
+        everywhere (λ (n : ℕ). n < 2 ^ 32) (startsOf t vs chunks) (lit< tt)
         λ j h.
-        let l : j < chunks = rw (length-singles (λ i. length (dataOf W mode k vs i)) chunks) at h in
-        rw (singles-at (λ i. length (dataOf W mode k vs i)) chunks j l)
-        (omega (arith, end-below, end-is W mode k vs j, end-grows W mode k vs j chunks (omega arith)))
+        let l : j < chunks = rw (length-singles (λ i. length (dataOf t vs i)) chunks) at h in
+        rw (singles-at (λ i. length (dataOf t vs i)) chunks j l)
+        (omega (arith, end-below, end-is t vs j, end-grows t vs j chunks (omega arith)))
 
     -- all have 32 bits
     front-below : Below (2 ^ 32) (frontNumbers sides)
     unfolding headerNumbers chunksIn
     front-below =
-        each-below (2 ^ 32) (headerNumbers W level mode k (length vs) sides end) (startsOf W mode k vs chunks) (
+        each-below (2 ^ 32) (headerNumbers level t (length vs) sides end) (startsOf t vs chunks) (
           lit< tt,
           (
             p .minor,
             (
-              omega (arith, need-small W mode),
+              omega (arith, need-small t),
               (
-                omega (arith, width-most W (p .width)),
+                omega (arith, width-most (t .width) (p .setting .known)),
                 (
-                  omega (arith, mode-small W mode k (p .allowed)),
+                  omega (arith, p .setting .mode),
                   (
-                    exponent-bits W mode k (p .width) (p .allowed),
+                    bits-small t (p .setting),
                     (
                       omega (arith, p .few),
                       (
@@ -127,13 +125,13 @@ module _ (W level mode : ℕ) (k : ℤ) (vs : List ℕ) where
         starts-below
 
     -- so each is read at its place
-    pub front-word : (t : List ℕ) (j : ℕ) → j < 12 + chunks → word (spell (frontNumbers sides) ++ t) (4 * j) ≡ getD (frontNumbers sides) j 0
-    front-word t j h = word-spelled (frontNumbers sides) t j front-below (rw (length-numbers sides) h)
+    pub front-word : (rest : List ℕ) (j : ℕ) → j < 12 + chunks → word (spell (frontNumbers sides) ++ rest) (4 * j) ≡ getD (frontNumbers sides) j 0
+    front-word rest j h = word-spelled (frontNumbers sides) rest j front-below (rw (length-numbers sides) h)
 
-    pub header-is : (t : List ℕ) → headerOf (spell (frontNumbers sides) ++ t) ≡ headerFor W level mode k vs sides
+    pub header-is : (rest : List ℕ) → headerOf (spell (frontNumbers sides) ++ rest) ≡ headerFor level t vs sides
     unfolding headerOf headerNumbers
-    header-is t =
-        let at : (j : ℕ) → j < 12 → word (spell (frontNumbers sides) ++ t) (4 * j) ≡ getD (frontNumbers sides) j 0 = λ j h. front-word t j (omega arith) in
+    header-is rest =
+        let at : (j : ℕ) → j < 12 → word (spell (frontNumbers sides) ++ rest) (4 * j) ≡ getD (frontNumbers sides) j 0 = λ j h. front-word rest j (omega arith) in
         rw (
           at 0 (lit< tt),
           at 1 (lit< tt),
@@ -149,19 +147,19 @@ module _ (W level mode : ℕ) (k : ℤ) (vs : List ℕ) where
           at 11 (lit< tt),
         )
 
-    pub setting-right : settingRight (headerFor W level mode k vs sides) ≡ true
+    pub setting-right : settingRight (headerFor level t vs sides) ≡ true
     unfolding settingRight needRight kOf
     setting-right =
         rw (
-          p .width,
-          le-leb 8 (need W mode) (need-least W mode),
-          eq-eqb (need W mode) (need W mode) refl,
-          le-leb (need W mode) level (p .needs),
-          exponent-back W mode k (p .width) (p .allowed),
-          p .allowed,
+          p .setting .known,
+          setting-back t (p .setting),
+          le-leb 8 (need t) (need-least t),
+          eq-eqb (need t) (need t) refl,
+          le-leb (need t) level (p .needs),
+          allowed-back t (p .setting),
         )
 
-    pub layout-right : (size : ℕ) → end ≤ size → layoutRight size (headerFor W level mode k vs sides) ≡ true
+    pub layout-right : (size : ℕ) → end ≤ size → layoutRight size (headerFor level t vs sides) ≡ true
     unfolding layoutRight tooMany
     layout-right size h =
         rw (
@@ -169,6 +167,6 @@ module _ (W level mode : ℕ) (k : ℤ) (vs : List ℕ) where
           eq-eqb chunks chunks refl,
           eq-eqb (48 + 4 * chunks) (48 + 4 * chunks) refl,
           le-leb sides 64 few,
-          le-leb (48 + 4 * chunks) end (omega (arith, end-is W mode k vs chunks)),
+          le-leb (48 + 4 * chunks) end (omega (arith, end-is t vs chunks)),
           le-leb end size h,
         )

@@ -10,7 +10,7 @@ use Rattle.stream.specs.Group.{bytesFor, largest, widthOf, givenWidth, g
 use Rattle.stream.specs.Setting.{knownLevel, knownWidth, fractionBits, widthNeed, modeNeed, need, isZero, allowedSetting, binFor, groupSize, limitOf}
 use Rattle.stream.specs.Chunk.{groupsIn, firstFault, chunkAnswer}
 use Rattle.stream.specs.Rows.{rowsFrom, first, answer}
-use Rattle.stream.specs.Header.{word, headerOf, kOf, binIn, chunksIn, tooMany, needRight, settingRight, layoutRight}
+use Rattle.stream.specs.Header.{word, headerOf, kOf, chunksIn, tooMany, needRight, settingRight, layoutRight}
 use Rattle.stream.specs.Tables.{every, startAt, startRight, chunkTableRight, partAt, sideTableRight}
 use Rattle.stream.specs.Stream.{joined, countOf, chunkOf, chunkState}
 use Rattle.stream.specs.Writing.{spell}
@@ -33,7 +33,7 @@ threeText =
 -- "the numbers 1 8 8 32 0 0 3 1 48 52 0 55, the table 0, then bytes 03 10 01. It prints, whole:"
 pub three-listed : listing (spell (1 ∷ 8 ∷ 8 ∷ 32 ∷ 0 ∷ 0 ∷ 3 ∷ 1 ∷ 48 ∷ 52 ∷ 0 ∷ 55 ∷ 0 ∷ []) ++ (0x03 ∷ 0x10 ∷ 0x01 ∷ []))
     ≡ threeText
-unfolding size signedView number digits bytesFor largest widthOf givenWidth groupLength groupNumber groupCodes within goodGroup knownLevel knownWidth fractionBits widthNeed modeNeed need isZero allowedSetting binFor groupSize limitOf groupsIn firstFault chunkAnswer first answer word headerOf kOf binIn chunksIn tooMany needRight settingRight layoutRight every startAt startRight chunkTableRight partAt sideTableRight joined countOf chunkOf chunkState spell headerRows openingRows tableRows faultDetail faultRow rowsFrom chunkRow chunkRows contentRows checkRows checkAnswer mostInput highestLevel digit decimalIn decimal minus signedDecimal newline point formatWord needsWord widthWord modeWord boundWord valuesWord chunksWord sidesWord chunkWord atWord bytesWord groupsWord refusedWord detailWord labelled formatLine settingLine countLine chunkLine streamLines refusedLine answerLines listing threeText
+unfolding size signedView number digits bytesFor largest widthOf givenWidth groupLength groupNumber groupCodes within goodGroup knownLevel knownWidth fractionBits widthNeed modeNeed need isZero allowedSetting binFor groupSize limitOf groupsIn firstFault chunkAnswer first answer word headerOf kOf chunksIn tooMany needRight settingRight layoutRight every startAt startRight chunkTableRight partAt sideTableRight joined countOf chunkOf chunkState spell headerRows openingRows tableRows faultDetail faultRow rowsFrom chunkRow chunkRows contentRows checkRows checkAnswer mostInput highestLevel digit decimalIn decimal minus signedDecimal newline point formatWord needsWord widthWord modeWord boundWord valuesWord chunksWord sidesWord chunkWord atWord bytesWord groupsWord refusedWord detailWord labelled formatLine settingLine countLine chunkLine streamLines refusedLine answerLines listing threeText
 three-listed = refl
 
 -- `format 1.9 needs 1.9`, `width 32 mode 1 bound -2`, `values 0 chunks 0 sides 0`
@@ -46,7 +46,7 @@ noneText =
 
 -- no values, in mode 1 with k = -2
 pub none-listed : listing (spell (1 ∷ 9 ∷ 9 ∷ 32 ∷ 1 ∷ 4294967294 ∷ 0 ∷ 0 ∷ 48 ∷ 48 ∷ 0 ∷ 48 ∷ [])) ≡ noneText
-unfolding size signedView number digits bytesFor largest widthOf givenWidth groupLength groupNumber groupCodes within goodGroup knownLevel knownWidth fractionBits widthNeed modeNeed need isZero allowedSetting binFor groupSize limitOf groupsIn firstFault chunkAnswer first answer word headerOf kOf binIn chunksIn tooMany needRight settingRight layoutRight every startAt startRight chunkTableRight partAt sideTableRight joined countOf chunkOf chunkState spell headerRows openingRows tableRows faultDetail faultRow rowsFrom chunkRow chunkRows contentRows checkRows checkAnswer mostInput highestLevel digit decimalIn decimal minus signedDecimal newline point formatWord needsWord widthWord modeWord boundWord valuesWord chunksWord sidesWord chunkWord atWord bytesWord groupsWord refusedWord detailWord labelled formatLine settingLine countLine chunkLine streamLines refusedLine answerLines listing kOffset lastBin allowedK binOf largestU noneText
+unfolding size signedView number digits bytesFor largest widthOf givenWidth groupLength groupNumber groupCodes within goodGroup knownLevel knownWidth fractionBits widthNeed modeNeed need isZero allowedSetting binFor groupSize limitOf groupsIn firstFault chunkAnswer first answer word headerOf kOf chunksIn tooMany needRight settingRight layoutRight every startAt startRight chunkTableRight partAt sideTableRight joined countOf chunkOf chunkState spell headerRows openingRows tableRows faultDetail faultRow rowsFrom chunkRow chunkRows contentRows checkRows checkAnswer mostInput highestLevel digit decimalIn decimal minus signedDecimal newline point formatWord needsWord widthWord modeWord boundWord valuesWord chunksWord sidesWord chunkWord atWord bytesWord groupsWord refusedWord detailWord labelled formatLine settingLine countLine chunkLine streamLines refusedLine answerLines listing kOffset lastBin allowedK binOf largestU noneText
 none-listed = refl
 
 -- `refused 7 detail 11`
@@ -56,5 +56,5 @@ refusedText =
 
 -- a stream that needs 1.11
 pub refused-listed : listing (spell (1 ∷ 11 ∷ 11 ∷ 32 ∷ 0 ∷ 0 ∷ 0 ∷ 0 ∷ 48 ∷ 48 ∷ 0 ∷ 48 ∷ [])) ≡ refusedText
-unfolding size signedView number digits bytesFor largest widthOf givenWidth groupLength groupNumber groupCodes within goodGroup knownLevel knownWidth fractionBits widthNeed modeNeed need isZero allowedSetting binFor groupSize limitOf groupsIn firstFault chunkAnswer first answer word headerOf kOf binIn chunksIn tooMany needRight settingRight layoutRight every startAt startRight chunkTableRight partAt sideTableRight joined countOf chunkOf chunkState spell headerRows openingRows tableRows faultDetail faultRow rowsFrom chunkRow chunkRows contentRows checkRows checkAnswer mostInput highestLevel digit decimalIn decimal minus signedDecimal newline point formatWord needsWord widthWord modeWord boundWord valuesWord chunksWord sidesWord chunkWord atWord bytesWord groupsWord refusedWord detailWord labelled formatLine settingLine countLine chunkLine streamLines refusedLine answerLines listing refusedText
+unfolding size signedView number digits bytesFor largest widthOf givenWidth groupLength groupNumber groupCodes within goodGroup knownLevel knownWidth fractionBits widthNeed modeNeed need isZero allowedSetting binFor groupSize limitOf groupsIn firstFault chunkAnswer first answer word headerOf kOf chunksIn tooMany needRight settingRight layoutRight every startAt startRight chunkTableRight partAt sideTableRight joined countOf chunkOf chunkState spell headerRows openingRows tableRows faultDetail faultRow rowsFrom chunkRow chunkRows contentRows checkRows checkAnswer mostInput highestLevel digit decimalIn decimal minus signedDecimal newline point formatWord needsWord widthWord modeWord boundWord valuesWord chunksWord sidesWord chunkWord atWord bytesWord groupsWord refusedWord detailWord labelled formatLine settingLine countLine chunkLine streamLines refusedLine answerLines listing refusedText
 refused-listed = refl

@@ -14,25 +14,26 @@ use Rattle.stream.specs.Group.{givenWidth, groupLength, groupCodes, good
 use Rattle.stream.specs.declared.chunk.ChunkAnswer.the-variants.{Good}
 use Rattle.stream.specs.Setting.{patternAt, patternsOf}
 use Rattle.stream.specs.Chunk.{chunkAnswer, chunkCodes}
+use Rattle.stream.specs.declared.setting.Setting.{Setting}
 use Rattle.stream.proofs.Law.Group.{codes-below, length-codes}
 use Rattle.stream.proofs.Law.Exact.{true-good}
 use Rattle.stream.proofs.Law.Chunk.{codes-none, codes-step, length-chunk-codes, never-good}
 use Rattle.stream.proofs.Law.Walking.{found, found-bad, found-good, part-is, within-bytes}
 
-pub length-patterns : (W mode bin : ℕ) (cs : List ℕ) → length (patternsOf W mode bin cs) ≡ length cs
+pub length-patterns : (t : Setting) (cs : List ℕ) → length (patternsOf t cs) ≡ length cs
 unfolding patternsOf
-length-patterns W mode bin cs = length-map cs (patternAt W mode bin)
+length-patterns t cs = length-map cs (patternAt t)
 
 -- an array whose first n elements are n codes is long enough
 pub long-enough : (n : ℕ) (xs ys : List ℕ) → take n xs ≡ ys → length ys ≡ n → n ≤ length xs
 long-enough n xs ys e l = let q : min n (length xs) ≡ n = sym (length-take n xs) ∙ ap length e ∙ l in omega arith
 
 -- the pattern at an index is that of the code there
-pub pattern-at : (W mode bin : ℕ) (cs : List ℕ) (i : ℕ) → i < length cs → getD (patternsOf W mode bin cs) i 0 ≡ patternAt W mode bin (getD cs i 0)
+pub pattern-at : (t : Setting) (cs : List ℕ) (i : ℕ) → i < length cs → getD (patternsOf t cs) i 0 ≡ patternAt t (getD cs i 0)
 unfolding patternsOf
-pattern-at W mode bin [] i h = absurd (not-suc-le-zero h)
-pattern-at W mode bin (c ∷ cs) zero h = refl
-pattern-at W mode bin (c ∷ cs) (suc i) h = pattern-at W mode bin cs i (le-of-suc-le-suc h)
+pattern-at t [] i h = absurd (not-suc-le-zero h)
+pattern-at t (c ∷ cs) zero h = refl
+pattern-at t (c ∷ cs) (suc i) h = pattern-at t cs i (le-of-suc-le-suc h)
 
 module _ (size : ℕ) (some : 0 < size) (W U : ℕ) (s : List ℕ) where
   -- where a walk that ends well stands: `left` values in the bytes from `at` on
@@ -83,36 +84,36 @@ module _ (size : ℕ) (some : 0 < size) (W U : ℕ) (s : List ℕ) where
         (ap₂ (chunkCodes size) (let q : left - size ≡ left - count = omega arith in q)
         (ap (λ (n : ℕ). drop (groupLength n (drop at s)) (drop at s)) (sym is) ∙ ap (λ (n : ℕ). drop n (drop at s)) (sym l) ∙ drop-drop k at s))
 
-    pub next-patterns : (mode bin k : ℕ) → k ≡ groupLength count (drop at s)
-        → patternsOf W mode bin (chunkCodes size left (drop at s))
-        ≡ patternsOf W mode bin (groupCodes count (drop at s)) ++ patternsOf W mode bin (chunkCodes size (left - count) (drop (at + k) s))
+    pub next-patterns : (t : Setting) (k : ℕ) → k ≡ groupLength count (drop at s)
+        → patternsOf t (chunkCodes size left (drop at s))
+        ≡ patternsOf t (groupCodes count (drop at s)) ++ patternsOf t (chunkCodes size (left - count) (drop (at + k) s))
     unfolding patternsOf
-    next-patterns mode bin k l = ap (map (patternAt W mode bin)) (next-codes k l) ∙ map-append (patternAt W mode bin) (groupCodes count (drop at s)) (chunkCodes size (left - count) (drop (at + k) s))
+    next-patterns t k l = ap (map (patternAt t)) (next-codes k l) ∙ map-append (patternAt t) (groupCodes count (drop at s)) (chunkCodes size (left - count) (drop (at + k) s))
 
   -- an index behind the next group, and one within it
-  module _ (left at count : ℕ) (o : Onward left at) (h : 0 < left) (is : count ≡ min size left) (mode bin k : ℕ) (l : k ≡ groupLength count (drop at s)) where
-    length-next : length (patternsOf W mode bin (groupCodes count (drop at s))) ≡ count
-    length-next = length-patterns W mode bin (groupCodes count (drop at s)) ∙ length-codes count (drop at s)
+  module _ (left at count : ℕ) (o : Onward left at) (h : 0 < left) (is : count ≡ min size left) (t : Setting) (k : ℕ) (l : k ≡ groupLength count (drop at s)) where
+    length-next : length (patternsOf t (groupCodes count (drop at s))) ≡ count
+    length-next = length-patterns t (groupCodes count (drop at s)) ∙ length-codes count (drop at s)
 
     pub behind-next : (i : ℕ) → count ≤ i
-        → getD (patternsOf W mode bin (chunkCodes size left (drop at s))) i 0 ≡ getD (patternsOf W mode bin (chunkCodes size (left - count) (drop (at + k) s))) (i - count) 0
+        → getD (patternsOf t (chunkCodes size left (drop at s))) i 0 ≡ getD (patternsOf t (chunkCodes size (left - count) (drop (at + k) s))) (i - count) 0
     behind-next i b =
-        let first = patternsOf W mode bin (groupCodes count (drop at s)) in
-        let more = patternsOf W mode bin (chunkCodes size (left - count) (drop (at + k) s)) in
-        ap₂ (λ (ps : List ℕ) (n : ℕ). getD ps n 0) (next-patterns left at count o h is mode bin k l) (let q : i ≡ length first + (i - count) = omega (arith, length-next) in q)
+        let first = patternsOf t (groupCodes count (drop at s)) in
+        let more = patternsOf t (chunkCodes size (left - count) (drop (at + k) s)) in
+        ap₂ (λ (ps : List ℕ) (n : ℕ). getD ps n 0) (next-patterns left at count o h is t k l) (let q : i ≡ length first + (i - count) = omega (arith, length-next) in q)
         ∙ getD-append-add first more (i - count) 0
 
     pub within-next : (i : ℕ) → i < count
-        → getD (patternsOf W mode bin (chunkCodes size left (drop at s))) i 0 ≡ patternAt W mode bin (getD (groupCodes count (drop at s)) i 0)
+        → getD (patternsOf t (chunkCodes size left (drop at s))) i 0 ≡ patternAt t (getD (groupCodes count (drop at s)) i 0)
     within-next i b =
-        let first = patternsOf W mode bin (groupCodes count (drop at s)) in
-        ap (λ (ps : List ℕ). getD ps i 0) (next-patterns left at count o h is mode bin k l)
-        ∙ List·getD-append first (patternsOf W mode bin (chunkCodes size (left - count) (drop (at + k) s))) 0 i (rw length-next b)
-        ∙ pattern-at W mode bin (groupCodes count (drop at s)) i (rw (length-codes count (drop at s)) b)
+        let first = patternsOf t (groupCodes count (drop at s)) in
+        ap (λ (ps : List ℕ). getD ps i 0) (next-patterns left at count o h is t k l)
+        ∙ List·getD-append first (patternsOf t (chunkCodes size (left - count) (drop (at + k) s))) 0 i (rw length-next b)
+        ∙ pattern-at t (groupCodes count (drop at s)) i (rw (length-codes count (drop at s)) b)
 
-  pub none-restored : (mode bin at : ℕ) → patternsOf W mode bin (chunkCodes size 0 (drop at s)) ≡ []
+  pub none-restored : (t : Setting) (at : ℕ) → patternsOf t (chunkCodes size 0 (drop at s)) ≡ []
   unfolding patternsOf
-  none-restored mode bin at = ap (map (patternAt W mode bin)) (codes-none size some (drop at s))
+  none-restored t at = ap (map (patternAt t)) (codes-none size some (drop at s))
 
-  pub length-restored : (mode bin n : ℕ) (t : List ℕ) → length (patternsOf W mode bin (chunkCodes size n t)) ≡ n
-  length-restored mode bin n t = length-patterns W mode bin (chunkCodes size n t) ∙ length-chunk-codes size some n t
+pub length-restored : (size : ℕ) (some : 0 < size) (t : Setting) (n : ℕ) (s : List ℕ) → length (patternsOf t (chunkCodes size n s)) ≡ n
+length-restored size some t n s = length-patterns t (chunkCodes size n s) ∙ length-chunk-codes size some n s

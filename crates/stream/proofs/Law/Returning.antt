@@ -1,5 +1,5 @@
 -- The values that come back: in mode 0 the list itself, in mode 1 each value within the tolerance. And that a stream is made of bytes.
-use mathlib.Core.Path.{_≡_, refl, ap₂, _∙_}
+use mathlib.Core.Path.{_≡_, refl, sym, ap₂, subst, _∙_}
 use mathlib.Core.Bool.{true}
 use mathlib.Core.List.{List, [], _∷_, map}
 use Prim.Native.Nat.{ℕ, zero, suc, _-_, _*_, _^_, _≤_, _<_}
@@ -9,12 +9,15 @@ use borrow.Author.Tests.{eq-eqb}
 use lib.IntN.{ℤ}
 use lib.ListN.{length, take, drop, getD, length-map}
 use Rattle.numbers.specs.Tolerance.{allowedK, binOf, ordinal, toleranceCode, toleranceRestored}
+use Rattle.numbers.specs.Bound.{exponentOf}
 use Rattle.numbers.specs.Theorem.{Format, Within}
-use Rattle.numbers.proofs.Theorems.{every-pattern-is-restored, an-allowed-k-has-a-bin, every-pattern-returns-within, specials-return}
+use Rattle.numbers.proofs.Theorems.{the-k-of-a-bin-is-allowed, the-bin-of-its-k, every-pattern-is-restored, every-pattern-returns-within, specials-return}
 use Rattle.stream.specs.Bytes.{Below}
 use Rattle.stream.specs.Group.{widthOf, packed, groupBytes}
-use Rattle.stream.specs.Setting.{knownWidth, fractionBits, allowedSetting, binFor, clipped, codeAt, patternAt, codesOf, patternsOf}
+use Rattle.stream.specs.Setting.{fractionBits, clipped, codeAt, patternAt, codesOf, patternsOf}
+use Rattle.stream.specs.Relied.{Allowed}
 use Rattle.stream.specs.Chunk.{groupsBytes, chunkBytes, groupsIn}
+use Rattle.stream.specs.declared.setting.Setting.{Setting}
 use Rattle.stream.proofs.Law.Bytes.{below-cons, below-append, below-take, below-drop, byte}
 use Rattle.stream.proofs.Law.Group.{width-least, packed-below}
 use Rattle.stream.proofs.Law.Widths.{width-bytes}
@@ -30,39 +33,45 @@ map-at f [] i h = absurd (omega arith)
 map-at f (x ∷ xs) zero h = refl
 map-at f (x ∷ xs) (suc i) h = map-at f xs i (omega arith)
 
-module _ (W : ℕ) (known : knownWidth W ≡ true) (k : ℤ) (vs : List ℕ) (below : Below (2 ^ W) vs) where
-  format : Format W (fractionBits W)
-  format = width-bytes W known .format
+module _ (t : Setting) (allowed : Allowed t) (vs : List ℕ) (below : Below (2 ^ t .width) vs) where
+  abbrev W : ℕ
+  W = t .width
 
-  pub lossless-back : (mode bin : ℕ) → mode ≡ 0 → patternsOf W mode bin (codesOf W mode bin vs) ≡ vs
+  abbrev m : ℕ
+  m = fractionBits (t .width)
+
+  format : Format W m
+  format = width-bytes W (allowed .known) .format
+
+  pub lossless-back : t .mode ≡ 0 → patternsOf t (codesOf t vs) ≡ vs
   unfolding patternsOf codesOf codeAt patternAt
-  lossless-back mode bin e =
-      map-back (codeAt W mode bin) (patternAt W mode bin) (2 ^ W) (λ p h. rw (eq-eqb mode 0 e) (every-pattern-is-restored W (fractionBits W) format p h)) vs below
+  lossless-back e =
+      map-back (codeAt t) (patternAt t) (2 ^ W) (λ p h. rw (eq-eqb (t .mode) 0 e) (every-pattern-is-restored W m format p h)) vs below
 
-  module _ (mode : ℕ) (lossy : mode ≡ 1) (allowed : allowedSetting W mode k ≡ true) where
-    allowed-k : allowedK W (fractionBits W) k ≡ true
-    unfolding allowedSetting
-    allowed-k = rw lossy at allowed
+  module _ (lossy : t .mode ≡ 1) where
+    -- the bin is that of a k, which is allowed
+    abbrev k : ℤ
+    k = exponentOf W m (t .bin)
 
-    bin-is : clipped W (binFor W mode k) ≡ binOf W (fractionBits W) k
-    unfolding clipped binFor
-    bin-is = rw lossy (min-eq-left (an-allowed-k-has-a-bin W (fractionBits W) format k allowed-k))
+    allowed-k : allowedK W m k ≡ true
+    allowed-k = the-k-of-a-bin-is-allowed W m format (t .bin) (allowed .bin)
+
+    bin-is : clipped t ≡ binOf W m k
+    unfolding clipped
+    bin-is = min-eq-left (allowed .bin) ∙ sym (the-bin-of-its-k W m format (t .bin))
 
     module _ (i : ℕ) (h : i < length vs) where
-      restored-at : getD (patternsOf W mode (binFor W mode k) (codesOf W mode (binFor W mode k) vs)) i 0
-          ≡ toleranceRestored W (fractionBits W) (binOf W (fractionBits W) k) (toleranceCode W (fractionBits W) (binOf W (fractionBits W) k) (getD vs i 0))
+      restored-at : getD (patternsOf t (codesOf t vs)) i 0 ≡ toleranceRestored W m (binOf W m k) (toleranceCode W m (binOf W m k) (getD vs i 0))
       unfolding patternsOf codesOf codeAt patternAt
-      restored-at =
-          let code = codeAt W mode (binFor W mode k) in
-          rw (map-at (patternAt W mode (binFor W mode k)) (map code vs) i (rw (length-map vs code) h), map-at code vs i h) (rw (bin-is, lossy))
+      restored-at = rw (map-at (patternAt t) (map (codeAt t) vs) i (rw (length-map vs (codeAt t)) h), map-at (codeAt t) vs i h) (rw (bin-is, lossy))
 
-      pub tolerance-back :
-          Within W (fractionBits W) (binOf W (fractionBits W) k) (getD vs i 0) (getD (patternsOf W mode (binFor W mode k) (codesOf W mode (binFor W mode k) vs)) i 0)
-      tolerance-back = rw restored-at (every-pattern-returns-within W (fractionBits W) format k allowed-k (getD vs i 0) (below i))
+      pub tolerance-back : Within W m (t .bin) (getD vs i 0) (getD (patternsOf t (codesOf t vs)) i 0)
+      tolerance-back =
+          subst (λ (j : ℕ). Within W m j (getD vs i 0) (getD (patternsOf t (codesOf t vs)) i 0)) (the-bin-of-its-k W m format (t .bin))
+          (rw restored-at (every-pattern-returns-within W m format k allowed-k (getD vs i 0) (below i)))
 
-      pub special-back : (2 ^ (W - 1 - fractionBits W) - 1) * 2 ^ fractionBits W ≤ ordinal W (getD vs i 0)
-          → getD (patternsOf W mode (binFor W mode k) (codesOf W mode (binFor W mode k) vs)) i 0 ≡ getD vs i 0
-      special-back l = restored-at ∙ specials-return W (fractionBits W) format k allowed-k (getD vs i 0) (below i) l
+      pub special-back : (2 ^ (W - 1 - m) - 1) * 2 ^ m ≤ ordinal W (getD vs i 0) → getD (patternsOf t (codesOf t vs)) i 0 ≡ getD vs i 0
+      special-back l = restored-at ∙ specials-return W m format k allowed-k (getD vs i 0) (below i) l
 
 -- ---- bytes
 

@@ -10,9 +10,9 @@ use lib.Dec.{ltb, lit<}
 use lib.IntN.{ℤ}
 use lib.ListN.{length, drop}
 use Rattle.stream.specs.Bytes.{Below}
-use Rattle.stream.specs.Setting.{knownWidth, groupSize, limitOf}
+use Rattle.stream.specs.Setting.{knownWidth, settingOf, groupSize, limitOf}
 use Rattle.stream.specs.Chunk.{chunkCodes}
-use Rattle.stream.specs.Header.{headerOf, binIn, chunksIn}
+use Rattle.stream.specs.Header.{headerOf, settingIn, chunksIn}
 use Rattle.stream.specs.Tables.{startAt}
 use Rattle.stream.specs.Stream.{countOf, chunkOf, chunkState, chunkValues, valueIn, valueAt}
 use Rattle.stream.specs.Rows.{Row, row, rowsFrom, first, answer}
@@ -28,7 +28,7 @@ use Rattle.stream.specs.declared.chunk.ChunkAnswer.the-variants.{Good, B
 use Rattle.stream.proofs.Law.Bytes.{below-take, below-drop}
 use Rattle.stream.proofs.Law.Order.{opened, opened-both, shut}
 use Rattle.stream.proofs.Law.Places.{word-small}
-use Rattle.stream.proofs.Law.Settings.{settled}
+use Rattle.stream.proofs.Law.Settings.{settled, size-some}
 use Rattle.stream.proofs.Law.Layout.{laid-out}
 use Rattle.stream.proofs.Law.Accepted.{opening, probing}
 use Rattle.stream.proofs.Law.Chunk.{good-is-exact}
@@ -174,7 +174,7 @@ module _ (level : ℕ) (s : List ℕ) (bytes : Below 256 s) where
   -- ---- a value that probe shows has W bits: it is restored from a code that its chunk's width allows
   module _ (W i : ℕ) (pass : first (probeRows W level s i) ≡ Pass) where
     pub value-small : valueAt s i < 2 ^ W
-    unfolding valueAt valueIn chunkValues chunkState chunkOf groupSize
+    unfolding valueAt valueIn chunkValues chunkState chunkOf
     value-small =
         let p = probing W level s i pass in
         let g = headerOf s in
@@ -182,9 +182,10 @@ module _ (level : ℕ) (s : List ℕ) (bytes : Below 256 s) where
         let part = chunkOf g s j in
         let part-bytes =
         below-take 256 (startAt g s (j + 1) - startAt g s j) (drop (g .start + startAt g s j) s) (below-drop 256 (g .start + startAt g s j) s bytes) in
-        let codes = good-is-exact 32 (lit< tt) (g .width) (limitOf (g .width) (g .mode) (binIn g)) (countOf g j) part part-bytes (p .chunk) .below in
+        let set = settingIn g in
+        let codes = good-is-exact (groupSize set) (size-some set) (g .width) (limitOf set) (countOf g j) part part-bytes (p .chunk) .below in
         let known = settled g (p .opening .setting) .known in
-        rw (← (p .width)) (patterns-under (g .width) (width-bytes (g .width) known .format) (g .mode) (binIn g) (chunkCodes 32 (countOf g j) part) codes (i % 1024))
+        rw (← (p .width)) (patterns-under set (width-bytes (g .width) known .format) (chunkCodes (groupSize set) (countOf g j) part) codes (i % 1024))
 
 -- ---- writing
 
@@ -194,19 +195,19 @@ module _ (W level mode : ℕ) (k : ℤ) (vs : List ℕ) (known : knownWidth W �
   length-small = plain 1 _ _ (lit< tt, lit< tt) (plain 2 _ _ (lit< tt, lit< tt) (plain 3 _ _ (lit< tt, lit< tt) no-rows))
 
   -- behind 3 the values are few, and so are the bytes
-  stream-small : first (lengthRows W level mode k (length vs)) ≡ Pass → length (stream W level mode k vs) < 2 ^ 32
+  stream-small : first (lengthRows W level mode k (length vs)) ≡ Pass → length (stream level (settingOf W mode k) vs) < 2 ^ 32
   stream-small pass =
-      rw (length-stream W level mode k vs)
-      (omega (arith, end-small W mode k vs known below (length-passed W level mode k (length vs) pass .few) (chunksIn (length vs)) (omega arith)))
+      rw (length-stream level (settingOf W mode k) vs)
+      (omega (arith, end-small (settingOf W mode k) vs known below (length-passed W level mode k (length vs) pass .few) (chunksIn (length vs)) (omega arith)))
 
   pub length-answer-small : SmallAnswer (2 ^ 32) (lengthAnswer W level mode k vs)
   unfolding lengthAnswer
-  length-answer-small = answer-small (lengthRows W level mode k (length vs)) (length (stream W level mode k vs)) length-small stream-small
+  length-answer-small = answer-small (lengthRows W level mode k (length vs)) (length (stream level (settingOf W mode k) vs)) length-small stream-small
 
   -- 4, which has that length, stands behind 3
   module _ (room : ℕ) where
     abbrev short : List Row
-    short = row 4 (ltb room (length (stream W level mode k vs))) (length (stream W level mode k vs)) ∷ []
+    short = row 4 (ltb room (length (stream level (settingOf W mode k) vs))) (length (stream level (settingOf W mode k) vs)) ∷ []
 
     pack-small : Small (2 ^ 32) (lengthRows W level mode k (length vs) ++ short)
     pack-small =
@@ -216,5 +217,5 @@ module _ (W level mode : ℕ) (k : ℤ) (vs : List ℕ) (known : knownWidth W �
     pub pack-answer-small : SmallAnswer (2 ^ 32) (packAnswer W level mode k vs room)
     unfolding packAnswer packRows
     pack-answer-small =
-        answer-small (packRows W level mode k vs room) (length (stream W level mode k vs)) pack-small
+        answer-small (packRows W level mode k vs room) (length (stream level (settingOf W mode k) vs)) pack-small
         (λ pass. stream-small (opened-both (lengthRows W level mode k (length vs)) short pass .0))

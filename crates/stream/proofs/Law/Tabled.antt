@@ -7,8 +7,7 @@ use Prim.Native.Nat.{ℕ, zero, suc, _+_, _-_, _*_, _/_, _^_, _≤_, _<_, min, z
 use native.Mathlib.Nat.{two-pow-succ}
 use native.Mathlib.Omega.{arith}
 use borrow.Author.Tests.{lt-ltb, le-ltb, eq-eqb}
-use lib.Dec.{eqb, lit<}
-use lib.IntN.{ℤ}
+use lib.Dec.{eqb}
 use lib.ListN.{length, take, drop, length-append}
 use lib.Seq.{drop-at, drop-drop, getD-append-add}
 use Rattle.numbers.specs.Lossless.{losslessCode}
@@ -17,23 +16,24 @@ use Rattle.numbers.specs.Theorem.{Format}
 use Rattle.numbers.proofs.Theorems.{lossless-code-has-W-bits, no-u-is-larger}
 use Rattle.stream.specs.Bytes.{Below}
 use Rattle.stream.specs.Group.{groupBytes}
-use Rattle.stream.specs.Setting.{knownWidth, fractionBits, binFor, groupSize, clipped, codeAt, patternAt, codesOf, patternsOf, limitOf}
+use Rattle.stream.specs.Setting.{knownWidth, fractionBits, groupSize, clipped, codeAt, patternAt, codesOf, patternsOf, limitOf}
 use Rattle.stream.specs.Chunk.{chunkBytes}
-use Rattle.stream.specs.Header.{word, kOf, binIn, chunksIn}
+use Rattle.stream.specs.Header.{word, kOf, settingIn, chunksIn}
 use Rattle.stream.specs.Tables.{every, startAt, startRight, chunkTableRight}
 use Rattle.stream.specs.Stream.{joined, countOf, chunkOf, chunkState, chunkValues, valuesIn}
 use Rattle.stream.specs.Writing.{spell, piece, pieceBytes, dataOf, startsOf, headerNumbers, endOf}
-use Rattle.stream.specs.Packing.{Packable}
 use Rattle.stream.specs.Theorem.{Limited}
 use Rattle.stream.specs.declared.chunk.ChunkAnswer.the-variants.{Good}
 use Rattle.stream.specs.declared.header.Header.{Header}
+use Rattle.stream.specs.declared.setting.Setting.{Setting}
 use Rattle.stream.proofs.Law.Truth.{le-or-lt}
 use Rattle.stream.proofs.Law.Group.{length-group}
 use Rattle.stream.proofs.Law.Chunk.{chunk-step, written-is-good, written-is-read}
 use Rattle.stream.proofs.Law.Coding.{bin-in, codes-under}
 use Rattle.stream.proofs.Law.Stepping.{length-codes-of}
+use Rattle.stream.proofs.Law.Settings.{Storable, size-some}
 use Rattle.stream.proofs.Law.Widths.{width-bytes}
-use Rattle.stream.proofs.Law.Exponents.{exponent-back}
+use Rattle.stream.proofs.Law.Exponents.{setting-back}
 use Rattle.stream.proofs.Law.Joining.{joined-part, joined-map, joined-same, singles-at}
 use Rattle.stream.proofs.Law.Spelling.{length-spell}
 use Rattle.stream.proofs.Law.Pieces.{length-piece, piece-below, pieces-whole, data-next, end-is}
@@ -52,7 +52,10 @@ map-limited f a U h [] below i = zero-le
 map-limited f a U h (x ∷ xs) below zero = h x (below 0)
 map-limited f a U h (x ∷ xs) below (suc i) = map-limited f a U h xs (λ k. below (suc k)) i
 
-module _ (W mode bin : ℕ) (known : knownWidth W ≡ true) where
+module _ (t : Setting) (known : knownWidth (t .width) ≡ true) where
+  abbrev W : ℕ
+  W = t .width
+
   format : Format W (fractionBits W)
   format = width-bytes W known .format
 
@@ -61,58 +64,58 @@ module _ (W mode bin : ℕ) (known : knownWidth W ≡ true) where
       let twice : 2 ^ W ≡ 2 ^ (W - 1) + 2 ^ (W - 1) = ap (λ (n : ℕ). 2 ^ n) (let e : W ≡ suc (W - 1) = omega (arith, format .room) in e) ∙ two-pow-succ (W - 1) in
       omega (arith, lossless-code-has-W-bits W (fractionBits W) format p h, twice)
 
-  tolerance-limited : (p : ℕ) → p < 2 ^ W → toleranceCode W (fractionBits W) (clipped W bin) p / 2 ≤ largestU W (fractionBits W) (clipped W bin)
-  tolerance-limited = no-u-is-larger W (fractionBits W) format (clipped W bin) (bin-in W format mode bin)
+  tolerance-limited : (p : ℕ) → p < 2 ^ W → toleranceCode W (fractionBits W) (clipped t) p / 2 ≤ largestU W (fractionBits W) (clipped t)
+  tolerance-limited = no-u-is-larger W (fractionBits W) format (clipped t) (bin-in t format)
 
-  code-limited : (p : ℕ) → p < 2 ^ W → codeAt W mode bin p / 2 ≤ limitOf W mode bin
+  code-limited : (p : ℕ) → p < 2 ^ W → codeAt t p / 2 ≤ limitOf t
   unfolding codeAt limitOf
-  code-limited p h = go (eqb mode 0)
+  code-limited p h = go (eqb (t .mode) 0)
     where
-      go : (b : Bool) → cond b (losslessCode W (fractionBits W) p) (toleranceCode W (fractionBits W) (clipped W bin) p) / 2
-          ≤ cond b (2 ^ (W - 1) - 1) (largestU W (fractionBits W) (clipped W bin))
+      go : (b : Bool) → cond b (losslessCode W (fractionBits W) p) (toleranceCode W (fractionBits W) (clipped t) p) / 2
+          ≤ cond b (2 ^ (W - 1) - 1) (largestU W (fractionBits W) (clipped t))
       go true = lossless-limited p h
       go false = tolerance-limited p h
 
-  codes-limited : (vs : List ℕ) → Below (2 ^ W) vs → Limited (limitOf W mode bin) (codesOf W mode bin vs)
+  codes-limited : (vs : List ℕ) → Below (2 ^ W) vs → Limited (limitOf t) (codesOf t vs)
   unfolding codesOf
-  codes-limited = map-limited (codeAt W mode bin) (2 ^ W) (limitOf W mode bin) code-limited
+  codes-limited = map-limited (codeAt t) (2 ^ W) (limitOf t) code-limited
 
 -- ---- the table and the chunks
 
 -- a chunk has a byte at least
-piece-some : (W mode : ℕ) (k : ℤ) (vs : List ℕ) (j : ℕ) → j < chunksIn (length vs) → 0 < length (pieceBytes W mode k vs j)
-unfolding pieceBytes groupSize chunksIn
-piece-some W mode k vs j h =
-    let cs = codesOf W mode (binFor W mode k) (piece vs j) in
-    let long : length cs ≡ min 1024 (length vs - 1024 * j) = length-codes-of W mode (binFor W mode k) (piece vs j) ∙ length-piece vs j in
-    rw (chunk-step 32 (lit< tt) cs (omega arith), length-append (groupBytes (take 32 cs)) (chunkBytes 32 (drop 32 cs)), length-group (take 32 cs)) (omega arith)
+piece-some : (t : Setting) (vs : List ℕ) (j : ℕ) → j < chunksIn (length vs) → 0 < length (pieceBytes t vs j)
+unfolding pieceBytes chunksIn
+piece-some t vs j h =
+    let cs = codesOf t (piece vs j) in
+    let long : length cs ≡ min 1024 (length vs - 1024 * j) = length-codes-of t (piece vs j) ∙ length-piece vs j in
+    rw (chunk-step (groupSize t) (size-some t) cs (omega arith), length-append (groupBytes (take (groupSize t) cs)) (chunkBytes (groupSize t) (drop (groupSize t) cs)), length-group (take (groupSize t) cs)) (omega arith)
 
-module _ (W level mode : ℕ) (k : ℤ) (vs : List ℕ) (p : Packable W level mode k vs) (sides : ℕ) (few : sides ≤ 64) (t : List ℕ) where
+module _ (level : ℕ) (t : Setting) (vs : List ℕ) (p : Storable level t vs) (sides : ℕ) (few : sides ≤ 64) (rest : List ℕ) where
   abbrev chunks : ℕ
   chunks = chunksIn (length vs)
 
   abbrev header : Header
-  header = headerFor W level mode k vs sides
+  header = headerFor level t vs sides
 
   abbrev bytes : List ℕ
-  bytes = spell (frontNumbers W level mode k vs sides) ++ (dataOf W mode k vs chunks ++ t)
+  bytes = spell (frontNumbers level t vs sides) ++ (dataOf t vs chunks ++ rest)
 
-  start-is : (j : ℕ) → j ≤ chunks → startAt header bytes j ≡ length (dataOf W mode k vs j)
+  start-is : (j : ℕ) → j ≤ chunks → startAt header bytes j ≡ length (dataOf t vs j)
   unfolding startAt headerNumbers startsOf
   start-is j h = go (le-or-lt chunks j)
     where
-      go : (chunks ≤ j) ⊎ (j < chunks) → startAt header bytes j ≡ length (dataOf W mode k vs j)
+      go : (chunks ≤ j) ⊎ (j < chunks) → startAt header bytes j ≡ length (dataOf t vs j)
       go (inl l) =
           let last : j ≡ chunks = omega arith in
-          rw (le-ltb j chunks l, last) (omega (arith, end-is W mode k vs chunks))
+          rw (le-ltb j chunks l, last) (omega (arith, end-is t vs chunks))
       go (inr l) =
           rw (lt-ltb j chunks l)
           (ap (word bytes) (let e : 48 + 4 * j ≡ 4 * (12 + j) = omega arith in e)
-          ∙ front-word W level mode k vs p sides few (dataOf W mode k vs chunks ++ t) (12 + j) (omega arith)
-          ∙ getD-append-add (headerNumbers W level mode k (length vs) sides (endOf W mode k vs chunks)) (startsOf W mode k vs chunks) j 0
-          ∙ singles-at (λ i. length (dataOf W mode k vs i)) chunks j l)
+          ∙ front-word level t vs p sides few (dataOf t vs chunks ++ rest) (12 + j) (omega arith)
+          ∙ getD-append-add (headerNumbers level t (length vs) sides (endOf t vs chunks)) (startsOf t vs chunks) j 0
+          ∙ singles-at (λ i. length (dataOf t vs i)) chunks j l)
 
-  data-none : length (dataOf W mode k vs 0) ≡ 0
+  data-none : length (dataOf t vs 0) ≡ 0
   unfolding dataOf joined
   data-none = refl
 
@@ -122,50 +125,47 @@ module _ (W level mode : ℕ) (k : ℤ) (vs : List ℕ) (p : Packable W level mo
       rw (eq-eqb (startAt header bytes 0) 0 (start-is 0 zero-le ∙ data-none))
       (every-all (startRight header bytes) chunks 0
       λ j l h.
-      let some = piece-some W mode k vs j (omega arith) in
+      let some = piece-some t vs j (omega arith) in
       lt-ltb (startAt header bytes j) (startAt header bytes (j + 1))
-      (omega (arith, start-is j (omega arith), start-is (j + 1) (omega arith), data-next W mode k vs j)))
+      (omega (arith, start-is j (omega arith), start-is (j + 1) (omega arith), data-next t vs j)))
 
-  chunk-is : (j : ℕ) → j < chunks → chunkOf header bytes j ≡ pieceBytes W mode k vs j
+  chunk-is : (j : ℕ) → j < chunks → chunkOf header bytes j ≡ pieceBytes t vs j
   unfolding chunkOf dataOf
   chunk-is j h =
-      let long : length (spell (frontNumbers W level mode k vs sides)) ≡ 48 + 4 * chunks =
-      length-spell (frontNumbers W level mode k vs sides) ∙ ap (λ (n : ℕ). 4 * n) (length-numbers W level mode k vs sides)
+      let long : length (spell (frontNumbers level t vs sides)) ≡ 48 + 4 * chunks =
+      length-spell (frontNumbers level t vs sides) ∙ ap (λ (n : ℕ). 4 * n) (length-numbers level t vs sides)
       ∙ (let e : 4 * (12 + chunks) ≡ 48 + 4 * chunks = omega arith in e) in
       rw (start-is j (omega arith), start-is (j + 1) (omega arith))
-      (ap (take (length (dataOf W mode k vs (j + 1)) - length (dataOf W mode k vs j)))
-      (sym (drop-drop (length (dataOf W mode k vs j)) (48 + 4 * chunks) bytes)
-      ∙ ap (drop (length (dataOf W mode k vs j))) (drop-at (spell (frontNumbers W level mode k vs sides)) (dataOf W mode k vs chunks ++ t) (48 + 4 * chunks) long))
-      ∙ joined-part (pieceBytes W mode k vs) j chunks t h)
+      (ap (take (length (dataOf t vs (j + 1)) - length (dataOf t vs j)))
+      (sym (drop-drop (length (dataOf t vs j)) (48 + 4 * chunks) bytes)
+      ∙ ap (drop (length (dataOf t vs j))) (drop-at (spell (frontNumbers level t vs sides)) (dataOf t vs chunks ++ rest) (48 + 4 * chunks) long))
+      ∙ joined-part (pieceBytes t vs) j chunks rest h)
 
-  bin-is : binIn header ≡ binFor W mode k
-  unfolding binIn kOf
-  bin-is = ap (binFor W mode) (exponent-back W mode k (p .width) (p .allowed))
+  setting-is : settingIn header ≡ t
+  unfolding kOf
+  setting-is = setting-back t (p .setting)
 
-  count-is : (j : ℕ) → countOf header j ≡ length (codesOf W mode (binFor W mode k) (piece vs j))
+  count-is : (j : ℕ) → countOf header j ≡ length (codesOf t (piece vs j))
   unfolding countOf
-  count-is j = sym (length-codes-of W mode (binFor W mode k) (piece vs j) ∙ length-piece vs j)
+  count-is j = sym (length-codes-of t (piece vs j) ∙ length-piece vs j)
 
   pub chunk-good : (j : ℕ) → j < chunks → chunkState header bytes j ≡ Good
-  unfolding chunkState pieceBytes groupSize
+  unfolding chunkState pieceBytes
   chunk-good j h =
-      let bin = binFor W mode k in
-      let below = piece-below (2 ^ W) vs j (p .patterns) in
-      rw (bin-is, count-is j, chunk-is j h)
-      (written-is-good 32 (lit< tt) W (limitOf W mode bin) (codesOf W mode bin (piece vs j))
-      (codes-under W (width-bytes W (p .width) .format) mode bin (piece vs j) below) (codes-limited W mode bin (p .width) (piece vs j) below))
+      let below = piece-below (2 ^ t .width) vs j (p .patterns) in
+      rw (setting-is, count-is j, chunk-is j h)
+      (written-is-good (groupSize t) (size-some t) (t .width) (limitOf t) (codesOf t (piece vs j))
+      (codes-under t (width-bytes (t .width) (p .setting .known) .format) (piece vs j) below) (codes-limited t (p .setting .known) (piece vs j) below))
 
-  chunk-back : (j : ℕ) → j < chunks → chunkValues header bytes j ≡ patternsOf W mode (binFor W mode k) (codesOf W mode (binFor W mode k) (piece vs j))
-  unfolding chunkValues pieceBytes groupSize
-  chunk-back j h =
-      rw (bin-is, count-is j, chunk-is j h)
-      (ap (patternsOf W mode (binFor W mode k)) (written-is-read 32 (lit< tt) (codesOf W mode (binFor W mode k) (piece vs j))))
+  chunk-back : (j : ℕ) → j < chunks → chunkValues header bytes j ≡ patternsOf t (codesOf t (piece vs j))
+  unfolding chunkValues pieceBytes
+  chunk-back j h = rw (setting-is, count-is j, chunk-is j h) (ap (patternsOf t) (written-is-read (groupSize t) (size-some t) (codesOf t (piece vs j))))
 
-  pub values-back : valuesIn header bytes ≡ patternsOf W mode (binFor W mode k) (codesOf W mode (binFor W mode k) vs)
+  pub values-back : valuesIn header bytes ≡ patternsOf t (codesOf t vs)
   unfolding valuesIn patternsOf codesOf
   values-back =
-      let code = codeAt W mode (binFor W mode k) in
-      let pattern = patternAt W mode (binFor W mode k) in
+      let code = codeAt t in
+      let pattern = patternAt t in
       joined-same (chunkValues header bytes) (λ j. map pattern (map code (piece vs j))) chunks chunk-back
       ∙ joined-map (λ j. map code (piece vs j)) pattern chunks
       ∙ ap (map pattern) (joined-map (piece vs) code chunks ∙ ap (map code) (pieces-whole vs))

@@ -9,7 +9,7 @@ use borrow.Author.Tests.{eq-eqb, ne-eqb}
 use lib.ListN.{length, take, drop, length-drop}
 use lib.Seq.{take-all, drop-drop}
 use Rattle.stream.specs.Group.{groupLength, goodGroup}
-use Rattle.stream.specs.Answer.{groupAnswer}
+use Rattle.stream.specs.Group.{groupAnswer}
 use Rattle.stream.specs.declared.group.GroupAnswer.the-variants as group
 use Rattle.stream.specs.declared.chunk.ChunkAnswer.{ChunkAnswer}
 use Rattle.stream.specs.declared.chunk.ChunkAnswer.the-variants.{Good, Bad}

@@ -2,11 +2,13 @@
 use mathlib.Core.Path.{_≡_, refl, sym, subst}
 use mathlib.Core.Logic.{⊎-elim}
 use mathlib.Core.Bool.{Bool, true, false, cond}
-use Prim.Native.Nat.{ℕ, _*_, _≤_, max}
+use Prim.Native.Nat.{ℕ, _*_, _/_, _≤_, max}
+use native.Mathlib.Omega.{arith}
 use lib.Dec.{eqb, lit≤}
 use Rattle.numbers.specs.Theorem.{Format}
 use Rattle.numbers.proofs.Theorems.{format-32, format-64}
 use Rattle.stream.specs.Setting.{knownWidth, fractionBits, widthNeed, modeNeed, need}
+use Rattle.stream.specs.declared.setting.Setting.{Setting}
 use Rattle.stream.proofs.Law.Settings.{width-cases}
 
 pub record WidthBytes (W : ℕ) : Type 0 where
@@ -23,6 +25,9 @@ width-bytes W known =
     (λ e. subst WidthBytes (sym e) (record { bytes = 8; whole = refl; few = lit≤ tt; format = format-64 }))
     (width-cases W known)
 
+pub width-whole : (W : ℕ) → knownWidth W ≡ true → (8 * (W / 8) ≡ W) × (W / 8 ≤ 8)
+width-whole W known = let b = width-bytes W known in (omega (arith, b .whole), omega (arith, b .whole, b .few))
+
 pub known-32 : knownWidth 32 ≡ true
 unfolding knownWidth
 known-32 = refl
@@ -32,9 +37,9 @@ unfolding knownWidth
 known-64 = refl
 
 -- no setting needs more than the highest level
-pub need-small : (W mode : ℕ) → need W mode ≤ 10
+pub need-small : (t : Setting) → need t ≤ 10
 unfolding need widthNeed modeNeed
-need-small W mode = go (eqb W 64) (eqb mode 1)
+need-small t = go (eqb (t .width) 64) (eqb (t .mode) 1)
   where
     go : (a b : Bool) → max (cond a 10 8) (cond b 9 8) ≤ 10
     go true true = lit≤ tt

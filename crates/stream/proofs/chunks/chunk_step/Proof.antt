@@ -1,28 +1,30 @@
 -- `stream::chunks::chunk_step` meets its contract.
-use mathlib.Core.Path.{refl}
-use native.Mathlib.Omega.{arith}
 use Rattle.stream.proofs.Law.Contents.{found-is, good-row, bad-row}
+use Rattle.stream.specs.Stream.{chunkState}
+use Rattle.stream.specs.declared.chunk.ChunkAnswer.{ChunkAnswer}
 use borrow.Author.Needs.{needs}
+use mathlib.Core.Path.{_≡_}
+use native.Mathlib.Omega.{arith}
 use Rattle.stream.proofs.chunks.chunk_step.Statement.{statement}
 use Rattle.stream.proofs.chunks.chunk_step.Tie as tie
 
-bin-in-requires : tie.Need-bin-in-requires
-bin-in-requires c κs = (c .before .pre .0 .words, c .before .pre .0 .setting)
+-- what the check found is the chunk's state
+state-is : (c : tie.After-checked) (a : ChunkAnswer) → c .checked .result ≡ a → let s = c .before .before .before .before .before .args in chunkState (s .h) (s .bytes .now) (s .j) ≡ a
+state-is c a e =
+    let s = c .before .before .before .before .before .args in
+    found-is (s .h) (s .bytes .now) (s .j) (c .before .before .before .setting-in .result) (c .before .count-at .result) _ (c .before .before .before .setting-in .ensures .0) (c .before .count-at .ensures .0) (c .before .before .chunk-at .ensures) (c .checked .result) a (c .checked .ensures) e
 
-limit-of-requires : tie.Need-limit-of-requires
-limit-of-requires c κs = c .before .before .pre .0 .setting .known
+setting-in-requires : tie.Need-setting-in-requires
+setting-in-requires c κs = (c .before .pre .0 .words, c .before .pre .0 .setting)
 
 chunk-at-requires : tie.Need-chunk-at-requires
-chunk-at-requires c κs = (c .before .before .before .pre .0 .layout, c .before .before .before .pre .1, c .before .before .before .pre .2)
+chunk-at-requires c κs = let p = c .before .before .pre in (p .0 .layout, p .1, p .2)
 
 count-at-requires : tie.Need-count-at-requires
 count-at-requires c κs = omega arith
 
-cast-checked : tie.Need-cast-checked
-cast-checked c = omega arith
-
 checked-requires : tie.Need-checked-requires
-checked-requires c κs = (c .count-at .ensures .1, c .before .before .before .before .before .pre .0 .setting .narrow)
+checked-requires c κs = (c .before .before .setting-in .ensures .1, c .count-at .ensures .1)
 
 enum-told : tie.Need-enum-told
 enum-told c = search needs
@@ -31,20 +33,18 @@ enum-told-2 : tie.Need-enum-told-2
 enum-told-2 c = search needs
 
 returns : tie.Need-returns
-returns c = good-row (c .before .before .before .before .before .before .before .before .args .h) (c .before .before .before .before .before .before .before .before .args .bytes .now) (c .before .before .before .before .before .before .before .before .args .j) (found-is (c .before .before .before .before .before .before .before .before .args .h) (c .before .before .before .before .before .before .before .before .args .bytes .now) (c .before .before .before .before .before .before .before .before .args .j) (c .before .before .before .before .before .before .before .before .args .h .width) (c .before .before .before .before .before .before .bin-in .result) (c .before .before .before .count-at .result) _ refl (c .before .before .before .before .before .before .bin-in .ensures) (c .before .before .before .count-at .ensures .0) (c .before .before .before .before .chunk-at .ensures) (c .before .before .before .before .before .limit-of .result) (c .before .before .before .before .before .limit-of .ensures) (c .before .before .checked .result) _ (c .before .before .checked .ensures) (c .enum-told .given .1))
+returns c = let s = c .before .before .before .before .before .before .before .args in good-row (s .h) (s .bytes .now) (s .j) (state-is (c .before .before) _ (c .enum-told .given .1))
 
 returns-2 : tie.Need-returns-2
-returns-2 c = bad-row (c .before .before .before .before .before .before .before .before .args .h) (c .before .before .before .before .before .before .before .before .args .bytes .now) (c .before .before .before .before .before .before .before .before .args .j) _ (found-is (c .before .before .before .before .before .before .before .before .args .h) (c .before .before .before .before .before .before .before .before .args .bytes .now) (c .before .before .before .before .before .before .before .before .args .j) (c .before .before .before .before .before .before .before .before .args .h .width) (c .before .before .before .before .before .before .bin-in .result) (c .before .before .before .count-at .result) _ refl (c .before .before .before .before .before .before .bin-in .ensures) (c .before .before .before .count-at .ensures .0) (c .before .before .before .before .chunk-at .ensures) (c .before .before .before .before .before .limit-of .result) (c .before .before .before .before .before .limit-of .ensures) (c .before .before .checked .result) _ (c .before .before .checked .ensures) (c .enum-told2 .given .1))
+returns-2 c = let s = c .before .before .before .before .before .before .before .args in bad-row (s .h) (s .bytes .now) (s .j) _ (state-is (c .before .before) _ (c .enum-told2 .given .1))
 
 pub chunk-step-spec : {M : Type 1} → statement M
 chunk-step-spec =
     tie.close
     (tie.spec
-    bin-in-requires
-    limit-of-requires
+    setting-in-requires
     chunk-at-requires
     count-at-requires
-    cast-checked
     checked-requires
     enum-told
     enum-told-2

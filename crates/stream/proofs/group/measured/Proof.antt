@@ -13,8 +13,8 @@ use borrow.Author.Needs.{needs}
 use Rattle.stream.proofs.group.measured.Statement.{statement}
 use Rattle.stream.proofs.group.measured.Tie as tie
 
-first-requires : tie.Need-first-requires
-first-requires c κs = search needs
+counted-requires : tie.Need-counted-requires
+counted-requires c κs = search needs
 
 width-requires : tie.Need-width-requires
 width-requires c κs = search needs
@@ -38,9 +38,9 @@ returns c =
     let g = c .before .before .before .before .before .args .t1 in
     let cs = take (g .count) (g .codes) in
     one-add _
-    ∙ ap₂ (λ (w n : ℕ). suc ((w * n + 7) / 8)) (c .width .ensures .0 ∙ ap widthOf (c .before .first .ensures)) (sym (length-take-le (g .count) (g .codes) (search needs)))
+    ∙ ap₂ (λ (w n : ℕ). suc ((w * n + 7) / 8)) (c .width .ensures .0 ∙ ap widthOf (c .before .counted .ensures)) (sym (length-take-le (g .count) (g .codes) (search needs)))
     ∙ sym (length-group cs)
 
 pub measured-spec : {M : Type 1} → statement M
 measured-spec =
-    tie.close (tie.spec first-requires width-requires mul-result add-result add-result-2 returns)
+    tie.close (tie.spec counted-requires width-requires mul-result add-result add-result-2 returns)

@@ -1,30 +1,27 @@
--- `stream::pack::length_step` meets its contract: each test of the code is its row's.
-use mathlib.Core.Path.{_≡_, sym, ap, ap₂, _∙_}
-use mathlib.Core.Bool.{Bool, true, _||_, not}
-use Prim.Native.Nat.{ℕ}
-use lib.Dec.{ltb}
-use mir.Facts.{toZ-ofZ}
+-- `stream::pack::length_step` meets its contract.
+use Rattle.stream.specs.Header.{tooMany}
+use Rattle.stream.specs.Operations.{lengthRows}
+use Rattle.stream.specs.Rows.{first}
+use Rattle.stream.specs.Setting.{knownLevel, allowedSetting, settingOf, need}
 use borrow.Author.Needs.{needs}
 use borrow.Author.Tests.{not-true, not-false, lt-ltb, le-ltb}
-use Rattle.stream.specs.Setting.{knownLevel, need, allowedSetting}
-use Rattle.stream.specs.Header.{tooMany}
-use Rattle.stream.specs.Rows.{first}
-use Rattle.stream.specs.Operations.{lengthRows}
+use mathlib.Core.Bool.{Bool, true, false}
+use mathlib.Core.Path.{_≡_, sym, ap, _∙_}
+use mir.Facts.{toZ-ofZ}
 use Rattle.stream.proofs.pack.length_step.Statement.{statement}
 use Rattle.stream.proofs.pack.length_step.Tie as tie
 
 known : (c : tie.Else1) → knownLevel (c .before .before .args .level) ≡ true
 known c = sym (c .before .known-level .ensures) ∙ not-false (c .before .known-level .result) (c .if1 .left)
 
-second : (c : tie.After-need-of) → let a = c .before .before .before .before .args in
-    not (allowedSetting (a .width) (a .mode) (a .k)) || ltb (a .level) (need (a .width) (a .mode))
-    ≡ not (c .before .allowed .result) || ltb (a .level) (c .need-of .result)
-second c =
-    let s = c .before .before .before .before in
-    let a = s .args in
-    ap₂ (λ (b : Bool) (n : ℕ). not b || ltb (a .level) n)
-    (ap (allowedSetting (a .width) (a .mode)) (sym (toZ-ofZ (s .fits .k))) ∙ sym (c .before .allowed .ensures))
-    (sym (c .need-of .ensures))
+allowed-is : (c : tie.After-allowed) → let a = c .before .before .before .args in allowedSetting (a .width) (a .mode) (a .k) ≡ c .allowed .result
+allowed-is c = let s = c .before .before .before in let a = s .args in ap (allowedSetting (a .width) (a .mode)) (sym (toZ-ofZ (s .fits .k))) ∙ sym (c .allowed .ensures)
+
+allowed : (c : tie.Else2) → let a = c .before .before .before .before .args in allowedSetting (a .width) (a .mode) (a .k) ≡ true
+allowed c = allowed-is (c .before) ∙ not-false (c .before .allowed .result) (c .if2 .left)
+
+need-is : (c : tie.After-need-of) → let a = c .before .before .before .before .before .before .args in need (settingOf (a .width) (a .mode) (a .k)) ≡ c .need-of .result
+need-is c = let s = c .before .before .before .before .before .before in let a = s .args in sym (c .need-of .ensures ∙ ap need (c .before .setting-of .ensures .0 ∙ ap (settingOf (a .width) (a .mode)) (toZ-ofZ (s .fits .k))))
 
 known-level-requires : tie.Need-known-level-requires
 known-level-requires c κs = search needs
@@ -36,24 +33,27 @@ returns c = rw (sym (c .before .known-level .ensures) ∙ not-true (c .before .k
 allowed-requires : tie.Need-allowed-requires
 allowed-requires c κs = search needs
 
+returns-2 : tie.Need-returns-2
+unfolding first lengthRows
+returns-2 c = rw (known (c .before .before), allowed-is (c .before) ∙ not-true (c .before .allowed .result) (c .if2 .taken))
+
+setting-of-requires : tie.Need-setting-of-requires
+setting-of-requires c κs = let s = c .before .before .before .before in let a = s .args in (s .pre, ap (allowedSetting (a .width) (a .mode)) (toZ-ofZ (s .fits .k)) ∙ allowed c)
+
 need-of-requires : tie.Need-need-of-requires
 need-of-requires c κs = search needs
 
-returns-2 : tie.Need-returns-2
-unfolding first lengthRows
-returns-2 c = rw (known (c .before .before .before), second (c .before) ∙ c .if2 .taken)
-
 returns-3 : tie.Need-returns-3
-unfolding first lengthRows tooMany
-returns-3 c =
-    let n = c .before .before .before .before .before .before .args .n in
-    rw (known (c .before .before .before .before), second (c .before .before) ∙ c .before .if2 .left, lt-ltb 1048576 n (c .if3 .taken))
+unfolding first lengthRows
+returns-3 c = let n = c .before in rw (known (c .before .before .before .before .before), allowed (c .before .before .before), need-is n, lt-ltb (c .before .before .before .before .before .before .before .args .level) (n .need-of .result) (c .if3 .taken))
 
 returns-4 : tie.Need-returns-4
 unfolding first lengthRows tooMany
-returns-4 c =
-    let n = c .before .before .before .before .before .before .args .n in
-    rw (known (c .before .before .before .before), second (c .before .before) ∙ c .before .if2 .left, le-ltb 1048576 n (c .if3 .left))
+returns-4 c = let n = c .before .before in rw (known (c .before .before .before .before .before .before), allowed (c .before .before .before .before), need-is n, le-ltb (c .before .before .before .before .before .before .before .before .args .level) (n .need-of .result) (c .before .if3 .left), lt-ltb 1048576 (c .before .before .before .before .before .before .before .before .args .n) (c .if4 .taken))
+
+returns-5 : tie.Need-returns-5
+unfolding first lengthRows tooMany
+returns-5 c = let n = c .before .before in rw (known (c .before .before .before .before .before .before), allowed (c .before .before .before .before), need-is n, le-ltb (c .before .before .before .before .before .before .before .before .args .level) (n .need-of .result) (c .before .if3 .left), le-ltb 1048576 (c .before .before .before .before .before .before .before .before .args .n) (c .if4 .left))
 
 pub length-step-spec : {M : Type 1} → statement M
 length-step-spec =
@@ -62,7 +62,9 @@ length-step-spec =
     known-level-requires
     returns
     allowed-requires
-    need-of-requires
     returns-2
+    setting-of-requires
+    need-of-requires
     returns-3
-    returns-4)
+    returns-4
+    returns-5)

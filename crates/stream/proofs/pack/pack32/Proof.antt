@@ -1,106 +1,45 @@
--- `stream::pack::pack32` meets its contract: what its steps find is what the rows say, and the stream is written where none is given.
-use mathlib.Core.Path.{_≡_, sym, ap, _∙_}
-use mathlib.Core.List.{[], _∷_}
+-- `stream::pack::pack32` meets its contract.
+use mathlib.Core.Path.{_≡_, refl, ap, _∙_}
+use native.Mathlib.Omega.{arith}
 use lib.IntN.{ℤ}
 use lib.ListN.{length}
 use mir.Facts.{toZ-ofZ}
 use borrow.Author.Needs.{needs}
-use Rattle.stream.specs.Setting.{allowedSetting}
-use Rattle.stream.specs.Rows.{first}
-use Rattle.stream.specs.Packing.{shortRow}
-use Rattle.stream.specs.Operations.{lengthRows}
-use Rattle.stream.specs.declared.answers.Step.the-variants.{Pass}
+use Rattle.stream.specs.Lent.{chosen}
+use Rattle.stream.specs.Operations.{packAnswer, packOut}
 use Rattle.stream.proofs.Law.Widths.{known-32}
-use Rattle.stream.proofs.Law.Answering.{length-passed, enough-room, pack-refused, pack-short, pack-done}
 use Rattle.stream.proofs.pack.pack32.Statement.{statement}
 use Rattle.stream.proofs.pack.pack32.Tie as tie
 
-rows : (c : tie.After-length-step) → let a = c .before .before .before .args in
-    first (lengthRows 32 (a .level) (a .mode) (a .k) (length (a .values .now))) ≡ c .length-step .result
-rows c =
-    let s = c .before .before .before in
-    ap (λ (z : ℤ). first (lengthRows 32 (s .args .level) (s .args .mode) z (length (s .args .values .now)))) (sym (toZ-ofZ (s .fits .k)))
-    ∙ sym (c .length-step .ensures)
+slice-aggregate-packed-or-refused : tie.Need-slice-aggregate-packed-or-refused
+slice-aggregate-packed-or-refused c = search needs
 
-passed : (c : tie.After-enum-told) → let a = c .before .before .before .before .before .args in
-    first (lengthRows 32 (a .level) (a .mode) (a .k) (length (a .values .now))) ≡ Pass
-passed c = rows (c .before .before) ∙ c .enum-told .given .1
+slice-aggregate-packed-or-refused-2 : tie.Need-slice-aggregate-packed-or-refused-2
+slice-aggregate-packed-or-refused-2 c = search needs
 
-short : (c : tie.After-room-step32) → let a = c .before .before .before .before .before .before .args in
-    first (shortRow 32 (a .mode) (a .k) (a .values .now) (length (a .out .now)) ∷ []) ≡ c .room-step32 .result
-short c =
-    let s = c .before .before .before .before .before .before in
-    ap (λ (z : ℤ). first (shortRow 32 (s .args .mode) z (s .args .values .now) (length (s .args .out .now)) ∷ [])) (sym (toZ-ofZ (s .fits .k)))
-    ∙ sym (c .room-step32 .ensures)
-
-length-step-requires : tie.Need-length-step-requires
-length-step-requires c κs = known-32
-
-enum-known-refused : tie.Need-enum-known-refused
-enum-known-refused c = search needs
-
-returns : tie.Need-returns
-returns c =
-    let a = c .before .before .before .before .before .before .args in
-    pack-refused 32 (a .level) (a .mode) (a .k) (a .values .now) (a .out .now) _ _ (rows (c .before .before .before) ∙ c .before .refused .given .1)
-
-enum-told : tie.Need-enum-told
-enum-told c = search needs
-
-room-step32-requires : tie.Need-room-step32-requires
-room-step32-requires c κs =
-    let s = c .before .before .before .before .before in
-    let a = s .args in
-    let p = length-passed 32 (a .level) (a .mode) (a .k) (length (a .values .now)) (passed c) in
-    (p .few, ap (allowedSetting 32 (a .mode)) (toZ-ofZ (s .fits .k)) ∙ p .allowed)
-
-enum-known-short : tie.Need-enum-known-short
-enum-known-short c = search needs
-
-returns-2 : tie.Need-returns-2
-returns-2 c =
-    let r = c .before .before .before in
-    let a = r .before .before .before .before .before .before .args in
-    pack-short 32 (a .level) (a .mode) (a .k) (a .values .now) (a .out .now) (passed (r .before)) _ _ (short r ∙ c .before .short .given .1)
-
-enum-told-2 : tie.Need-enum-told-2
-enum-told-2 c = search needs
-
-written32-requires : tie.Need-written32-requires
-written32-requires c κs =
-    let r = c .before .before .before in
-    let s = r .before .before .before .before .before .before in
-    let a = s .args in
-    let p = length-passed 32 (a .level) (a .mode) (a .k) (length (a .values .now)) (passed (r .before)) in (
-      (p .few, ap (allowedSetting 32 (a .mode)) (toZ-ofZ (s .fits .k)) ∙ p .allowed),
-      rw (toZ-ofZ (s .fits .k)) (enough-room 32 (a .mode) (a .k) (a .values .now) (length (a .out .now)) (short r ∙ c .before .enum-told2 .given .1)),
-    )
+packed-or-refused-requires : tie.Need-packed-or-refused-requires
+unfolding chosen
+packed-or-refused-requires c κs = (known-32, refl, omega arith)
 
 same-length : tie.Need-same-length
 same-length c = search needs
 
-returns-3 : tie.Need-returns-3
-returns-3 c =
-    let w = c .before .before .written32 in
-    let r = c .before .before .before .before .before .before in
-    let s = r .before .before .before .before .before .before in
+returns : tie.Need-returns
+unfolding chosen
+returns c =
+    let s = c .before .before .before .before .before .before .before .before .before in
     let a = s .args in
-    pack-done 32 (a .level) (a .mode) (a .k) (a .values .now) (a .out .now) (passed (r .before)) (w .result) _
-    (short r ∙ c .before .before .before .before .enum-told2 .given .1)
-    (rw (toZ-ofZ (s .fits .k)) at (w .ensures .0)) (rw (toZ-ofZ (s .fits .k)) at (w .ensures .1))
+    let r = c .before .before .before .packed-or-refused in (
+      r .ensures .0 ∙ ap (λ (z : ℤ). packAnswer 32 (a .level) (a .mode) z (a .values .now) (length (a .out .now))) (toZ-ofZ (s .fits .k)),
+      r .ensures .1 ∙ ap (λ (z : ℤ). packOut 32 (a .level) (a .mode) z (a .values .now) (a .out .now)) (toZ-ofZ (s .fits .k)),
+    )
 
 pub pack32-spec : {M : Type 1} → statement M
 pack32-spec =
     tie.close
     (tie.spec
-    length-step-requires
-    enum-known-refused
-    returns
-    enum-told
-    room-step32-requires
-    enum-known-short
-    returns-2
-    enum-told-2
-    written32-requires
+    slice-aggregate-packed-or-refused
+    slice-aggregate-packed-or-refused-2
+    packed-or-refused-requires
     same-length
-    returns-3)
+    returns)

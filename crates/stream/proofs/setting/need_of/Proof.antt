@@ -4,13 +4,13 @@ use Rattle.stream.proofs.setting.need_of.Statement.{statement}
 use Rattle.stream.proofs.setting.need_of.Tie as tie
 
 returns : tie.Need-returns
-returns c = need-64 (c .before .args .width) (c .before .args .mode) (c .if1 .taken)
+returns c = need-64 (c .before .before .args .t) (c .if1 .taken)
 
 returns-2 : tie.Need-returns-2
-returns-2 c = need-mode-1 (c .before .before .args .width) (c .before .before .args .mode) (c .before .if1 .left) (c .if2 .taken)
+returns-2 c = need-mode-1 (c .before .before .before .before .args .t) (c .before .before .if1 .left) (c .if2 .taken)
 
 returns-3 : tie.Need-returns-3
-returns-3 c = need-mode-0 (c .before .before .args .width) (c .before .before .args .mode) (c .before .if1 .left) (c .if2 .left)
+returns-3 c = need-mode-0 (c .before .before .before .before .args .t) (c .before .before .if1 .left) (c .if2 .left)
 
 pub need-of-spec : {M : Type 1} → statement M
 need-of-spec = tie.close (tie.spec returns returns-2 returns-3)

@@ -1,0 +1,216 @@
+-- `stream::chunk::restored` meets its contract. The invariant: the codes put so far, and those that the bytes left give, are all of them. Then all patterns are put at once.
+use Prim.Native.Nat.{ℕ, _-_, _+_, _≤_, _<_, min}
+use Rattle.stream.proofs.Law.Appending.{Appended, nothing-yet, same-room, one-landed, all-there}
+use Rattle.stream.proofs.Law.Beginning.{Going, starts-going, going-inside, going-wide, going-whole, goes, codes-next}
+use Rattle.stream.proofs.Law.Chunk.{codes-none, length-chunk-codes}
+use Rattle.stream.proofs.Law.Group.{length-codes}
+use Rattle.stream.proofs.Law.Settings.{size-some}
+use Rattle.stream.proofs.Law.Walking.{part-is}
+use Rattle.stream.specs.Chunk.{chunkCodes}
+use Rattle.stream.specs.Group.{givenWidth, groupLength, groupCodes}
+use Rattle.stream.specs.Lent.{chosen, landed}
+use Rattle.stream.specs.Setting.{groupSize, patternsOf, limitOf}
+use Rattle.stream.specs.declared.setting.Setting.{Setting}
+use borrow.Author.Needs.{needs}
+use lib.ListN.{length, take, drop}
+use lib.Seq.{take-at}
+use mathlib.Core.List.{List, [], _++_}
+use mathlib.Core.Path.{_≡_, refl, sym, ap, _∙_}
+use native.Mathlib.Nat.{zero-add}
+use native.Mathlib.Omega.{arith}
+use Rattle.stream.proofs.chunk.restored.Statement.{statement}
+use Rattle.stream.proofs.chunk.restored.Tie as tie
+
+abbrev Inv-loop : tie.InvT-loop
+Inv-loop t s n c32₀ c64₀ o32 o64 size left₀ at₀ done₀ c32 c64 left at done =
+    (done + left ≡ n) × Going (groupSize t) (size-some t) (t .width) (limitOf t) s left at
+    × Appended (chunkCodes (groupSize t) n s) (chunkCodes (groupSize t) left (drop at s)) (chosen (t .width) c32₀ c64₀) (chosen (t .width) c32 c64) done
+    × (length c32 ≡ length c32₀) × (length c64 ≡ length c64₀)
+
+abbrev μ-loop : tie.MeasureT-loop
+μ-loop t s n c32₀ c64₀ o32 o64 size left₀ at₀ done₀ c32 c64 left at done = left
+
+abbrev start : tie.At-loop Inv-loop μ-loop → tie.Start Inv-loop μ-loop
+start l = l .before .before .before .before .before .before .before
+
+abbrev bytes : tie.At-loop Inv-loop μ-loop → List ℕ
+bytes l = start l .args .s .now
+
+-- the loop's place in the bytes, over the setting
+module _ (l : tie.At-loop Inv-loop μ-loop) where
+  abbrev t : Setting
+  t = start l .args .t
+
+  inside : l .loop .at ≤ length (bytes l)
+  inside = going-inside (groupSize t) (size-some t) (t .width) (limitOf t) (bytes l) (l .loop .left) (l .loop .at) (l .loop .inv .1)
+
+-- how many codes the next group has, and that it is a good one
+count-is : (c : tie.After-group-count Inv-loop μ-loop) → let l = c .before .before in c .group-count .result ≡ min (groupSize (t l)) (l .loop .left)
+count-is c = omega (arith, c .group-count .ensures, c .before .before .before .group-size .ensures .0)
+
+count-most : (c : tie.After-group-count Inv-loop μ-loop) → c .group-count .result ≤ 32
+count-most c = omega (arith, c .group-count .ensures, c .before .before .before .group-size .ensures .2)
+
+count-some : (c : tie.After-group-count Inv-loop μ-loop) → 0 < c .group-count .result
+count-some c = omega (arith, c .group-count .ensures, c .before .before .before .group-size .ensures .1, c .before .loop-test .taken)
+
+wide : (c : tie.After-group-count Inv-loop μ-loop) → let l = c .before .before in givenWidth (drop (l .loop .at) (bytes l)) ≤ t l .width
+wide c = let l = c .before .before in going-wide (groupSize (t l)) (size-some (t l)) (t l .width) (limitOf (t l)) (bytes l) (l .loop .left) (l .loop .at) (l .loop .inv .1) (c .group-count .result) (c .before .loop-test .taken) (count-is c)
+
+whole : (c : tie.After-group-count Inv-loop μ-loop) → let l = c .before .before in
+    groupLength (c .group-count .result) (drop (l .loop .at) (bytes l)) ≤ length (drop (l .loop .at) (bytes l))
+whole c = let l = c .before .before in going-whole (groupSize (t l)) (size-some (t l)) (t l .width) (limitOf (t l)) (bytes l) (l .loop .left) (l .loop .at) (l .loop .inv .1) (c .group-count .result) (c .before .loop-test .taken) (count-is c)
+
+-- where the count was made, and the loop, behind a turn
+abbrev counted : tie.After-group-length Inv-loop μ-loop → tie.After-group-count Inv-loop μ-loop
+counted c = c .before .before .before .before .before .before .before .before .before .before
+
+abbrev turn : tie.After-group-length Inv-loop μ-loop → tie.At-loop Inv-loop μ-loop
+turn c = c .before .before .before .before .before .before .before .before .before .before .before .before
+
+-- its bytes, as their number is measured
+bytes-are : (c : tie.After-group-length Inv-loop μ-loop) → c .group-length .result ≡ groupLength (counted c .group-count .result) (drop (turn c .loop .at) (bytes (turn c)))
+bytes-are c = c .group-length .ensures ∙ ap (groupLength (counted c .group-count .result)) (part-is (bytes (turn c)) (turn c .loop .at))
+
+on : (c : tie.After-group-length Inv-loop μ-loop) → let l = turn c in
+    Going (groupSize (t l)) (size-some (t l)) (t l .width) (limitOf (t l)) (bytes l) (l .loop .left - counted c .group-count .result) (l .loop .at + c .group-length .result)
+on c =
+    let l = turn c in
+    let e = counted c in
+    goes (groupSize (t l)) (size-some (t l)) (t l .width) (limitOf (t l)) (bytes l) (l .loop .left) (l .loop .at) (l .loop .inv .1) (e .group-count .result) (e .before .loop-test .taken) (count-is e) (c .group-length .result) (bytes-are c)
+
+group-size-requires : tie.Need-group-size-requires Inv-loop μ-loop
+group-size-requires c κs = search needs
+
+loop-holds : tie.Need-loop-holds Inv-loop μ-loop
+loop-holds c =
+    let s = c .before .before .before .before .before .before in
+    let v = s .args in
+    let b = s .pre .0 .2 in (
+      zero-add (v .n),
+      starts-going (groupSize (v .t)) (size-some (v .t)) (v .t .width) (limitOf (v .t)) (v .s .now) (v .n) (b .bytes) (b .rest) (b .split) (b .good),
+      nothing-yet _ _ (rw (length-chunk-codes (groupSize (v .t)) (size-some (v .t)) (v .n) (v .s .now)) (s .pre .1 .0)),
+      refl,
+      refl,
+    )
+
+group-count-requires : tie.Need-group-count-requires Inv-loop μ-loop
+group-count-requires c κs = search needs
+
+sub-put-codes : tie.Need-sub-put-codes Inv-loop μ-loop
+sub-put-codes c = inside (c .before .before)
+
+part-put-codes-start : tie.Need-part-put-codes-start Inv-loop μ-loop
+part-put-codes-start c = inside (c .before .before)
+
+part-put-codes-end : tie.Need-part-put-codes-end Inv-loop μ-loop
+part-put-codes-end c = search needs
+
+put-codes-requires : tie.Need-put-codes-requires Inv-loop μ-loop
+put-codes-requires c κs =
+    let e = c .before .before .before in
+    let l = e .before .before in
+    let p = start l .pre in (
+      (p .0 .0, count-most e, rw (part-is (bytes l) (l .loop .at)) (wide e), rw (part-is (bytes l) (l .loop .at)) (whole e)),
+      (omega (arith, l .loop .inv .0, p .0 .1), omega (arith, p .1 .0, l .loop .inv .0, e .group-count .ensures, same-room _ _ _ _ _ (l .loop .inv .2))),
+    )
+
+sub-group-length : tie.Need-sub-group-length Inv-loop μ-loop
+sub-group-length c = inside (c .before .before .before .before .before .before .before .before .before .before)
+
+part-group-length-start : tie.Need-part-group-length-start Inv-loop μ-loop
+part-group-length-start c = inside (c .before .before .before .before .before .before .before .before .before .before)
+
+part-group-length-end : tie.Need-part-group-length-end Inv-loop μ-loop
+part-group-length-end c = search needs
+
+group-length-requires : tie.Need-group-length-requires Inv-loop μ-loop
+group-length-requires c κs = let e = c .before .before .before .before .before .before .before .before .before in let l = e .before .before in (count-most e, rw (part-is (bytes l) (l .loop .at)) (whole e))
+
+add-at : tie.Need-add-at Inv-loop μ-loop
+add-at c = let l = turn c in omega (arith, going-inside (groupSize (t l)) (size-some (t l)) (t l .width) (limitOf (t l)) (bytes l) _ _ (on c), start l .good)
+
+sub-left : tie.Need-sub-left Inv-loop μ-loop
+sub-left c = omega (arith, counted c .group-count .ensures)
+
+add-done : tie.Need-add-done Inv-loop μ-loop
+add-done c = let l = turn c in omega (arith, counted c .group-count .ensures, l .loop .inv .0, start l .pre .0 .1)
+
+loop-less : tie.Need-loop-less Inv-loop μ-loop
+loop-less c = omega (arith, counted c .group-count .ensures, count-some (counted c))
+
+loop-again : tie.Need-loop-again Inv-loop μ-loop
+loop-again c =
+    let e = counted c in
+    let l = turn c in
+    let v = start l .args in
+    let n = e .group-count .result in
+    let k = c .group-length .result in
+    let call = c .before .before .before .before .before .before .put-codes in (
+      omega (arith, l .loop .inv .0, e .group-count .ensures),
+      on c,
+      one-landed _ _ _ _ _ (l .loop .inv .2) (groupCodes n (drop (l .loop .at) (bytes l))) (chunkCodes (groupSize (t l)) (l .loop .left - n) (drop (l .loop .at + k) (bytes l))) _ n
+          (codes-next (groupSize (t l)) (size-some (t l)) (bytes l) (l .loop .left) (l .loop .at) n k (e .before .loop-test .taken) (count-is e) (bytes-are c))
+          (sym (length-codes n (drop (l .loop .at) (bytes l))))
+          (call .ensures ∙ ap (λ (u : List ℕ). landed (l .loop .done) (groupCodes n u) (chosen (v .t .width) (l .loop .c32) (l .loop .c64))) (part-is (bytes l) (l .loop .at))),
+      call .kept .1 .1 .1 .0 ∙ l .loop .inv .3,
+      call .kept .1 .1 .1 .1 .0 ∙ l .loop .inv .4,
+    )
+
+put-patterns-requires : tie.Need-put-patterns-requires Inv-loop μ-loop
+put-patterns-requires c κs =
+    let l = c .before .before .before .before .before in
+    let p = start l .pre in
+    (p .0 .0, omega (arith, p .1 .0, same-room _ _ _ _ _ (l .loop .inv .2)), p .1 .1)
+
+same-length : tie.Need-same-length Inv-loop μ-loop
+same-length c = c .before .before .before .before .before .before .before .before .before .before .loop .inv .3
+
+same-length-2 : tie.Need-same-length-2 Inv-loop μ-loop
+same-length-2 c = c .before .before .before .before .before .before .before .before .before .before .loop .inv .4
+
+same-length-3 : tie.Need-same-length-3 Inv-loop μ-loop
+same-length-3 c = search needs
+
+same-length-4 : tie.Need-same-length-4 Inv-loop μ-loop
+same-length-4 c = search needs
+
+returns : tie.Need-returns Inv-loop μ-loop
+returns c =
+    let l = c .before .before .before .before .before .before .before .before .before .before in
+    let v = start l .args in
+    let size = groupSize (v .t) in
+    let none : l .loop .left ≡ 0 = omega (arith, c .before .before .before .before .before .before .before .before .before .loop-test .left) in
+    let rest = ap (λ (n : ℕ). chunkCodes size n (drop (l .loop .at) (bytes l))) none ∙ codes-none size (size-some (v .t)) (drop (l .loop .at) (bytes l)) in
+    c .before .before .before .before .put-patterns .ensures
+    ∙ ap (λ (cs : List ℕ). patternsOf (v .t) cs ++ drop (v .n) (chosen (v .t .width) (v .o32 .now) (v .o64 .now)))
+    (ap (take (v .n)) (all-there _ _ _ (l .loop .done) (rw rest at (l .loop .inv .2))) ∙ take-at (chunkCodes size (v .n) (bytes l)) _ (v .n) (length-chunk-codes size (size-some (v .t)) (v .n) (bytes l)))
+
+pub restored-spec : {M : Type 1} → statement M
+restored-spec =
+    tie.close
+    (tie.spec
+    Inv-loop
+    μ-loop
+    group-size-requires
+    loop-holds
+    group-count-requires
+    sub-put-codes
+    part-put-codes-start
+    part-put-codes-end
+    put-codes-requires
+    sub-group-length
+    part-group-length-start
+    part-group-length-end
+    group-length-requires
+    add-at
+    sub-left
+    add-done
+    loop-less
+    loop-again
+    put-patterns-requires
+    same-length
+    same-length-2
+    same-length-3
+    same-length-4
+    returns)

@@ -1,0 +1,94 @@
+-- `stream::coding::put_codes32` meets its contract. The invariant: the codes of the values passed, and then what was there.
+use mathlib.Core.Path.{_≡_, refl, sym, ap, ap₂, _∙_}
+use mathlib.Core.List.{List, _++_}
+use Prim.Native.Nat.{ℕ, _-_, _+_, _≤_}
+use native.Mathlib.Omega.{arith}
+use lib.ListN.{length, take, drop, set}
+use lib.Seq.{take-length}
+use borrow.Author.Needs.{needs}
+use Rattle.stream.specs.Setting.{codeAt, codesOf}
+use Rattle.stream.proofs.Law.Coding.{one-put, length-coded}
+use Rattle.stream.proofs.coding.put_codes32.Statement.{statement}
+use Rattle.stream.proofs.coding.put_codes32.Tie as tie
+
+abbrev Inv-loop : tie.InvT-loop
+Inv-loop t values c₀ i₀ c i = (i ≤ length values) × (c ≡ codesOf t (take i values) ++ drop i c₀)
+
+abbrev μ-loop : tie.MeasureT-loop
+μ-loop t values c₀ i₀ c i = length values - i
+
+loop-holds : tie.Need-loop-holds Inv-loop μ-loop
+unfolding codesOf
+loop-holds c = (omega arith, refl)
+
+mul-code32 : tie.Need-mul-code32 Inv-loop μ-loop
+mul-code32 c = search needs
+
+shared-slice-read-code32 : tie.Need-shared-slice-read-code32 Inv-loop μ-loop
+shared-slice-read-code32 c = search needs
+
+code32-requires : tie.Need-code32-requires Inv-loop μ-loop
+code32-requires c κs = c .before .before .before .before .before .pre .0
+
+mul-c : tie.Need-mul-c Inv-loop μ-loop
+mul-c c = omega (arith, c .before .before .before .before .before .before .good, c .before .before .before .before .before .before .pre)
+
+slice-write-c : tie.Need-slice-write-c Inv-loop μ-loop
+slice-write-c c =
+    let f = c .before .before .before .before .before .before in
+    let l = c .before .before .before .loop in
+    let v = f .args in
+    omega (arith, length-coded (v .t) (v .values .now) (v .c .now) (l .c) (l .i) (f .pre .1) (l .inv .0) (l .inv .1), f .pre .1)
+
+add-i : tie.Need-add-i Inv-loop μ-loop
+add-i c = omega arith
+
+loop-less : tie.Need-loop-less Inv-loop μ-loop
+loop-less c = omega arith
+
+loop-again : tie.Need-loop-again Inv-loop μ-loop
+unfolding codesOf
+loop-again c =
+    let f = c .before .before .before .before .before .before in
+    let v = f .args in
+    let l = c .before .before .before .loop in (
+      omega arith,
+      ap₂ (λ (o : List ℕ) (p : ℕ). set o (l .i) p) (l .inv .1) (c .code32 .ensures)
+          ∙ one-put (codeAt (v .t)) (v .values .now) (v .c .now) (l .i) (omega arith) (omega (arith, f .pre .1)),
+    )
+
+same-length : tie.Need-same-length Inv-loop μ-loop
+same-length c =
+    let f = c .before .before .before .before in
+    let l = c .before .loop in
+    let v = f .args in
+    length-coded (v .t) (v .values .now) (v .c .now) (l .c) (l .i) (f .pre .1) (l .inv .0) (l .inv .1)
+
+returns : tie.Need-returns Inv-loop μ-loop
+returns c =
+    let f = c .before .before .before .before in
+    let v = f .args in
+    let l = c .before .loop in
+    let end : l .i ≡ length (v .values .now) = omega arith in
+    l .inv .1
+    ∙ ap₂ (λ (a b : List ℕ). codesOf (v .t) a ++ b)
+    (ap (λ (n : ℕ). take n (v .values .now)) end ∙ take-length (v .values .now))
+    (ap (λ (n : ℕ). drop n (v .c .now)) end)
+
+pub put-codes32-spec : {M : Type 1} → statement M
+put-codes32-spec =
+    tie.close
+    (tie.spec
+    Inv-loop
+    μ-loop
+    loop-holds
+    mul-code32
+    shared-slice-read-code32
+    code32-requires
+    mul-c
+    slice-write-c
+    add-i
+    loop-less
+    loop-again
+    same-length
+    returns)

@@ -1,0 +1,77 @@
+-- `allowed` meets its contract: w bits hold no u above the limit, or the codes are looked at.
+-- Assumes nothing.
+use mathlib.Core.Path.{sym, ap, _∙_, subst⁻¹}
+use mathlib.Core.List.{List}
+use Prim.Native.Nat.{ℕ, _-_, _^_}
+use native.Mathlib.Nat.{mul-le-mul}
+use native.Mathlib.Omega.{arith}
+use lib.Pow.{pow-pos}
+use Rattle.stream.specs.Bytes.{Below}
+use Rattle.stream.specs.Group.{within, groupCodes}
+use Rattle.stream.proofs.Law.Group.{codes-below}
+use Rattle.stream.proofs.Law.Exact.{limited-within}
+use Rattle.stream.proofs.Law.Checking.{high-one, narrow-limited}
+use borrow.Author.Needs.{needs}
+use Rattle.stream.proofs.group_checked.limit_kept.Statement.{statement}
+use Rattle.stream.proofs.group_checked.limit_kept.Tie as tie
+
+sub-if1 : tie.Need-sub-if1
+sub-if1 c = search needs
+
+shl-if1 : tie.Need-shl-if1
+shl-if1 c = search needs
+
+sub-if1-2 : tie.Need-sub-if1-2
+sub-if1-2 c = rw (high-one (c .before .args .w) (c .before .pre .1) (c .before .pre .2)) (pow-pos (c .before .args .w - 1))
+
+returns : tie.Need-returns
+returns c =
+    let f = c .before .before in
+    let a = f .args in
+    let cs : List ℕ = groupCodes (a .n) (a .s .now) in
+    sym (limited-within (a .limit) cs
+    (narrow-limited (a .w) (a .limit) cs (f .pre .1) (subst⁻¹ (λ (w : ℕ). Below (2 ^ w) cs) (f .pre .3) (codes-below (a .n) (a .s .now)))
+    (rw (high-one (a .w) (f .pre .1) (f .pre .2)) at (c .if1 .taken))))
+
+mul-if2 : tie.Need-mul-if2
+mul-if2 c = let f = c .before .before in omega (arith, mul-le-mul (f .pre .2) (f .pre .0))
+
+add-if2 : tie.Need-add-if2
+add-if2 c = let f = c .before .before in omega (arith, mul-le-mul (f .pre .2) (f .pre .0))
+
+limited-in-place-requires : tie.Need-limited-in-place-requires
+limited-in-place-requires c κs = search needs
+
+returns-2 : tie.Need-returns-2
+returns-2 c = search needs
+
+codes-of-requires : tie.Need-codes-of-requires
+codes-of-requires c κs = search needs
+
+counted-requires : tie.Need-counted-requires
+counted-requires c κs = search needs
+
+limited-requires : tie.Need-limited-requires
+limited-requires c κs = search needs
+
+returns-3 : tie.Need-returns-3
+returns-3 c =
+    let f = c .before .before .before .before .before .before .before .before .before in
+    c .limited .ensures ∙ ap (within (f .args .limit)) (c .before .counted .ensures ∙ c .before .before .before .before .before .codes-of .ensures .1)
+
+pub limit-kept-spec : {M : Type 1} → statement M
+limit-kept-spec =
+    tie.close
+    (tie.spec
+    sub-if1
+    shl-if1
+    sub-if1-2
+    returns
+    mul-if2
+    add-if2
+    limited-in-place-requires
+    returns-2
+    codes-of-requires
+    counted-requires
+    limited-requires
+    returns-3)

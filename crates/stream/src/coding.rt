@@ -1,0 +1,145 @@
+// Values and their codes, for one width: by mode, one by one and side by side. Only the functions of `lent` choose between the widths.
+ghost use mathlib.Core.Path.{_≡_};
+ghost use mathlib.Core.List.{_++_};
+ghost use Prim.Native.Nat.{_≤_};
+ghost use lib.ListN.{length, take, drop};
+ghost use Rattle.stream.specs.Setting.{codeAt, patternAt, codesOf, patternsOf};
+use crate::group::Group;
+use crate::setting::Setting;
+use numbers::lossless;
+use numbers::tolerance;
+
+// The code of one pattern, by mode.
+fn code32(t: Setting, p: u32) -> u32
+    requires { ⌜ t .width ≡ 32 ⌝ }
+    ensures { λ c. ⌜ c ≡ codeAt t p ⌝ }
+{
+    if t.mode == 0 {
+        lossless::code32(p)
+    } else {
+        tolerance::code_at_bin32(t.bin, p)
+    }
+}
+
+fn code64(t: Setting, p: u64) -> u64
+    requires { ⌜ t .width ≡ 64 ⌝ }
+    ensures { λ c. ⌜ c ≡ codeAt t p ⌝ }
+{
+    if t.mode == 0 {
+        lossless::code64(p)
+    } else {
+        tolerance::code_at_bin64(t.bin, p)
+    }
+}
+
+// The pattern of one code, by mode.
+pub(crate) fn pattern32(t: Setting, c: u32) -> u32
+    requires { ⌜ t .width ≡ 32 ⌝ }
+    ensures { λ p. ⌜ p ≡ patternAt t c ⌝ }
+{
+    if t.mode == 0 {
+        lossless::restored32(c)
+    } else {
+        tolerance::restored_at_bin32(t.bin, c)
+    }
+}
+
+pub(crate) fn pattern64(t: Setting, c: u64) -> u64
+    requires { ⌜ t .width ≡ 64 ⌝ }
+    ensures { λ p. ⌜ p ≡ patternAt t c ⌝ }
+{
+    if t.mode == 0 {
+        lossless::restored64(c)
+    } else {
+        tolerance::restored_at_bin64(t.bin, c)
+    }
+}
+
+// The codes of all values, at the front of `c`.
+pub(crate) fn put_codes32(t: Setting, values: &[u32], c: &mut [u32])
+    requires { ⌜ (t .width ≡ 32) × (length (now values) ≤ length (now c)) ⌝ }
+    ensures { λ _. ⌜ now (c .exit) ≡ codesOf t (now (values .entry)) ++ drop (length (now (values .entry))) (now (c .entry)) ⌝ }
+{
+    let mut i: usize = 0;
+    while i < values.len() {
+        c[i] = code32(t, values[i]);
+        i += 1;
+    }
+}
+
+// The codes of up to 32 values. They stay 32 bits wide here, so that a compiler can code four values at a time.
+fn codes32(t: Setting, values: &[u32]) -> [u32; 32]
+    requires { ⌜ (t .width ≡ 32) × (length (now values) ≤ 32) ⌝ }
+    ensures { λ r. ⌜ take (length (now (values .entry))) r ≡ codesOf t (now (values .entry)) ⌝ }
+{
+    let mut codes = [0u32; 32];
+    let mut i: usize = 0;
+    while i < values.len() {
+        codes[i] = code32(t, values[i]);
+        i += 1;
+    }
+    codes
+}
+
+// The group of the first n of 32 codes.
+fn widened(n: usize, codes: [u32; 32]) -> Group
+    ensures { λ g. ⌜ (g .count ≡ n) × (g .codes ≡ codes) ⌝ }
+{
+    let mut g = Group {
+        count: n,
+        codes: [0u64; 32],
+    };
+    let mut i: usize = 0;
+    while i < 32 {
+        g.codes[i] = codes[i] as u64;
+        i += 1;
+    }
+    g
+}
+
+// The codes of up to 32 values, as a group.
+pub(crate) fn coded32(t: Setting, values: &[u32]) -> Group
+    requires { ⌜ (t .width ≡ 32) × (length (now values) ≤ 32) ⌝ }
+    ensures { λ g. ⌜ (g .count ≡ length (now (values .entry))) × (take (g .count) (g .codes) ≡ codesOf t (now (values .entry))) ⌝ }
+{
+    widened(values.len(), codes32(t, values))
+}
+
+pub(crate) fn coded64(t: Setting, values: &[u64]) -> Group
+    requires { ⌜ (t .width ≡ 64) × (length (now values) ≤ 32) ⌝ }
+    ensures { λ g. ⌜ (g .count ≡ length (now (values .entry))) × (take (g .count) (g .codes) ≡ codesOf t (now (values .entry))) ⌝ }
+{
+    let mut codes = [0u64; 32];
+    let mut i: usize = 0;
+    while i < values.len() {
+        codes[i] = code64(t, values[i]);
+        i += 1;
+    }
+    Group {
+        count: values.len(),
+        codes,
+    }
+}
+
+// The patterns of the first n codes, at the front of `out`.
+pub(crate) fn put_patterns32(t: Setting, codes: &[u32], n: usize, out: &mut [u32])
+    requires { ⌜ (t .width ≡ 32) × (n ≤ length (now codes)) × (n ≤ length (now out)) ⌝ }
+    ensures { λ _. ⌜ now (out .exit) ≡ patternsOf t (take n (now (codes .entry))) ++ drop n (now (out .entry)) ⌝ }
+{
+    let mut i: usize = 0;
+    while i < n {
+        out[i] = pattern32(t, codes[i]);
+        i += 1;
+    }
+}
+
+pub(crate) fn put_patterns64(t: Setting, codes: &[u64], n: usize, out: &mut [u64])
+    requires { ⌜ (t .width ≡ 64) × (n ≤ length (now codes)) × (n ≤ length (now out)) ⌝ }
+    ensures { λ _. ⌜ now (out .exit) ≡ patternsOf t (take n (now (codes .entry))) ++ drop n (now (out .entry)) ⌝ }
+{
+    let mut i: usize = 0;
+    while i < n {
+        out[i] = pattern64(t, codes[i]);
+        i += 1;
+    }
+}
