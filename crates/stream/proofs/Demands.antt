@@ -17,10 +17,10 @@ use Rattle.stream.specs.Theorem.{Apart, InChunk}
 use Rattle.stream.specs.declared.answers.Answer.the-variants.{Done, Refused}
 use Rattle.stream.specs.declared.answers.Step.{Step}
 use Rattle.stream.specs.declared.answers.Step.the-variants.{Pass}
-use Rattle.stream.proofs.Law.Elsewhere.{byte-apart, probe-same, value-same}
-use Rattle.stream.proofs.Law.Layout.{laid-out}
-use Rattle.stream.proofs.Law.Accepted.{opening, tables, unpacking}
-use Rattle.stream.proofs.Law.Agreed.{done-pass, refused-stop, unpack-check, counted, probe-passes, probe-value, higher-check, higher-unpack, higher-probe}
+use Rattle.stream.proofs.Law.Values.OtherChunks.{byte-apart, probe-same, value-same}
+use Rattle.stream.proofs.Law.Header.Layout.{laid-out}
+use Rattle.stream.proofs.Law.Rows.Passed.{opening, tables, unpacking}
+use Rattle.stream.proofs.Law.Values.ThreeReaders.{done-pass, refused-stop, unpack-check, counted, probe-passes, probe-value, higher-check, higher-unpack, higher-probe}
 
 -- ---- unpack's output
 

@@ -21,8 +21,8 @@ use Rattle.stream.specs.declared.answers.Step.{Step}
 use Rattle.stream.specs.declared.answers.Step.the-variants.{Pass, Stop}
 use Rattle.stream.specs.declared.answers.Probe32.the-variants as p32
 use Rattle.stream.specs.declared.answers.Probe64.the-variants as p64
-use Rattle.stream.proofs.Law.Small.{Told, SmallAnswer, check-answer-small, unpack-answer-small, probe-small, value-small, length-answer-small, pack-answer-small}
-use Rattle.stream.proofs.Law.Agreed.{done-pass, probe-passes, probe-value}
+use Rattle.stream.proofs.Law.Rows.Small.{Told, SmallAnswer, check-answer-small, unpack-answer-small, probe-small, value-small, length-answer-small, pack-answer-small}
+use Rattle.stream.proofs.Law.Values.ThreeReaders.{done-pass, probe-passes, probe-value}
 use Rattle.stream.proofs.Demands.{written-values}
 
 -- a refusal

@@ -10,9 +10,9 @@ use Rattle.stream.specs.Group.{bytesFor, packed, groupCodes, goodGroup}
 use Rattle.stream.specs.declared.chunk.ChunkAnswer.the-variants.{Good}
 use Rattle.stream.specs.Chunk.{groupsIn, groupsBytes, chunkBytes, chunkAnswer, chunkCodes}
 use Rattle.stream.specs.Theorem.{bits, Limited, Starts, Canonical}
-use Rattle.stream.proofs.Law.LowestFirst.{lowest-first}
-use Rattle.stream.proofs.Law.Exact.{accepted-exactly}
-use Rattle.stream.proofs.Law.Chunk.{written-is-good, written-is-read, good-is-exact, length-chunk-codes, chunk-most}
+use Rattle.stream.proofs.Law.Group.LowestFirst.{lowest-first}
+use Rattle.stream.proofs.Law.Group.Exact.{accepted-exactly}
+use Rattle.stream.proofs.Law.Chunk.Groups.{written-is-good, written-is-read, good-is-exact, length-chunk-codes, chunk-most}
 
 -- "w bits each, lowest bit first, filling each byte from its lowest bit, with zero bits to the next byte", read literally
 pub codes-lie-lowest-bit-first : (w : ℕ) (cs : List ℕ) → Below (2 ^ w) cs

@@ -25,13 +25,13 @@ use Rattle.stream.specs.declared.answers.Answer.the-variants.{Done, Refu
 use Rattle.stream.specs.declared.answers.Step.the-variants.{Pass, Stop}
 use Rattle.stream.specs.declared.chunk.ChunkAnswer.the-variants.{Good}
 use Rattle.stream.specs.declared.header.Header.{Header}
-use Rattle.stream.proofs.Law.Truth.{le-or-lt}
-use Rattle.stream.proofs.Law.Agreed.{refused-stop}
-use Rattle.stream.proofs.Law.Pieces.{end-most}
-use Rattle.stream.proofs.Law.Answering.{rows-pass, room-enough, length-stream, length-done, pack-done}
-use Rattle.stream.proofs.Law.Admitted.{plain-sent, bytes-sent, header-words, header-read, setting-kept, layout-kept, chunk-table-kept, side-table-kept, chunks-kept, values-read, check-pass, check-stop, unpack-pass, unpack-stop, probe-pass, probe-stop}
-use Rattle.stream.proofs.Law.Settings.{made-allowed, storable}
-use Rattle.stream.proofs.Law.Returning.{lossless-back, tolerance-back, special-back}
+use Rattle.stream.proofs.Law.Plain.Truth.{le-or-lt}
+use Rattle.stream.proofs.Law.Values.ThreeReaders.{refused-stop}
+use Rattle.stream.proofs.Law.Written.Pieces.{end-most}
+use Rattle.stream.proofs.Law.Rows.Packing.{rows-pass, room-enough, length-stream, length-done, pack-done}
+use Rattle.stream.proofs.Law.ReadBack.Readers.{plain-sent, bytes-sent, header-words, header-read, setting-kept, layout-kept, chunk-table-kept, side-table-kept, chunks-kept, values-read, check-pass, check-stop, unpack-pass, unpack-stop, probe-pass, probe-stop}
+use Rattle.stream.proofs.Law.Setting.Allowed.{made-allowed, storable}
+use Rattle.stream.proofs.Law.ReadBack.Values.{lossless-back, tolerance-back, special-back}
 
 -- Demand 1: a refused pack has written nothing.
 pub refused-pack-untouched : (W level mode : ℕ) (k : ℤ) (vs out : List ℕ) (number detail : ℕ)

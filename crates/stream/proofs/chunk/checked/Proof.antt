@@ -1,7 +1,7 @@
 -- `stream::chunk::checked` meets its contract. The invariant: what is left of the bytes decides what the whole chunk answers.
-use Prim.Native.Nat.{ℕ, _+_, _-_, _≤_, _<_, min}
-use Rattle.stream.proofs.Law.Settings.{width-most}
-use Rattle.stream.proofs.Law.Walking.{bad-means, good-means, good-length, part-is, found, found-bad, found-good, found-over, found-end, within-bytes}
+use Prim.Native.Nat.{ℕ, _+_, _≤_, _<_}
+use Rattle.stream.proofs.Law.Setting.Allowed.{width-most}
+use Rattle.stream.proofs.Law.Chunk.Checking.{bad-means, good-means, good-length, part-is, found, found-bad, found-good, found-over, found-end, within-bytes}
 use Rattle.stream.specs.Chunk.{chunkAnswer}
 use Rattle.stream.specs.Group.{groupLength, goodGroup, groupAnswer}
 use Rattle.stream.specs.Setting.{limitOf, groupSize}

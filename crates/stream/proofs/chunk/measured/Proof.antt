@@ -1,11 +1,10 @@
 -- `stream::chunk::measured` meets its contract. The invariant: the bytes counted so far, and those of the codes left, are all of them.
 use Prim.Native.Nat.{ℕ, _+_, _-_, _≤_, _<_}
-use Rattle.stream.proofs.Law.Lending.{length-lent, lent-small}
-use Rattle.stream.proofs.Law.Stepping.{bytesAfter, full-counted, last-counted, none-after}
+use Rattle.stream.proofs.Law.Lent.Codes.{length-lent, lent-small}
+use Rattle.stream.proofs.Law.Chunk.BytesLeft.{bytesAfter, full-counted, last-counted, none-after}
 use Rattle.stream.specs.Chunk.{chunkBytes}
 use Rattle.stream.specs.Group.{groupBytes}
 use Rattle.stream.specs.Lent.{lentCodes}
-use Rattle.stream.specs.Setting.{groupSize}
 use borrow.Author.Needs.{needs}
 use lib.ListN.{length, take, drop}
 use mathlib.Core.List.{List}

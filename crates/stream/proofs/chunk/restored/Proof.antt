@@ -1,11 +1,11 @@
 -- `stream::chunk::restored` meets its contract. The invariant: the codes put so far, and those that the bytes left give, are all of them. Then all patterns are put at once.
 use Prim.Native.Nat.{ℕ, _-_, _+_, _≤_, _<_, min}
-use Rattle.stream.proofs.Law.Appending.{Appended, nothing-yet, same-room, one-landed, all-there}
-use Rattle.stream.proofs.Law.Beginning.{Going, starts-going, going-inside, going-wide, going-whole, goes, codes-next}
-use Rattle.stream.proofs.Law.Chunk.{codes-none, length-chunk-codes}
-use Rattle.stream.proofs.Law.Group.{length-codes}
-use Rattle.stream.proofs.Law.Settings.{size-some}
-use Rattle.stream.proofs.Law.Walking.{part-is}
+use Rattle.stream.proofs.Law.Plain.Appended.{Appended, nothing-yet, same-room, one-landed, all-there}
+use Rattle.stream.proofs.Law.Chunk.LongerBytes.{Going, starts-going, going-inside, going-wide, going-whole, goes, codes-next}
+use Rattle.stream.proofs.Law.Chunk.Groups.{codes-none, length-chunk-codes}
+use Rattle.stream.proofs.Law.Group.RoundTrip.{length-codes}
+use Rattle.stream.proofs.Law.Setting.Allowed.{size-some}
+use Rattle.stream.proofs.Law.Chunk.Checking.{part-is}
 use Rattle.stream.specs.Chunk.{chunkCodes}
 use Rattle.stream.specs.Group.{givenWidth, groupLength, groupCodes}
 use Rattle.stream.specs.Lent.{chosen, landed}
@@ -14,7 +14,7 @@ use Rattle.stream.specs.declared.setting.Setting.{Setting}
 use borrow.Author.Needs.{needs}
 use lib.ListN.{length, take, drop}
 use lib.Seq.{take-at}
-use mathlib.Core.List.{List, [], _++_}
+use mathlib.Core.List.{List, _++_}
 use mathlib.Core.Path.{_≡_, refl, sym, ap, _∙_}
 use native.Mathlib.Nat.{zero-add}
 use native.Mathlib.Omega.{arith}

@@ -1,8 +1,8 @@
 -- `stream::chunk::value` meets its contract. The invariant: the value at `index` of what is left is the value that is asked for.
 use Prim.Native.Nat.{ℕ, _+_, _-_, _≤_, _<_, min}
-use Rattle.stream.proofs.Law.Restoring.{Onward, starts-onward, part-opens, next-below, goes-on, behind-next, within-next}
-use Rattle.stream.proofs.Law.Settings.{size-some, width-most}
-use Rattle.stream.proofs.Law.Walking.{part-is}
+use Rattle.stream.proofs.Law.Chunk.Restoring.{Onward, starts-onward, part-opens, next-below, goes-on, behind-next, within-next}
+use Rattle.stream.proofs.Law.Setting.Allowed.{size-some, width-most}
+use Rattle.stream.proofs.Law.Chunk.Checking.{part-is}
 use Rattle.stream.specs.Chunk.{chunkCodes}
 use Rattle.stream.specs.Group.{groupLength, groupCodes}
 use Rattle.stream.specs.Setting.{groupSize, patternAt, patternsOf, limitOf}

@@ -1,8 +1,8 @@
 -- `stream::chunk::written` meets its contract. The invariant: the bytes put so far, and those of the codes left, are all of them; the scratch stays as it was staged.
 use Prim.Native.Nat.{ℕ, _+_, _-_, _≤_, _<_}
-use Rattle.stream.proofs.Law.Appending.{Appended, nothing-yet, within, same-room, lent-room, one-piece, all-there}
-use Rattle.stream.proofs.Law.Lending.{length-lent}
-use Rattle.stream.proofs.Law.Stepping.{bytesAfter, full-after, full-fits, last-after, last-fits, none-after}
+use Rattle.stream.proofs.Law.Plain.Appended.{Appended, nothing-yet, within, same-room, lent-room, one-piece, all-there}
+use Rattle.stream.proofs.Law.Lent.Codes.{length-lent}
+use Rattle.stream.proofs.Law.Chunk.BytesLeft.{bytesAfter, full-after, full-fits, last-after, last-fits, none-after}
 use Rattle.stream.specs.Chunk.{chunkBytes}
 use Rattle.stream.specs.Group.{groupBytes}
 use Rattle.stream.specs.Lent.{lentCodes}
@@ -11,7 +11,7 @@ use borrow.Author.Needs.{needs}
 use borrow.Rule.Slice.PartMut.{putMid}
 use lib.ListN.{length, take, drop}
 use mathlib.Core.List.{List, [], _++_}
-use mathlib.Core.Path.{_≡_, sym, ap, subst, _∙_}
+use mathlib.Core.Path.{_≡_, sym, ap, _∙_}
 use native.Mathlib.Nat.{le-trans, le-of-eq}
 use native.Mathlib.Omega.{arith}
 use Rattle.stream.proofs.chunk.written.Statement.{statement}

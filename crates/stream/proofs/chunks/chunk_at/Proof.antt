@@ -1,7 +1,7 @@
 -- `stream::chunks::chunk_at` meets its contract.
 use native.Mathlib.Omega.{arith}
 use lib.ListN.{length}
-use Rattle.stream.proofs.Law.Starts.{placed, ends-are}
+use Rattle.stream.proofs.Law.Tables.Starts.{placed, ends-are}
 use borrow.Author.Needs.{needs}
 use Rattle.stream.proofs.chunks.chunk_at.Statement.{statement}
 use Rattle.stream.proofs.chunks.chunk_at.Tie as tie

@@ -1,11 +1,11 @@
 -- `stream::chunks::chunk_on` meets its contract.
-use mathlib.Core.Path.{_≡_, ap, _∙_}
+use mathlib.Core.Path.{ap, _∙_}
 use Prim.Native.Nat.{ℕ, _+_, _≤_}
 use native.Mathlib.Omega.{arith}
 use lib.ListN.{length, drop}
 use borrow.Author.Needs.{needs}
-use Rattle.stream.proofs.Law.Starts.{placed}
-use Rattle.stream.proofs.Law.Walking.{part-is}
+use Rattle.stream.proofs.Law.Tables.Starts.{placed}
+use Rattle.stream.proofs.Law.Chunk.Checking.{part-is}
 use Rattle.stream.proofs.chunks.chunk_on.Statement.{statement}
 use Rattle.stream.proofs.chunks.chunk_on.Tie as tie
 

@@ -1,5 +1,5 @@
 -- `stream::chunks::chunk_step` meets its contract.
-use Rattle.stream.proofs.Law.Contents.{found-is, good-row, bad-row}
+use Rattle.stream.proofs.Law.Rows.Chunks.{found-is, good-row, bad-row}
 use Rattle.stream.specs.Stream.{chunkState}
 use Rattle.stream.specs.declared.chunk.ChunkAnswer.{ChunkAnswer}
 use borrow.Author.Needs.{needs}

@@ -1,5 +1,5 @@
 -- `stream::chunks::chunk_steps` meets its contract.
-use Rattle.stream.proofs.Law.Scan.{all-left, rows-on, rows-stop, rows-done}
+use Rattle.stream.proofs.Law.Plain.Scan.{all-left, rows-on, rows-stop, rows-done}
 use borrow.Author.Needs.{needs}
 use Rattle.stream.specs.Operations.{chunkRow, chunkRows}
 use Rattle.stream.specs.Rows.{rowsFrom, first}

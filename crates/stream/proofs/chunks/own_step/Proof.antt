@@ -1,6 +1,6 @@
 -- `stream::chunks::own_step` meets its contract.
-use Rattle.stream.proofs.Law.Accepted.{tables}
-use Rattle.stream.proofs.Law.Order.{opened, shut}
+use Rattle.stream.proofs.Law.Rows.Passed.{tables}
+use Rattle.stream.proofs.Law.Rows.First.{opened, shut}
 use Rattle.stream.specs.Operations.{tableRows, chunkRow, ownRows}
 use native.Mathlib.Omega.{arith}
 use Prim.Native.Nat.{_/_}

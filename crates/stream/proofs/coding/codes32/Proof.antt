@@ -7,7 +7,7 @@ use lib.ListN.{length, take, set, length-set}
 use lib.Seq.{take-length}
 use borrow.Author.Needs.{needs}
 use Rattle.stream.specs.Setting.{codeAt, codesOf}
-use Rattle.stream.proofs.Law.Coding.{one-mapped}
+use Rattle.stream.proofs.Law.Plain.Mapped.{one-mapped}
 use Rattle.stream.proofs.coding.codes32.Statement.{statement}
 use Rattle.stream.proofs.coding.codes32.Tie as tie
 

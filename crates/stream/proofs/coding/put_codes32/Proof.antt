@@ -1,13 +1,14 @@
 -- `stream::coding::put_codes32` meets its contract. The invariant: the codes of the values passed, and then what was there.
-use mathlib.Core.Path.{_≡_, refl, sym, ap, ap₂, _∙_}
+use mathlib.Core.Path.{_≡_, refl, ap, ap₂, _∙_}
 use mathlib.Core.List.{List, _++_}
-use Prim.Native.Nat.{ℕ, _-_, _+_, _≤_}
+use Prim.Native.Nat.{ℕ, _-_, _≤_}
 use native.Mathlib.Omega.{arith}
 use lib.ListN.{length, take, drop, set}
 use lib.Seq.{take-length}
 use borrow.Author.Needs.{needs}
 use Rattle.stream.specs.Setting.{codeAt, codesOf}
-use Rattle.stream.proofs.Law.Coding.{one-put, length-coded}
+use Rattle.stream.proofs.Law.Plain.Mapped.{one-put}
+use Rattle.stream.proofs.Law.Setting.Codes.{length-coded}
 use Rattle.stream.proofs.coding.put_codes32.Statement.{statement}
 use Rattle.stream.proofs.coding.put_codes32.Tie as tie
 

@@ -1,14 +1,14 @@
 -- `stream::coding::put_patterns32` meets its contract. The invariant: the patterns of the codes passed, and then what was there.
 use mathlib.Core.Path.{_≡_, refl, sym, ap, ap₂, _∙_}
 use mathlib.Core.List.{List, _++_}
-use Prim.Native.Nat.{ℕ, _-_, _+_, _≤_}
+use Prim.Native.Nat.{ℕ, _-_, _≤_}
 use native.Mathlib.Nat.{le-refl}
 use native.Mathlib.Omega.{arith}
-use lib.ListN.{length, take, drop, set}
+use lib.ListN.{take, drop, set}
 use lib.Seq.{take-all, length-take-le, getD-take}
-use borrow.Author.Needs.{needs}
 use Rattle.stream.specs.Setting.{patternAt, patternsOf}
-use Rattle.stream.proofs.Law.Coding.{one-put, length-filled}
+use Rattle.stream.proofs.Law.Plain.Mapped.{one-put}
+use Rattle.stream.proofs.Law.Setting.Codes.{length-filled}
 use Rattle.stream.proofs.coding.put_patterns32.Statement.{statement}
 use Rattle.stream.proofs.coding.put_patterns32.Tie as tie
 

@@ -6,7 +6,7 @@ use native.Mathlib.Omega.{arith}
 use lib.ListN.{length, take, getD, length-set}
 use lib.Seq.{take-all}
 use borrow.Author.Needs.{needs}
-use Rattle.stream.proofs.Law.Coding.{one-copied}
+use Rattle.stream.proofs.Law.Plain.Mapped.{one-copied}
 use Rattle.stream.proofs.coding.widened.Statement.{statement}
 use Rattle.stream.proofs.coding.widened.Tie as tie
 

@@ -8,7 +8,7 @@ use native.Mathlib.Omega.{arith}
 use lib.ListN.{take}
 use lib.Seq.{length-take-le}
 use Rattle.stream.specs.Group.{bytesFor, widthOf}
-use Rattle.stream.proofs.Law.Group.{length-group}
+use Rattle.stream.proofs.Law.Group.RoundTrip.{length-group}
 use borrow.Author.Needs.{needs}
 use Rattle.stream.proofs.group.measured.Statement.{statement}
 use Rattle.stream.proofs.group.measured.Tie as tie

@@ -10,7 +10,7 @@ use lib.Ieee.{size}
 use lib.ListN.{length, take, getD}
 use lib.Seq.{take-suc, take-length}
 use Rattle.stream.specs.Group.{widthOf, largest}
-use Rattle.stream.proofs.Law.Width.{or-width, size-leading}
+use Rattle.stream.proofs.Law.Group.Width.{or-width, size-leading}
 use Rattle.stream.proofs.group.width.Statement.{statement}
 use Rattle.stream.proofs.group.width.Tie as tie
 

@@ -10,8 +10,8 @@ use native.Mathlib.Omega.{arith}
 use borrow.Author.Tests.{eq-eqb, eqb-true, not-true, not-false}
 use lib.ListN.{length}
 use Rattle.stream.specs.Group.{bytesFor, widthOf, givenWidth, groupLength, groupNumber, groupCodes}
-use Rattle.stream.proofs.Law.Exact.{within-limited, limited-within}
-use Rattle.stream.proofs.Law.Checking.{padding, unpadded-zero, zero-unpadded, bad-answer, good-answer, zero-length, zero-good}
+use Rattle.stream.proofs.Law.Group.Exact.{within-limited, limited-within}
+use Rattle.stream.proofs.Law.Group.Checking.{padding, unpadded-zero, zero-unpadded, bad-answer, good-answer, zero-length, zero-good}
 use borrow.Author.Needs.{needs}
 use Rattle.stream.proofs.group_checked.checked.Statement.{statement}
 use Rattle.stream.proofs.group_checked.checked.Tie as tie

@@ -7,7 +7,7 @@ use native.Mathlib.Nat.{mod-lt, lt-of-lt-of-le}
 use lib.Count.{leadingZeros, leading-le}
 use lib.Dec.{eqb, lit<}
 use lib.Pow.{pow-add, pow-pos, pow-mono, shl-exact}
-use Rattle.stream.proofs.Law.Width.{full-width, size-leading}
+use Rattle.stream.proofs.Law.Group.Width.{full-width, size-leading}
 use borrow.Author.Needs.{needs}
 use Rattle.stream.proofs.group_checked.full_width.Statement.{statement}
 use Rattle.stream.proofs.group_checked.full_width.Tie as tie

@@ -8,9 +8,9 @@ use native.Mathlib.Omega.{arith}
 use lib.Pow.{pow-pos}
 use Rattle.stream.specs.Bytes.{Below}
 use Rattle.stream.specs.Group.{within, groupCodes}
-use Rattle.stream.proofs.Law.Group.{codes-below}
-use Rattle.stream.proofs.Law.Exact.{limited-within}
-use Rattle.stream.proofs.Law.Checking.{high-one, narrow-limited}
+use Rattle.stream.proofs.Law.Group.RoundTrip.{codes-below}
+use Rattle.stream.proofs.Law.Group.Exact.{limited-within}
+use Rattle.stream.proofs.Law.Group.Checking.{high-one, narrow-limited}
 use borrow.Author.Needs.{needs}
 use Rattle.stream.proofs.group_checked.limit_kept.Statement.{statement}
 use Rattle.stream.proofs.group_checked.limit_kept.Tie as tie

@@ -10,11 +10,11 @@ use borrow.Author.Count.{below-none, below-more}
 use lib.ListN.{getD}
 use Rattle.stream.specs.Bytes.{number}
 use Rattle.stream.specs.Group.{within, groupCodes}
-use Rattle.stream.proofs.Law.Bytes.{everywhere}
-use Rattle.stream.proofs.Law.Group.{length-codes}
-use Rattle.stream.proofs.Law.Exact.{within-limited, limited-within}
-use Rattle.stream.proofs.Law.Reading.{code-at-bit}
-use Rattle.stream.proofs.Law.Checking.{untrue}
+use Rattle.stream.proofs.Law.Plain.Digits.{everywhere}
+use Rattle.stream.proofs.Law.Group.RoundTrip.{length-codes}
+use Rattle.stream.proofs.Law.Group.Exact.{within-limited, limited-within}
+use Rattle.stream.proofs.Law.Group.Reading.{code-at-bit}
+use Rattle.stream.proofs.Law.Group.Checking.{untrue}
 use Rattle.stream.proofs.group_checked.limited_in_place.Statement.{statement}
 use Rattle.stream.proofs.group_checked.limited_in_place.Tie as tie
 

@@ -13,9 +13,9 @@ use lib.ListN.{getD}
 use lib.Pow.{pow-pos}
 use Rattle.stream.specs.Bytes.{Below}
 use Rattle.stream.specs.Group.{bytesFor, widthOf, groupLength, groupCodes}
-use Rattle.stream.proofs.Law.Bytes.{everywhere}
-use Rattle.stream.proofs.Law.Group.{length-codes, codes-below}
-use Rattle.stream.proofs.Law.Checking.{tall, flat, top-bit, high-set, high-unset}
+use Rattle.stream.proofs.Law.Plain.Digits.{everywhere}
+use Rattle.stream.proofs.Law.Group.RoundTrip.{length-codes, codes-below}
+use Rattle.stream.proofs.Law.Group.Checking.{tall, flat, top-bit, high-set, high-unset}
 use Rattle.stream.proofs.group_checked.reached.Statement.{statement}
 use Rattle.stream.proofs.group_checked.reached.Tie as tie
 

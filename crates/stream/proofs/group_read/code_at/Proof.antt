@@ -3,7 +3,7 @@
 use mathlib.Core.Path.{ap, ap₂, _∙_}
 use Prim.Native.Nat.{ℕ, _+_, _-_, _*_, _/_, _%_, _^_}
 use lib.Bits.{bitAnd}
-use Rattle.stream.proofs.Law.Reading.{code-in-word, code-past-word, joined-fits}
+use Rattle.stream.proofs.Law.Group.Reading.{code-in-word, code-past-word, joined-fits}
 use borrow.Author.Needs.{needs}
 use Rattle.stream.proofs.group_read.code_at.Statement.{statement}
 use Rattle.stream.proofs.group_read.code_at.Tie as tie

@@ -6,7 +6,7 @@ use native.Mathlib.Nat.{mul-le-mul}
 use native.Mathlib.Omega.{arith}
 use Rattle.stream.specs.Bytes.{number, digits}
 use Rattle.stream.specs.Group.{givenWidth, groupLength, groupCodes}
-use Rattle.stream.proofs.Law.Reading.{codes-from, no-bits, take-replicate}
+use Rattle.stream.proofs.Law.Group.Reading.{codes-from, no-bits, take-replicate}
 use borrow.Author.Needs.{needs}
 use Rattle.stream.proofs.group_read.codes_of.Statement.{statement}
 use Rattle.stream.proofs.group_read.codes_of.Tie as tie

@@ -2,7 +2,7 @@
 -- Assumes nothing.
 use mathlib.Core.Path.{sym, ap₂, _∙_}
 use Prim.Native.Nat.{ℕ, _+_, _*_}
-use Rattle.stream.proofs.Law.Reading.{load-halves}
+use Rattle.stream.proofs.Law.Group.Reading.{load-halves}
 use borrow.Author.Needs.{needs}
 use Rattle.stream.proofs.group_read.load.Statement.{statement}
 use Rattle.stream.proofs.group_read.load.Tie as tie

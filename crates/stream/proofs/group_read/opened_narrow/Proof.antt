@@ -9,7 +9,7 @@ use native.Mathlib.Omega.{arith}
 use lib.Bits.{bitAnd}
 use lib.ListN.{length, take, set, length-set}
 use Rattle.stream.specs.Bytes.{number, digits}
-use Rattle.stream.proofs.Law.Reading.{code-in-word, one-code}
+use Rattle.stream.proofs.Law.Group.Reading.{code-in-word, one-code}
 use borrow.Author.Needs.{needs}
 use Rattle.stream.proofs.group_read.opened_narrow.Statement.{statement}
 use Rattle.stream.proofs.group_read.opened_narrow.Tie as tie

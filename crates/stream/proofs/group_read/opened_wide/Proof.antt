@@ -8,7 +8,7 @@ use native.Mathlib.Numerals.{add-one}
 use native.Mathlib.Omega.{arith}
 use lib.ListN.{length, take, set, length-set}
 use Rattle.stream.specs.Bytes.{number, digits}
-use Rattle.stream.proofs.Law.Reading.{one-code}
+use Rattle.stream.proofs.Law.Group.Reading.{one-code}
 use Rattle.stream.proofs.group_read.opened_wide.Statement.{statement}
 use Rattle.stream.proofs.group_read.opened_wide.Tie as tie
 

@@ -3,7 +3,7 @@
 use mathlib.Core.Path.{sym, ap₂, _∙_}
 use mathlib.Core.List.{List}
 use Prim.Native.Nat.{ℕ, _+_, _*_}
-use Rattle.stream.proofs.Law.Reading.{load-byte, load-halves}
+use Rattle.stream.proofs.Law.Group.Reading.{load-byte, load-halves}
 use borrow.Author.Needs.{needs}
 use Rattle.stream.proofs.group_read.pair.Statement.{statement}
 use Rattle.stream.proofs.group_read.pair.Tie as tie

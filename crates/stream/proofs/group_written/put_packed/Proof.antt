@@ -7,8 +7,8 @@ use native.Mathlib.Omega.{arith}
 use lib.ListN.{length, take, drop}
 use Rattle.stream.specs.Bytes.{digits}
 use Rattle.stream.specs.Group.{bytesFor, packed}
-use Rattle.stream.proofs.Law.Group.{bytes-none, packed-none}
-use Rattle.stream.proofs.Law.Writing.{end-is, finished}
+use Rattle.stream.proofs.Law.Group.RoundTrip.{bytes-none, packed-none}
+use Rattle.stream.proofs.Law.Group.Writing.{end-is, finished}
 use borrow.Author.Needs.{needs}
 use Rattle.stream.proofs.group_written.put_packed.Statement.{statement}
 use Rattle.stream.proofs.group_written.put_packed.Tie as tie

@@ -1,7 +1,7 @@
 -- `joined` meets its contract.
 -- Assumes nothing.
 use native.Mathlib.Omega.{arith}
-use Rattle.stream.proofs.Law.Pairing.{side-by-side, side-by-side-fits}
+use Rattle.stream.proofs.Law.Group.Pairs.{side-by-side, side-by-side-fits}
 use borrow.Author.Needs.{needs}
 use Rattle.stream.proofs.group_written.side_by_side.Statement.{statement}
 use Rattle.stream.proofs.group_written.side_by_side.Tie as tie

@@ -10,8 +10,8 @@ use lib.ListN.{length, drop, set, length-set, length-drop}
 use lib.Seq.{drop-drop}
 use borrow.Rule.Slice.PartMut.{same-len-mid}
 use Rattle.stream.specs.Group.{bytesFor, widthOf, packed, groupBytes}
-use Rattle.stream.proofs.Law.Group.{length-group, width-holds}
-use Rattle.stream.proofs.Law.Parts.{behind-first, first-back}
+use Rattle.stream.proofs.Law.Group.RoundTrip.{length-group, width-holds}
+use Rattle.stream.proofs.Law.Plain.Parts.{behind-first, first-back}
 use borrow.Author.Needs.{needs}
 use Rattle.stream.proofs.group_written.spelled.Statement.{statement}
 use Rattle.stream.proofs.group_written.spelled.Tie as tie

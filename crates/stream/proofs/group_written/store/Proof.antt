@@ -2,7 +2,7 @@
 -- Assumes nothing.
 use native.Mathlib.Omega.{arith}
 use lib.ListN.{length-set}
-use Rattle.stream.proofs.Law.Writing.{eight-stores}
+use Rattle.stream.proofs.Law.Group.Writing.{eight-stores}
 use borrow.Author.Needs.{needs}
 use Rattle.stream.proofs.group_written.store.Statement.{statement}
 use Rattle.stream.proofs.group_written.store.Tie as tie

@@ -7,8 +7,8 @@ use native.Mathlib.Omega.{arith}
 use lib.ListN.{length, take, getD}
 use lib.Seq.{take-suc, take-length, length-take-le}
 use Rattle.stream.specs.Partway.{Partway}
-use Rattle.stream.proofs.Law.Bytes.{below-take}
-use Rattle.stream.proofs.Law.Writing.{started, kept, flushed, word-fits, flush-room}
+use Rattle.stream.proofs.Law.Plain.Digits.{below-take}
+use Rattle.stream.proofs.Law.Group.Writing.{started, kept, flushed, word-fits, flush-room}
 use Rattle.stream.proofs.group_written.words_by_one.Statement.{statement}
 use Rattle.stream.proofs.group_written.words_by_one.Tie as tie
 

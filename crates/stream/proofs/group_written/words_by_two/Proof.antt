@@ -9,9 +9,9 @@ use lib.Pow.{pow-pos}
 use Rattle.stream.specs.Bytes.{number, digits}
 use Rattle.stream.specs.Group.{bytesFor}
 use Rattle.stream.specs.Partway.{Partway}
-use Rattle.stream.proofs.Law.Bytes.{length-digits, digits-below}
-use Rattle.stream.proofs.Law.Writing.{started, kept, flushed, word-fits, flush-room}
-use Rattle.stream.proofs.Law.Pairing.{pair-below, next-pair, paired}
+use Rattle.stream.proofs.Law.Plain.Digits.{length-digits, digits-below}
+use Rattle.stream.proofs.Law.Group.Writing.{started, kept, flushed, word-fits, flush-room}
+use Rattle.stream.proofs.Law.Group.Pairs.{pair-below, next-pair, paired}
 use Rattle.stream.proofs.group_written.words_by_two.Statement.{statement}
 use Rattle.stream.proofs.group_written.words_by_two.Tie as tie
 

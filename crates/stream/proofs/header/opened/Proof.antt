@@ -1,6 +1,5 @@
 -- `stream::header::opened` meets its contract.
-use Rattle.stream.proofs.Law.Places.{words}
-use Rattle.stream.specs.Header.{headerOf}
+use Rattle.stream.proofs.Law.Header.Numbers.{words}
 use Rattle.stream.specs.Opening.{openedBy}
 use Rattle.stream.specs.Operations.{openingRows, headerRows}
 use Rattle.stream.specs.Relied.{Words}

@@ -1,7 +1,6 @@
 -- `stream::header::opening_of` meets its contract.
 use Rattle.stream.specs.Opening.{openedBy}
 use borrow.Author.Needs.{needs}
-use mathlib.Core.Path.{_≡_, ap}
 use Rattle.stream.proofs.header.opening_of.Statement.{statement}
 use Rattle.stream.proofs.header.opening_of.Tie as tie
 

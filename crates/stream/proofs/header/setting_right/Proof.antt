@@ -1,12 +1,10 @@
 -- `stream::header::setting_right` meets its contract. A setting that is not allowed is refused before its need is asked for.
-use Rattle.stream.proofs.Law.Truth.{and-false, and-true}
+use Rattle.stream.proofs.Law.Plain.Truth.{and-false, and-true}
 use Rattle.stream.specs.Header.{kOf, settingIn, needRight, settingRight}
 use Rattle.stream.specs.Setting.{knownWidth, allowedSetting, settingOf, need}
-use Rattle.stream.specs.declared.setting.Setting.{Setting}
 use borrow.Author.Needs.{needs}
 use borrow.Author.Tests.{not-true, not-false}
-use lib.IntN.{ℤ}
-use mathlib.Core.Bool.{Bool, true, false, _&&_}
+use mathlib.Core.Bool.{true, _&&_}
 use mathlib.Core.Path.{_≡_, sym, ap, _∙_}
 use mir.Facts.{toZ-ofZ}
 use mir.Val.{toZ, ofZ}

@@ -1,5 +1,5 @@
 -- `stream::header::word_at` meets its contract.
-use Rattle.stream.proofs.Law.Places.{word-is}
+use Rattle.stream.proofs.Law.Header.Numbers.{word-is}
 use native.Mathlib.Omega.{arith}
 use borrow.Author.Needs.{needs}
 use Rattle.stream.proofs.header.word_at.Statement.{statement}

@@ -1,12 +1,12 @@
 -- `stream::lent::coded` meets its contract: a part of the list of the width, coded at that width, or of the codes that stand in the scratch.
-use mathlib.Core.Path.{_≡_, sym, ap, _∙_}
+use mathlib.Core.Path.{ap, _∙_}
 use Prim.Native.Nat.{_-_, _≤_}
 use native.Mathlib.Omega.{arith}
 use lib.ListN.{length, length-take, length-drop}
 use borrow.Author.Needs.{needs}
-use Rattle.stream.proofs.Law.Chosen.{at-32, at-other}
-use Rattle.stream.proofs.Law.Settings.{width-other}
-use Rattle.stream.proofs.Law.Lending.{lent-32, lent-64, lent-staged}
+use Rattle.stream.proofs.Law.Lent.Chosen.{at-32, at-other}
+use Rattle.stream.proofs.Law.Setting.Allowed.{width-other}
+use Rattle.stream.proofs.Law.Lent.Codes.{lent-32, lent-64, lent-staged}
 use Rattle.stream.proofs.lent.coded.Statement.{statement}
 use Rattle.stream.proofs.lent.coded.Tie as tie
 

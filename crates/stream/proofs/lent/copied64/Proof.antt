@@ -3,9 +3,8 @@ use mathlib.Core.Path.{_≡_, refl, ap, _∙_}
 use mathlib.Core.List.{List, _++_}
 use Prim.Native.Nat.{ℕ, _-_, _≤_}
 use native.Mathlib.Omega.{arith}
-use lib.ListN.{length, take, drop, getD, set}
-use borrow.Author.Needs.{needs}
-use Rattle.stream.proofs.Law.Coding.{one-over, length-over}
+use lib.ListN.{take, drop, getD, set}
+use Rattle.stream.proofs.Law.Plain.Mapped.{one-over, length-over}
 use Rattle.stream.proofs.lent.copied64.Statement.{statement}
 use Rattle.stream.proofs.lent.copied64.Tie as tie
 

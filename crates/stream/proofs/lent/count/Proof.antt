@@ -1,7 +1,7 @@
 -- `stream::lent::count` meets its contract.
 use mathlib.Core.Path.{sym, ap}
 use lib.ListN.{length}
-use Rattle.stream.proofs.Law.Chosen.{at-32, at-other}
+use Rattle.stream.proofs.Law.Lent.Chosen.{at-32, at-other}
 use Rattle.stream.proofs.lent.count.Statement.{statement}
 use Rattle.stream.proofs.lent.count.Tie as tie
 

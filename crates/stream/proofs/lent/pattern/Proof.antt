@@ -1,8 +1,8 @@
 -- `stream::lent::pattern` meets its contract.
 use Prim.Native.Nat.{ℕ, _^_, _<_}
-use Rattle.stream.proofs.Law.Settings.{width-other}
+use Rattle.stream.proofs.Law.Setting.Allowed.{width-other}
 use borrow.Author.Needs.{needs}
-use mathlib.Core.Path.{_≡_, subst}
+use mathlib.Core.Path.{subst}
 use native.Mathlib.Omega.{arith}
 use Rattle.stream.proofs.lent.pattern.Statement.{statement}
 use Rattle.stream.proofs.lent.pattern.Tie as tie

@@ -7,10 +7,10 @@ use borrow.Author.Needs.{needs}
 use borrow.Rule.Slice.PartMut.{putMid}
 use Rattle.stream.specs.Group.{groupCodes}
 use Rattle.stream.specs.Lent.{chosen, landed}
-use Rattle.stream.proofs.Law.Settings.{width-other}
-use Rattle.stream.proofs.Law.Group.{length-codes}
-use Rattle.stream.proofs.Law.Appending.{landed-mid}
-use Rattle.stream.proofs.Law.Chosen.{at-32, at-other}
+use Rattle.stream.proofs.Law.Setting.Allowed.{width-other}
+use Rattle.stream.proofs.Law.Group.RoundTrip.{length-codes}
+use Rattle.stream.proofs.Law.Plain.Appended.{landed-mid}
+use Rattle.stream.proofs.Law.Lent.Chosen.{at-32, at-other}
 use Rattle.stream.proofs.lent.put_codes.Statement.{statement}
 use Rattle.stream.proofs.lent.put_codes.Tie as tie
 

@@ -1,13 +1,13 @@
 -- `stream::lent::put_codes32` meets its contract: the codes have no more bits than the group says.
-use mathlib.Core.Path.{_≡_, ap, _∙_}
+use mathlib.Core.Path.{ap, _∙_}
 use mathlib.Core.List.{List, _++_}
 use Prim.Native.Nat.{ℕ}
 use native.Mathlib.Nat.{lt-of-lt-of-le}
 use lib.ListN.{drop}
 use lib.Pow.{pow-mono}
 use borrow.Author.Needs.{needs}
-use Rattle.stream.proofs.Law.Group.{codes-below, length-codes}
-use Rattle.stream.proofs.Law.Restoring.{long-enough}
+use Rattle.stream.proofs.Law.Group.RoundTrip.{codes-below, length-codes}
+use Rattle.stream.proofs.Law.Chunk.Restoring.{long-enough}
 use Rattle.stream.proofs.lent.put_codes32.Statement.{statement}
 use Rattle.stream.proofs.lent.put_codes32.Tie as tie
 

@@ -1,13 +1,13 @@
 -- `stream::lent::put_group` meets its contract.
-use Prim.Native.Nat.{ℕ, _+_, _-_, _≤_}
-use Rattle.stream.proofs.Law.Settings.{size-most}
+use Prim.Native.Nat.{ℕ, _+_, _-_}
+use Rattle.stream.proofs.Law.Setting.Allowed.{size-most}
 use Rattle.stream.specs.Group.{groupBytes}
 use Rattle.stream.specs.Lent.{lentCodes}
 use Rattle.stream.specs.Setting.{groupSize}
 use borrow.Author.Needs.{needs}
 use lib.ListN.{length, take, drop}
 use mathlib.Core.List.{List, _++_}
-use mathlib.Core.Path.{_≡_, ap, sym, _∙_}
+use mathlib.Core.Path.{_≡_, ap, _∙_}
 use native.Mathlib.Omega.{arith}
 use Rattle.stream.proofs.lent.put_group.Statement.{statement}
 use Rattle.stream.proofs.lent.put_group.Tie as tie

@@ -1,10 +1,10 @@
 -- `stream::lent::put_patterns` meets its contract: by the function of the width.
-use mathlib.Core.Path.{_≡_, ap, _∙_}
+use mathlib.Core.Path.{ap, _∙_}
 use native.Mathlib.Omega.{arith}
 use lib.ListN.{length}
 use borrow.Author.Needs.{needs}
-use Rattle.stream.proofs.Law.Chosen.{at-32, at-other, patterns-32, patterns-64}
-use Rattle.stream.proofs.Law.Settings.{width-other}
+use Rattle.stream.proofs.Law.Lent.Chosen.{at-32, at-other, patterns-32, patterns-64}
+use Rattle.stream.proofs.Law.Setting.Allowed.{width-other}
 use Rattle.stream.proofs.lent.put_patterns.Statement.{statement}
 use Rattle.stream.proofs.lent.put_patterns.Tie as tie
 

@@ -1,6 +1,6 @@
 -- `stream::lent::stage` meets its contract: at width 32, but for mode 0, the codes are put; else nothing is promised.
 use borrow.Author.Needs.{needs}
-use Rattle.stream.proofs.Law.Lending.{staged-front}
+use Rattle.stream.proofs.Law.Lent.Codes.{staged-front}
 use Rattle.stream.proofs.lent.stage.Statement.{statement}
 use Rattle.stream.proofs.lent.stage.Tie as tie
 

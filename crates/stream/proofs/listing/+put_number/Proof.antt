@@ -2,7 +2,7 @@
 use mathlib.Core.Path.{sym}
 use borrow.Author.Needs.{needs}
 use native.Mathlib.Omega.{arith}
-use Rattle.stream.proofs.Law.ListingText.{small, more, one-digit, digit-more, same-piece, and-then}
+use Rattle.stream.proofs.Law.Listing.Text.{small, more, one-digit, digit-more, same-piece, and-then}
 use Prim.Native.Nat.{ℕ, _<_}
 use borrow.Fn.Kinds.{In}
 use borrow.Fn.PlainCycle.{Measures, is, falls, and}

@@ -1,5 +1,5 @@
 -- `stream::listing::listing` meets its contract.
-use Rattle.stream.proofs.Law.Listing.{whole}
+use Rattle.stream.proofs.Law.Listing.Lines.{whole}
 use native.Mathlib.Omega.{arith}
 use borrow.Author.Needs.{needs}
 use Rattle.stream.proofs.listing.listing.Statement.{statement}

@@ -1,5 +1,5 @@
 -- `stream::listing::put_byte` meets its contract.
-use Rattle.stream.proofs.Law.ListingText.{one-byte}
+use Rattle.stream.proofs.Law.Listing.Text.{one-byte}
 use borrow.Author.Needs.{needs}
 use Rattle.stream.proofs.listing.put_byte.Statement.{statement}
 use Rattle.stream.proofs.listing.put_byte.Tie as tie

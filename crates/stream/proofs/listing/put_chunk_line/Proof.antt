@@ -1,9 +1,9 @@
 -- `stream::listing::put_chunk_line` meets its contract.
 use native.Mathlib.Omega.{arith}
 use Rattle.stream.specs.Listing.{chunkWord, atWord, bytesWord, groupsWord, newline}
-use Rattle.stream.proofs.Law.ListingText.{and-then, same-piece, within-digits}
-use Rattle.stream.proofs.Law.Listing.{chunk-line-is}
-use Rattle.stream.proofs.Law.Starts.{rising}
+use Rattle.stream.proofs.Law.Listing.Text.{and-then, same-piece, within-digits}
+use Rattle.stream.proofs.Law.Listing.Lines.{chunk-line-is}
+use Rattle.stream.proofs.Law.Tables.Starts.{rising}
 use borrow.Author.Needs.{needs}
 use Rattle.stream.proofs.listing.put_chunk_line.Statement.{statement}
 use Rattle.stream.proofs.listing.put_chunk_line.Tie as tie

@@ -4,8 +4,8 @@ use mathlib.Core.Path.{_≡_, ap}
 use Prim.Native.Nat.{_+_, _-_, _*_, _≤_}
 use Rattle.stream.specs.Stream.{joined}
 use Rattle.stream.specs.Listing.{chunkLine, Appends}
-use Rattle.stream.proofs.Law.ListingText.{nothing-yet, and-then, same-piece, keeps-length}
-use Rattle.stream.proofs.Law.Listing.{one-line-more}
+use Rattle.stream.proofs.Law.Listing.Text.{nothing-yet, and-then, same-piece, keeps-length}
+use Rattle.stream.proofs.Law.Listing.Lines.{one-line-more}
 use Rattle.stream.proofs.listing.put_chunk_lines.Statement.{statement}
 use Rattle.stream.proofs.listing.put_chunk_lines.Tie as tie
 

@@ -1,7 +1,7 @@
 -- `stream::listing::put_count_line` meets its contract.
 use native.Mathlib.Omega.{arith}
 use Rattle.stream.specs.Listing.{valuesWord, chunksWord, sidesWord, newline, countLine}
-use Rattle.stream.proofs.Law.ListingText.{and-then}
+use Rattle.stream.proofs.Law.Listing.Text.{and-then}
 use borrow.Author.Needs.{needs}
 use Rattle.stream.proofs.listing.put_count_line.Statement.{statement}
 use Rattle.stream.proofs.listing.put_count_line.Tie as tie

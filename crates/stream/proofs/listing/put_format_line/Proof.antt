@@ -1,7 +1,7 @@
 -- `stream::listing::put_format_line` meets its contract.
 use native.Mathlib.Omega.{arith}
 use Rattle.stream.specs.Listing.{formatWord, point, needsWord, newline, formatLine}
-use Rattle.stream.proofs.Law.ListingText.{and-then}
+use Rattle.stream.proofs.Law.Listing.Text.{and-then}
 use borrow.Author.Needs.{needs}
 use Rattle.stream.proofs.listing.put_format_line.Statement.{statement}
 use Rattle.stream.proofs.listing.put_format_line.Tie as tie

@@ -1,7 +1,7 @@
 -- `stream::listing::put_labelled` meets its contract.
 use native.Mathlib.Omega.{arith}
 use Rattle.stream.specs.Listing.{labelled}
-use Rattle.stream.proofs.Law.ListingText.{twenty, and-then}
+use Rattle.stream.proofs.Law.Listing.Text.{twenty, and-then}
 use borrow.Author.Needs.{needs}
 use Rattle.stream.proofs.listing.put_labelled.Statement.{statement}
 use Rattle.stream.proofs.listing.put_labelled.Tie as tie

@@ -2,8 +2,8 @@
 use mathlib.Core.Path.{sym, _∙_}
 use native.Mathlib.Omega.{arith}
 use Rattle.stream.specs.Listing.{mostInput, highestLevel, newline, tooLong, answerLines}
-use Rattle.stream.proofs.Law.ListingText.{same-piece}
-use Rattle.stream.proofs.Law.Listing.{accepted, too-long-is, answered-is}
+use Rattle.stream.proofs.Law.Listing.Text.{same-piece}
+use Rattle.stream.proofs.Law.Listing.Lines.{accepted, too-long-is, answered-is}
 use borrow.Author.Needs.{needs}
 use Rattle.stream.proofs.listing.put_listing.Statement.{statement}
 use Rattle.stream.proofs.listing.put_listing.Tie as tie

@@ -1,6 +1,6 @@
 -- `stream::listing::put_refused_line` meets its contract.
 use Rattle.stream.specs.Listing.{refusedWord, detailWord, newline, refusedLine}
-use Rattle.stream.proofs.Law.ListingText.{and-then}
+use Rattle.stream.proofs.Law.Listing.Text.{and-then}
 use borrow.Author.Needs.{needs}
 use Rattle.stream.proofs.listing.put_refused_line.Statement.{statement}
 use Rattle.stream.proofs.listing.put_refused_line.Tie as tie

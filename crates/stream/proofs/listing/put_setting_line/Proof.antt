@@ -4,7 +4,7 @@ use mathlib.Core.Path.{ap, _∙_}
 use mir.Facts.{toZ-ofZ}
 use mir.Syntax.{w32}
 use Rattle.stream.specs.Listing.{signedDecimal, widthWord, modeWord, boundWord, newline, settingLine}
-use Rattle.stream.proofs.Law.ListingText.{and-then, same-piece}
+use Rattle.stream.proofs.Law.Listing.Text.{and-then, same-piece}
 use borrow.Author.Needs.{needs}
 use Rattle.stream.proofs.listing.put_setting_line.Statement.{statement}
 use Rattle.stream.proofs.listing.put_setting_line.Tie as tie

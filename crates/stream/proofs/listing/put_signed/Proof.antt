@@ -1,8 +1,8 @@
 -- `stream::listing::put_signed` meets its contract.
 use native.Mathlib.Omega.{arith}
 use Rattle.stream.specs.Listing.{minus}
-use Rattle.stream.proofs.Law.ListingText.{few-digits, and-then, same-piece}
-use Rattle.stream.proofs.Law.Listing.{negative-is, positive-is}
+use Rattle.stream.proofs.Law.Listing.Text.{few-digits, and-then, same-piece}
+use Rattle.stream.proofs.Law.Listing.Lines.{negative-is, positive-is}
 use borrow.Author.Needs.{needs}
 use Rattle.stream.proofs.listing.put_signed.Statement.{statement}
 use Rattle.stream.proofs.listing.put_signed.Tie as tie

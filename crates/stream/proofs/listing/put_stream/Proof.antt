@@ -3,8 +3,8 @@ use native.Mathlib.Omega.{arith}
 use mathlib.Core.Path.{ap}
 use Rattle.stream.specs.declared.header.Header.{Header}
 use Rattle.stream.specs.Listing.{streamLines}
-use Rattle.stream.proofs.Law.ListingText.{and-then, same-piece}
-use Rattle.stream.proofs.Law.Listing.{as-read}
+use Rattle.stream.proofs.Law.Listing.Text.{and-then, same-piece}
+use Rattle.stream.proofs.Law.Listing.Lines.{as-read}
 use borrow.Author.Needs.{needs}
 use Rattle.stream.proofs.listing.put_stream.Statement.{statement}
 use Rattle.stream.proofs.listing.put_stream.Tie as tie

@@ -4,7 +4,7 @@ use lib.ListN.{length, take}
 use lib.Seq.{take-all, length-take-le}
 use native.Mathlib.Omega.{arith}
 use Rattle.stream.specs.Listing.{Appends}
-use Rattle.stream.proofs.Law.ListingText.{nothing-yet, one-more, same-piece, keeps-length}
+use Rattle.stream.proofs.Law.Listing.Text.{nothing-yet, one-more, same-piece, keeps-length}
 use Rattle.stream.proofs.listing.put_text.Statement.{statement}
 use Rattle.stream.proofs.listing.put_text.Tie as tie
 

@@ -1,12 +1,12 @@
 -- `stream::pack::length32` meets its contract.
-use mathlib.Core.Path.{_≡_, refl, ap, _∙_}
+use mathlib.Core.Path.{refl, ap, _∙_}
 use native.Mathlib.Omega.{arith}
 use lib.IntN.{ℤ}
 use mir.Facts.{toZ-ofZ}
 use borrow.Author.Needs.{needs}
 use Rattle.stream.specs.Lent.{chosen}
 use Rattle.stream.specs.Operations.{lengthAnswer}
-use Rattle.stream.proofs.Law.Widths.{known-32}
+use Rattle.stream.proofs.Law.Setting.Widths.{known-32}
 use Rattle.stream.proofs.pack.length32.Statement.{statement}
 use Rattle.stream.proofs.pack.length32.Tie as tie
 

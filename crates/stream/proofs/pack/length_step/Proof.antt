@@ -5,7 +5,7 @@ use Rattle.stream.specs.Rows.{first}
 use Rattle.stream.specs.Setting.{knownLevel, allowedSetting, settingOf, need}
 use borrow.Author.Needs.{needs}
 use borrow.Author.Tests.{not-true, not-false, lt-ltb, le-ltb}
-use mathlib.Core.Bool.{Bool, true, false}
+use mathlib.Core.Bool.{true}
 use mathlib.Core.Path.{_≡_, sym, ap, _∙_}
 use mir.Facts.{toZ-ofZ}
 use Rattle.stream.proofs.pack.length_step.Statement.{statement}

@@ -1,8 +1,8 @@
 -- `stream::pack::measured` meets its contract. The invariant: where the first j chunks end.
-use Prim.Native.Nat.{ℕ, _+_, _-_, _*_, _≤_, _<_}
-use Rattle.stream.proofs.Law.Chosen.{chosen-below}
-use Rattle.stream.proofs.Law.Lending.{chosen-parts, lent-piece}
-use Rattle.stream.proofs.Law.Pieces.{length-piece, end-start, end-next, end-small}
+use Prim.Native.Nat.{ℕ, _+_, _-_, _*_, _≤_}
+use Rattle.stream.proofs.Law.Lent.Chosen.{chosen-below}
+use Rattle.stream.proofs.Law.Lent.Codes.{chosen-parts, lent-piece}
+use Rattle.stream.proofs.Law.Written.Pieces.{length-piece, end-start, end-next, end-small}
 use Rattle.stream.specs.Header.{chunksIn}
 use Rattle.stream.specs.Lent.{chosen}
 use Rattle.stream.specs.Writing.{endOf}

@@ -1,19 +1,18 @@
 -- `stream::pack::measured_or_refused` meets its contract.
 use Prim.Native.Nat.{ℕ}
-use Rattle.stream.proofs.Law.Answering.{Passed, length-passed, length-refused, length-done}
+use Rattle.stream.proofs.Law.Rows.Packing.{Passed, length-passed, length-refused, length-done}
 use Rattle.stream.specs.Header.{chunksIn}
 use Rattle.stream.specs.Lent.{chosen}
 use Rattle.stream.specs.Operations.{lengthRows}
 use Rattle.stream.specs.Rows.{first}
 use Rattle.stream.specs.Setting.{allowedSetting, settingOf}
 use Rattle.stream.specs.Writing.{endOf}
-use Rattle.stream.specs.declared.answers.Step.the-variants.{Pass}
 use Rattle.stream.specs.declared.setting.Setting.{Setting}
 use borrow.Author.Needs.{needs}
 use lib.IntN.{ℤ}
 use lib.ListN.{length}
 use mathlib.Core.List.{List}
-use mathlib.Core.Path.{_≡_, sym, ap, ap₂, subst, _∙_}
+use mathlib.Core.Path.{_≡_, sym, ap, ap₂, _∙_}
 use mir.Facts.{toZ-ofZ}
 use native.Mathlib.Omega.{arith}
 use Rattle.stream.proofs.pack.measured_or_refused.Statement.{statement}

@@ -1,12 +1,10 @@
 -- `stream::pack::most` meets its contract.
 use Prim.Native.Nat.{ℕ, _+_, _-_, _*_, _/_, _≤_}
-use Rattle.stream.proofs.Law.Settings.{width-most}
+use Rattle.stream.proofs.Law.Setting.Allowed.{width-most}
 use Rattle.stream.specs.Chunk.{groupsIn}
-use Rattle.stream.specs.Header.{chunksIn}
 use Rattle.stream.specs.Packing.{mostBytes}
-use Rattle.stream.specs.Setting.{groupSize}
 use borrow.Author.Needs.{needs}
-use mathlib.Core.Path.{_≡_, ap, ap₂, _∙_}
+use mathlib.Core.Path.{ap₂}
 use native.Mathlib.Nat.{mul-le-mul, div-le-self}
 use native.Mathlib.Omega.{arith}
 use Rattle.stream.proofs.pack.most.Statement.{statement}

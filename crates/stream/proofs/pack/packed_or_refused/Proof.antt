@@ -1,6 +1,6 @@
 -- `stream::pack::packed_or_refused` meets its contract.
 use Prim.Native.Nat.{ℕ, _≤_}
-use Rattle.stream.proofs.Law.Answering.{Passed, length-passed, enough-room, pack-refused, pack-short, pack-done}
+use Rattle.stream.proofs.Law.Rows.Packing.{Passed, length-passed, enough-room, pack-refused, pack-short, pack-done}
 use Rattle.stream.specs.Header.{chunksIn}
 use Rattle.stream.specs.Lent.{chosen}
 use Rattle.stream.specs.Operations.{lengthRows}
@@ -8,7 +8,6 @@ use Rattle.stream.specs.Packing.{shortRow}
 use Rattle.stream.specs.Rows.{first}
 use Rattle.stream.specs.Setting.{allowedSetting, settingOf}
 use Rattle.stream.specs.Writing.{endOf, stream}
-use Rattle.stream.specs.declared.answers.Step.the-variants.{Pass}
 use Rattle.stream.specs.declared.setting.Setting.{Setting}
 use borrow.Author.Needs.{needs}
 use lib.IntN.{ℤ}

@@ -1,6 +1,6 @@
 -- `stream::pack::part32` meets its contract: the part between the two places is the piece.
 use borrow.Author.Needs.{needs}
-use Rattle.stream.proofs.Law.Pieces.{piece-clipped}
+use Rattle.stream.proofs.Law.Written.Pieces.{piece-clipped}
 use Rattle.stream.proofs.pack.part32.Statement.{statement}
 use Rattle.stream.proofs.pack.part32.Tie as tie
 

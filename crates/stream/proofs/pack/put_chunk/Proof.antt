@@ -1,9 +1,9 @@
 -- `stream::pack::put_chunk` meets its contract.
 use Prim.Native.Nat.{ℕ, _+_, _*_, _≤_}
-use Rattle.stream.proofs.Law.Chosen.{chosen-below}
-use Rattle.stream.proofs.Law.Lending.{chosen-parts, lent-piece}
-use Rattle.stream.proofs.Law.Packing.{Turn, turn, start-put, chunk-put}
-use Rattle.stream.proofs.Law.Pieces.{length-piece}
+use Rattle.stream.proofs.Law.Lent.Chosen.{chosen-below}
+use Rattle.stream.proofs.Law.Lent.Codes.{chosen-parts, lent-piece}
+use Rattle.stream.proofs.Law.Written.Unfinished.{Turn, turn, start-put, chunk-put}
+use Rattle.stream.proofs.Law.Written.Pieces.{length-piece}
 use Rattle.stream.specs.Chunk.{chunkBytes}
 use Rattle.stream.specs.Header.{chunksIn}
 use Rattle.stream.specs.Lent.{chosen, lentCodes}

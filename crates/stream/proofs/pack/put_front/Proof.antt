@@ -1,7 +1,6 @@
 -- `stream::pack::put_front` meets its contract.
-use Rattle.stream.proofs.Law.Packing.{front-spelled}
-use Rattle.stream.proofs.Law.Settings.{width-most}
-use Rattle.stream.proofs.Law.Widths.{need-small}
+use Rattle.stream.proofs.Law.Written.Unfinished.{front-spelled}
+use Rattle.stream.proofs.Law.Setting.Widths.{need-small}
 use borrow.Author.Needs.{needs}
 use mathlib.Core.Path.{_∙_}
 use native.Mathlib.Omega.{arith}

@@ -6,7 +6,7 @@ use native.Mathlib.Omega.{arith}
 use lib.ListN.{length, take, drop}
 use borrow.Author.Needs.{needs}
 use Rattle.stream.specs.Writing.{spell}
-use Rattle.stream.proofs.Law.Spelling.{padded, length-padded, getD-padded, none-spelled, one-spelled, all-spelled}
+use Rattle.stream.proofs.Law.Written.Numbers.{padded, length-padded, getD-padded, none-spelled, one-spelled, all-spelled}
 use Rattle.stream.proofs.pack.put_numbers.Statement.{statement}
 use Rattle.stream.proofs.pack.put_numbers.Tie as tie
 

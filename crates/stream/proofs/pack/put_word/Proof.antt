@@ -2,7 +2,7 @@
 use native.Mathlib.Omega.{arith}
 use lib.ListN.{length-set}
 use borrow.Author.Needs.{needs}
-use Rattle.stream.proofs.Law.Spelling.{four-stores}
+use Rattle.stream.proofs.Law.Written.Numbers.{four-stores}
 use Rattle.stream.proofs.pack.put_word.Statement.{statement}
 use Rattle.stream.proofs.pack.put_word.Tie as tie
 

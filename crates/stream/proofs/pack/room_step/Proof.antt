@@ -1,14 +1,13 @@
 -- `stream::pack::room_step` meets its contract.
-use Rattle.stream.proofs.Law.Answering.{room-enough, room-short}
-use Rattle.stream.proofs.Law.Chosen.{chosen-below}
-use Rattle.stream.proofs.Law.Pieces.{end-most}
+use Rattle.stream.proofs.Law.Rows.Packing.{room-enough, room-short}
+use Rattle.stream.proofs.Law.Lent.Chosen.{chosen-below}
+use Rattle.stream.proofs.Law.Written.Pieces.{end-most}
 use Rattle.stream.specs.Lent.{chosen}
 use Rattle.stream.specs.Packing.{mostBytes}
 use borrow.Author.Needs.{needs}
-use lib.ListN.{length}
 use mathlib.Core.List.{List}
 use Prim.Native.Nat.{ℕ}
-use mathlib.Core.Path.{_≡_, ap, _∙_}
+use mathlib.Core.Path.{ap, _∙_}
 use native.Mathlib.Omega.{arith}
 use Rattle.stream.proofs.pack.room_step.Statement.{statement}
 use Rattle.stream.proofs.pack.room_step.Tie as tie

@@ -1,9 +1,9 @@
 -- `stream::pack::written` meets its contract. The invariant: the unfinished stream of the first j chunks.
 use Prim.Native.Nat.{ℕ, _+_, _-_, _*_, _^_, _≤_, _<_}
-use Rattle.stream.proofs.Law.Answering.{length-stream}
-use Rattle.stream.proofs.Law.Chosen.{chosen-below}
-use Rattle.stream.proofs.Law.Packing.{front-put, end-put}
-use Rattle.stream.proofs.Law.Pieces.{end-is, end-small}
+use Rattle.stream.proofs.Law.Rows.Packing.{length-stream}
+use Rattle.stream.proofs.Law.Lent.Chosen.{chosen-below}
+use Rattle.stream.proofs.Law.Written.Unfinished.{front-put, end-put}
+use Rattle.stream.proofs.Law.Written.Pieces.{end-is, end-small}
 use Rattle.stream.specs.Header.{chunksIn}
 use Rattle.stream.specs.Lent.{chosen}
 use Rattle.stream.specs.Stream.{joined}

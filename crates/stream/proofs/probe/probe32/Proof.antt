@@ -1,7 +1,7 @@
 -- `stream::probe::probe32` meets its contract.
-use Rattle.stream.proofs.Law.Accepted.{probe-reads}
-use Rattle.stream.proofs.Law.Opening.{open-is, shut-is}
-use Rattle.stream.proofs.Law.Small.{value-small}
+use Rattle.stream.proofs.Law.Rows.Passed.{probe-reads}
+use Rattle.stream.proofs.Law.Header.Opening.{open-is, shut-is}
+use Rattle.stream.proofs.Law.Rows.Small.{value-small}
 use Rattle.stream.specs.Header.{headerOf}
 use Rattle.stream.specs.Operations.{probeRows, probeAnswer32}
 use Rattle.stream.specs.Probe.{shown32, probed32}

@@ -1,6 +1,6 @@
 -- `stream::probe::probe64` meets its contract.
-use Rattle.stream.proofs.Law.Accepted.{probe-reads}
-use Rattle.stream.proofs.Law.Opening.{open-is, shut-is}
+use Rattle.stream.proofs.Law.Rows.Passed.{probe-reads}
+use Rattle.stream.proofs.Law.Header.Opening.{open-is, shut-is}
 use Rattle.stream.specs.Header.{headerOf}
 use Rattle.stream.specs.Operations.{probeRows, probeAnswer64}
 use Rattle.stream.specs.Probe.{shown64, probed64}

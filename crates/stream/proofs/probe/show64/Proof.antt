@@ -1,6 +1,6 @@
 -- `stream::probe::show64` meets its contract.
 use lib.Arith.{lt-of-le-ne}
-use Rattle.stream.proofs.Law.Shown.{no-nan, is-nan, is-infinite, is-finite}
+use Rattle.stream.proofs.Law.Values.Shown.{no-nan, is-nan, is-infinite, is-finite}
 use Rattle.stream.specs.Probe.{shown64, told64}
 use lib.Ieee.{binary64}
 use Rattle.stream.proofs.probe.show64.Statement.{statement}

@@ -1,11 +1,11 @@
 -- `stream::reading::check` meets its contract.
-use Rattle.stream.proofs.Law.Opening.{open-is, shut-is}
+use Rattle.stream.proofs.Law.Header.Opening.{open-is, shut-is}
 use Rattle.stream.specs.Operations.{checkAnswer}
 use Rattle.stream.specs.Rows.{answer}
 use Rattle.stream.specs.declared.answers.Answer.the-variants.{Done}
 use Rattle.stream.specs.declared.header.Header.{Header}
 use borrow.Author.Needs.{needs}
-use mathlib.Core.Path.{_≡_, sym, ap, _∙_}
+use mathlib.Core.Path.{sym, ap, _∙_}
 use Rattle.stream.proofs.reading.check.Statement.{statement}
 use Rattle.stream.proofs.reading.check.Tie as tie
 

@@ -1,14 +1,14 @@
 -- `stream::reading::unpack_opening` meets its contract.
-use Rattle.stream.proofs.Law.Accepted.{opened-as}
-use Rattle.stream.proofs.Law.Opening.{open-is, shut-is, opened-stop}
-use Rattle.stream.proofs.Law.Refused.{unpack-shut, unpack-width, unpack-room, unpack-content}
+use Rattle.stream.proofs.Law.Rows.Passed.{opened-as}
+use Rattle.stream.proofs.Law.Header.Opening.{open-is, shut-is, opened-stop}
+use Rattle.stream.proofs.Law.Rows.Given.{unpack-shut, unpack-width, unpack-room, unpack-content}
 use Rattle.stream.specs.Header.{headerOf}
 use Rattle.stream.specs.Opening.{openedBy}
 use Rattle.stream.specs.Operations.{openingRows}
 use Rattle.stream.specs.Rows.{first}
 use Rattle.stream.specs.declared.answers.Step.the-variants.{Pass}
 use borrow.Author.Needs.{needs}
-use mathlib.Core.Path.{_≡_, sym, ap, ap₂, _∙_}
+use mathlib.Core.Path.{_≡_, sym, ap₂, _∙_}
 use Rattle.stream.proofs.reading.unpack_opening.Statement.{statement}
 use Rattle.stream.proofs.reading.unpack_opening.Tie as tie
 

@@ -1,7 +1,7 @@
 -- `stream::reading::unpacked_or_refused` meets its contract.
 use Prim.Native.Nat.{ℕ, _≤_}
-use Rattle.stream.proofs.Law.Accepted.{unpack-ready, unpacked, not-unpacked}
-use Rattle.stream.proofs.Law.Opening.{open-is, shut-is}
+use Rattle.stream.proofs.Law.Rows.Passed.{unpack-ready, unpacked, not-unpacked}
+use Rattle.stream.proofs.Law.Header.Opening.{open-is, shut-is}
 use Rattle.stream.specs.Header.{headerOf}
 use Rattle.stream.specs.Lent.{chosen}
 use Rattle.stream.specs.Operations.{chunkRows, unpackRows}

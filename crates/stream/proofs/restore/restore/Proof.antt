@@ -1,17 +1,16 @@
 -- `stream::restore::restore` meets its contract.
 use mathlib.Core.Path.{_≡_, refl, _∙_}
 use mathlib.Core.List.{List}
-use Prim.Native.Nat.{ℕ, _-_, _≤_, min}
+use Prim.Native.Nat.{ℕ, _-_, _≤_}
 use native.Mathlib.Omega.{arith}
 use lib.ListN.{length}
 use Rattle.stream.specs.Lent.{chosen}
-use Rattle.stream.specs.Stream.{countOf}
 use Rattle.stream.specs.Rows.{first}
 use Rattle.stream.specs.Operations.{chunkRows}
 use Rattle.stream.specs.Relied.{Readable}
 use Rattle.stream.specs.declared.answers.Step.the-variants.{Pass}
-use Rattle.stream.proofs.Law.Chosen.{chosen-long}
-use Rattle.stream.proofs.Law.Landing.{Restored, begun, asked-whole, turned-landed, ended, count-small}
+use Rattle.stream.proofs.Law.Lent.Chosen.{chosen-long}
+use Rattle.stream.proofs.Law.Lent.Landing.{Restored, begun, asked-whole, turned-landed, ended, count-small}
 use Rattle.stream.proofs.restore.restore.Statement.{statement}
 use Rattle.stream.proofs.restore.restore.Tie as tie
 

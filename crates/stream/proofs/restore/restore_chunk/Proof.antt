@@ -1,9 +1,9 @@
 -- `stream::restore::restore_chunk` meets its contract.
-use Prim.Native.Nat.{ℕ, _-_, _*_, _≤_}
-use Rattle.stream.proofs.Law.Beginning.{chunk-begun, chunk-codes}
-use Rattle.stream.proofs.Law.Contents.{good-is, values-are}
-use Rattle.stream.proofs.Law.Counts.{length-chunk}
-use Rattle.stream.proofs.Law.Landing.{lent-fits, lent-landed}
+use Prim.Native.Nat.{ℕ, _-_, _*_}
+use Rattle.stream.proofs.Law.Chunk.LongerBytes.{chunk-begun, chunk-codes}
+use Rattle.stream.proofs.Law.Rows.Chunks.{good-is, values-are}
+use Rattle.stream.proofs.Law.Values.Counts.{length-chunk}
+use Rattle.stream.proofs.Law.Lent.Landing.{lent-fits, lent-landed}
 use Rattle.stream.specs.Chunk.{chunkAnswer}
 use Rattle.stream.specs.Lent.{chosen, landed}
 use Rattle.stream.specs.Setting.{patternsOf, groupSize, limitOf}
@@ -14,7 +14,7 @@ use borrow.Author.Needs.{needs}
 use lib.ListN.{length, take, drop}
 use borrow.Rule.Slice.PartMut.{putMid}
 use mathlib.Core.List.{List, _++_}
-use mathlib.Core.Path.{_≡_, refl, sym, ap, ap₂, subst, _∙_}
+use mathlib.Core.Path.{_≡_, refl, ap, ap₂, subst, _∙_}
 use native.Mathlib.Omega.{arith}
 use Rattle.stream.proofs.restore.restore_chunk.Statement.{statement}
 use Rattle.stream.proofs.restore.restore_chunk.Tie as tie

@@ -1,9 +1,8 @@
 -- `stream::restore::value_at` meets its contract.
 use Prim.Native.Nat.{_/_, _%_}
-use Rattle.stream.proofs.Law.Contents.{good-is, value-is}
-use Rattle.stream.proofs.Law.Layout.{own-place}
+use Rattle.stream.proofs.Law.Rows.Chunks.{good-is, value-is}
+use Rattle.stream.proofs.Law.Header.Layout.{own-place}
 use Rattle.stream.specs.Stream.{valueIn}
-use mathlib.Core.Path.{refl}
 use native.Mathlib.Omega.{arith}
 use Rattle.stream.proofs.restore.value_at.Statement.{statement}
 use Rattle.stream.proofs.restore.value_at.Tie as tie

@@ -3,7 +3,7 @@ use Rattle.stream.specs.Setting.{fractionBits, allowedSetting}
 use Rattle.numbers.specs.Answers.{binAnswer}
 use Rattle.numbers.proofs.Theorems.{a-bin-is-that-of-k, no-bin-means-not-allowed}
 use mir.Facts.{toZ-ofZ}
-use Rattle.stream.proofs.Law.Settings.{zero-test}
+use Rattle.stream.proofs.Law.Setting.Allowed.{zero-test}
 use borrow.Author.Tests.{eq-eqb, ne-eqb}
 use mathlib.Core.Path.{sym, _∙_, ap}
 use borrow.Author.Needs.{needs}

@@ -1,5 +1,5 @@
 -- `stream::setting::bin_at` meets its contract.
-use Rattle.stream.proofs.Law.Settings.{width-other}
+use Rattle.stream.proofs.Law.Setting.Allowed.{width-other}
 use Rattle.stream.specs.Setting.{fractionBits}
 use Rattle.numbers.specs.Answers.{binAnswer}
 use mir.Facts.{toZ-ofZ}

@@ -1,5 +1,5 @@
 -- `stream::setting::bin_for` meets its contract.
-use Rattle.stream.proofs.Law.Settings.{setting-bin, setting-has-bin}
+use Rattle.stream.proofs.Law.Setting.Allowed.{setting-bin, setting-has-bin}
 use Rattle.stream.specs.Setting.{fractionBits, binFor}
 use Rattle.numbers.specs.Answers.{binAnswer}
 use mir.Facts.{toZ-ofZ}

@@ -1,5 +1,5 @@
 -- `stream::setting::difference_bits` meets its contract.
-use Rattle.stream.proofs.Law.Exponents.{below-bits, above-bits}
+use Rattle.stream.proofs.Law.Setting.Exponent.{below-bits, above-bits}
 use borrow.Author.Needs.{needs}
 use Rattle.stream.proofs.setting.difference_bits.Statement.{statement}
 use Rattle.stream.proofs.setting.difference_bits.Tie as tie

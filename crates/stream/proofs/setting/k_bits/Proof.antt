@@ -1,11 +1,10 @@
 -- `stream::setting::k_bits` meets its contract.
 use Rattle.numbers.specs.Bound.{exponentOf}
 use Rattle.numbers.specs.Tolerance.{kOffset, lastBin}
-use Rattle.stream.proofs.Law.Settings.{width-other}
+use Rattle.stream.proofs.Law.Setting.Allowed.{width-other}
 use Rattle.stream.specs.Setting.{fractionBits, kBits}
 use borrow.Author.Tests.{eq-eqb, ne-eqb}
 use lib.Dec.{lit<}
-use mathlib.Core.Path.{_≡_, ap, _∙_}
 use native.Mathlib.Omega.{arith}
 use Rattle.stream.proofs.setting.k_bits.Statement.{statement}
 use Rattle.stream.proofs.setting.k_bits.Tie as tie

@@ -1,5 +1,5 @@
 -- `stream::setting::limit_of` meets its contract.
-use Rattle.stream.proofs.Law.Settings.{width-other}
+use Rattle.stream.proofs.Law.Setting.Allowed.{width-other}
 use Rattle.stream.specs.Setting.{fractionBits, clipped, limitOf}
 use borrow.Author.Needs.{needs}
 use borrow.Author.Tests.{eq-eqb, ne-eqb}

@@ -1,5 +1,5 @@
 -- `stream::setting::need_of` meets its contract.
-use Rattle.stream.proofs.Law.Settings.{need-64, need-mode-1, need-mode-0}
+use Rattle.stream.proofs.Law.Setting.Allowed.{need-64, need-mode-1, need-mode-0}
 use Rattle.stream.proofs.setting.need_of.Statement.{statement}
 use Rattle.stream.proofs.setting.need_of.Tie as tie
 

@@ -1,10 +1,9 @@
 -- `stream::setting::setting_of` meets its contract.
 use Prim.Native.Nat.{ℕ}
-use Rattle.stream.proofs.Law.Settings.{width-most, mode-small, made-allowed}
+use Rattle.stream.proofs.Law.Setting.Allowed.{width-most, mode-small, made-allowed}
 use Rattle.stream.specs.Relied.{Allowed}
 use Rattle.stream.specs.Setting.{binFor, settingOf}
 use mir.Facts.{toZ-ofZ}
-use Rattle.stream.specs.declared.setting.Setting.{Setting}
 use borrow.Author.Needs.{needs}
 use mathlib.Core.Path.{_≡_, ap, subst, sym, _∙_}
 use native.Mathlib.Omega.{arith}

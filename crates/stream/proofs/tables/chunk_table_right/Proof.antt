@@ -1,6 +1,6 @@
 -- `stream::tables::chunk_table_right` meets its contract.
 use mathlib.Core.Bool.{true, false}
-use Rattle.stream.proofs.Law.Scan.{all-left, every-on, every-broken, every-done}
+use Rattle.stream.proofs.Law.Plain.Scan.{all-left, every-on, every-broken, every-done}
 use borrow.Author.Tests.{ne-eqb, eq-eqb, lt-ltb, le-ltb}
 use Rattle.stream.specs.Tables.{every, startAt, startRight, chunkTableRight}
 use Prim.Native.Nat.{_≤_, _-_, _+_}

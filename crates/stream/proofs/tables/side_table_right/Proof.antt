@@ -1,6 +1,6 @@
 -- `stream::tables::side_table_right` meets its contract.
-use Rattle.stream.proofs.Law.Sides.{side-short, side-scan, entry-low, entry-elsewhere, entry-good, next-floor, next-place}
-use Rattle.stream.proofs.Law.Scan.{all-left, every-on, every-broken, every-done}
+use Rattle.stream.proofs.Law.Tables.Sides.{side-short, side-scan, entry-low, entry-elsewhere, entry-good, next-floor, next-place}
+use Rattle.stream.proofs.Law.Plain.Scan.{all-left, every-on, every-broken, every-done}
 use Rattle.stream.specs.Tables.{every, idFloor, partAt, entryRight, sideTableRight}
 use lib.ListN.{length}
 use lib.Dec.{eqb}

@@ -1,5 +1,5 @@
 -- `stream::tables::table_step` meets its contract.
-use Rattle.stream.proofs.Law.Contents.{tables-pass, tables-stop}
+use Rattle.stream.proofs.Law.Rows.Chunks.{tables-pass, tables-stop}
 use borrow.Author.Needs.{needs}
 use Rattle.stream.proofs.tables.table_step.Statement.{statement}
 use Rattle.stream.proofs.tables.table_step.Tie as tie

@@ -1,0 +1,102 @@
+-- A chunk's values taken group by group: what is left of the values decides what is left of the bytes. Over the width, the setting and the
+-- group size.
+use mathlib.Core.Path.{_≡_, sym, ap, ap₂, _∙_}
+use mathlib.Core.Logic.{_⊎_, inl, inr}
+use mathlib.Core.List.{List, [], _++_}
+use Prim.Native.Nat.{ℕ, suc, _+_, _-_, _*_, _^_, _≤_, _<_, min}
+use native.Mathlib.Nat.{mul-le-mul, mul-comm, mul-suc, le-of-suc-le-suc, le-mul-of-pos-right, div-lt-iff-lt-mul}
+use native.Mathlib.Omega.{arith}
+use lib.ListN.{length, take, drop, length-append, length-map, length-drop, drop-of-length-le}
+use lib.Seq.{take-all, drop-drop}
+use Rattle.numbers.specs.Theorem.{Format}
+use Rattle.stream.specs.Bytes.{Below}
+use Rattle.stream.specs.Group.{groupBytes}
+use Rattle.stream.specs.Setting.{fractionBits, codeAt, codesOf}
+use Rattle.stream.specs.Chunk.{groupsIn, chunkBytes}
+use Rattle.stream.specs.declared.setting.Setting.{Setting}
+use Rattle.stream.proofs.Law.Plain.Truth.{le-or-lt}
+use Rattle.stream.proofs.Law.Chunk.Groups.{chunk-step, chunk-none, chunk-most}
+use Rattle.stream.proofs.Law.Setting.Codes.{codes-under}
+
+pub length-codes-of : (t : Setting) (vs : List ℕ) → length (codesOf t vs) ≡ length vs
+unfolding codesOf
+length-codes-of t vs = length-map vs (codeAt t)
+
+-- as far as there are elements
+pub take-there : (k : ℕ) (l : List ℕ) → take k l ≡ take (min k (length l)) l
+take-there k l = go (le-or-lt k (length l))
+  where
+    go : (k ≤ length l) ⊎ (length l < k) → take k l ≡ take (min k (length l)) l
+    go (inl h) = ap (λ (n : ℕ). take n l) (let e : k ≡ min k (length l) = omega arith in e)
+    go (inr h) = take-all k l (omega arith) ∙ sym (take-all (min k (length l)) l (omega arith))
+
+pub drop-there : (k : ℕ) (l : List ℕ) → drop k l ≡ drop (min k (length l)) l
+drop-there k l = go (le-or-lt k (length l))
+  where
+    go : (k ≤ length l) ⊎ (length l < k) → drop k l ≡ drop (min k (length l)) l
+    go (inl h) = ap (λ (n : ℕ). drop n l) (let e : k ≡ min k (length l) = omega arith in e)
+    go (inr h) = drop-of-length-le l {i = k} (omega arith) ∙ sym (drop-of-length-le l {i = min k (length l)} (omega arith))
+
+-- how many bytes a chunk takes at the most, for a width of b bytes
+module _ (size : ℕ) (some : 0 < size) (t : Setting) (vs : List ℕ) where
+  pub bytes-small : (b : ℕ) → t .width ≡ 8 * b → Format (t .width) (fractionBits (t .width)) → Below (2 ^ t .width) vs
+      → length (chunkBytes size (codesOf t vs)) ≤ groupsIn size (length vs) + b * length vs
+  bytes-small b e format below =
+      let under : Below (2 ^ (8 * b)) (codesOf t vs) = λ i. rw (← e) (codes-under t format vs below i) in
+      rw (← (length-codes-of t vs)) (chunk-most size some b (codesOf t vs) under)
+
+-- The bytes of the codes that are left, however the codes came about.
+
+-- from `at` on
+abbrev pub bytesAfter : ℕ → List ℕ → ℕ → List ℕ
+bytesAfter size cs at = chunkBytes size (drop at cs)
+
+module _ (size : ℕ) (some : 0 < size) (cs : List ℕ) where
+  pub group-after : (at end : ℕ) → at < length cs → end ≡ at + min size (length cs - at)
+      → bytesAfter size cs at ≡ groupBytes (take (end - at) (drop at cs)) ++ bytesAfter size cs end
+  group-after at end h e =
+      let rest = drop at cs in
+      let count : min size (length rest) ≡ end - at = ap (min size) (length-drop at cs) ∙ (let q : min size (length cs - at) ≡ end - at = omega arith in q) in
+      chunk-step size some rest (rw (length-drop at cs) (omega arith))
+      ∙ ap₂ (λ (a b : List ℕ). groupBytes a ++ chunkBytes size b)
+      (take-there size rest ∙ ap (λ (n : ℕ). take n rest) count)
+      (drop-there size rest ∙ ap (λ (n : ℕ). drop n rest) count ∙ drop-drop (end - at) at cs ∙ ap (λ (n : ℕ). drop n cs) (let q : at + (end - at) ≡ end = omega arith in q))
+
+  pub none-after : (at : ℕ) → length cs ≤ at → bytesAfter size cs at ≡ []
+  none-after at h = ap (chunkBytes size) (drop-of-length-le cs {i = at} h) ∙ chunk-none size some
+
+  -- a full group, and the last one
+  pub full-after : (at : ℕ) → at + size ≤ length cs → bytesAfter size cs at ≡ groupBytes (take size (drop at cs)) ++ bytesAfter size cs (at + size)
+  full-after at h =
+      group-after at (at + size) (omega arith) (let e : at + size ≡ at + min size (length cs - at) = omega arith in e)
+      ∙ ap (λ (n : ℕ). groupBytes (take n (drop at cs)) ++ bytesAfter size cs (at + size)) (let e : at + size - at ≡ size = omega arith in e)
+
+  pub full-fits : (at : ℕ) → at + size ≤ length cs → length (groupBytes (take size (drop at cs))) ≤ length (bytesAfter size cs at)
+  full-fits at h = rw (full-after at h, length-append (groupBytes (take size (drop at cs))) (bytesAfter size cs (at + size))) (omega arith)
+
+  pub last-after : (at n : ℕ) → at < n → n ≡ length cs → n < at + size → bytesAfter size cs at ≡ groupBytes (take (n - at) (drop at cs)) ++ []
+  last-after at n h e k =
+      group-after at n (omega arith) (let q : n ≡ at + min size (length cs - at) = omega arith in q)
+      ∙ ap (λ (l : List ℕ). groupBytes (take (n - at) (drop at cs)) ++ l) (none-after n (omega arith))
+
+  pub last-fits : (at n : ℕ) → at < n → n ≡ length cs → n < at + size → length (groupBytes (take (n - at) (drop at cs))) ≤ length (bytesAfter size cs at)
+  last-fits at n h e k = rw (last-after at n h e k, length-append (groupBytes (take (n - at) (drop at cs))) []) (omega arith)
+
+  -- the same of how many bytes they are
+  pub full-counted : (at r : ℕ) → at + size ≤ length cs → r ≡ length (groupBytes (take size (drop at cs))) → r + length (bytesAfter size cs (at + size)) ≡ length (bytesAfter size cs at)
+  full-counted at r h is = rw (full-after at h, length-append (groupBytes (take size (drop at cs))) (bytesAfter size cs (at + size))) (omega arith)
+
+  pub last-counted : (at n r : ℕ) → at < n → n ≡ length cs → n < at + size → r ≡ length (groupBytes (take (n - at) (drop at cs))) → r ≡ length (bytesAfter size cs at)
+  last-counted at n r h e k is = rw (last-after at n h e k, length-append (groupBytes (take (n - at) (drop at cs))) []) (omega arith)
+
+-- there are no more groups than values
+pub groups-few : (size n : ℕ) → 0 < size → groupsIn size n ≤ n
+unfolding groupsIn
+groups-few size n some =
+    le-of-suc-le-suc (div-lt-iff-lt-mul some .1 (omega (arith, mul-comm (suc n) size, mul-suc size n, mul-comm n size, le-mul-of-pos-right n some)))
+
+-- a chunk of 1,024 values takes few bytes, at any width
+pub chunk-small : (size : ℕ) (some : 0 < size) (t : Setting) (b : ℕ) (vs : List ℕ) → t .width ≡ 8 * b → b ≤ 8 → Format (t .width) (fractionBits (t .width)) → Below (2 ^ t .width) vs
+    → length vs ≤ 1024 → length (chunkBytes size (codesOf t vs)) ≤ 9216
+chunk-small size some t b vs e l format below h =
+    omega (arith, bytes-small size some t vs b e format below, groups-few size (length vs) some, mul-le-mul l h)

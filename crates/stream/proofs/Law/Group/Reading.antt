@@ -1,0 +1,144 @@
+-- Reading a group's codes by words: what loads, codes at a bit and zeros behind the bytes give.
+-- Assumes nothing.
+use mathlib.Core.Path.{_≡_, refl, sym, ap, ap₂, _∙_, subst₂}
+use mathlib.Core.List.{List, [], _∷_, _++_}
+use Prim.Native.Nat.{ℕ, zero, suc, _+_, _-_, _*_, _/_, _%_, _^_, _≤_, _<_}
+use native.Mathlib.Nat.{zero-lt-suc, add-zero, mul-comm, mod-lt, mod-one, div-div-eq-div-mul, sub-add-cancel, add-sub-of-le, not-suc-le-zero, le-of-suc-le-suc, le-of-lt}
+use native.Mathlib.Numerals.{add-one}
+use native.Mathlib.Omega.{arith}
+use lib.Bits.{bitAnd}
+use lib.ListN.{length, take, drop, set, getD, replicate, length-drop}
+use lib.Pow.{pow-pos, pow-add, shr-shr, shr-lt, mod-mod-pow}
+use lib.Seq.{take-add, take-suc, take-suc-set, drop-cons, drop-drop, length-take-le, set-at, append-snoc}
+use Rattle.stream.specs.Bytes.{Below, number, digits}
+use Rattle.stream.specs.Group.{bytesFor, givenWidth, groupNumber, groupCodes}
+use Rattle.stream.proofs.Law.Plain.Digits.{byte, number-append, number-part, number-at, digits-mod, digits-snoc, digit-at}
+use Rattle.stream.proofs.Law.Group.RoundTrip.{bytes-hold}
+use Rattle.stream.proofs.Law.Plain.Words.{pow-pow, bit-place, field-in-word, field-past-word, masked, join-low}
+
+-- ---- a load is two loads of half as many bytes
+
+pub load-halves : (s : List ℕ) (at j k : ℕ) → at + j ≤ length s
+    → number 256 (take (j + k) (drop at s)) ≡ number 256 (take j (drop at s)) + number 256 (take k (drop (at + j) s)) * 256 ^ j
+load-halves s at j k h =
+    ap (number 256) (take-add j k (drop at s))
+    ∙ number-append 256 byte (take j (drop at s)) (take k (drop j (drop at s)))
+    ∙ ap₂ (λ (n : ℕ) (r : List ℕ). number 256 (take j (drop at s)) + 256 ^ n * number 256 (take k r))
+    (length-take-le j (drop at s) (rw length-drop (omega arith))) (drop-drop j at s)
+    ∙ ap (λ (n : ℕ). number 256 (take j (drop at s)) + n) (mul-comm (256 ^ j) (number 256 (take k (drop (at + j) s))))
+
+pub load-byte : (s : List ℕ) (at : ℕ) → at < length s → number 256 (take 1 (drop at s)) ≡ getD s at 0
+unfolding number
+load-byte s at h = ap (λ (r : List ℕ). number 256 (take 1 r)) (drop-cons s at 0 h) ∙ add-zero (getD s at 0)
+
+-- ---- the code of w bits at a bit
+
+module _ (s : List ℕ) (bytes : Below 256 s) (bit w : ℕ) (most : w ≤ 64) where
+  loaded : number 256 (take 8 (drop (bit / 8) s)) ≡ number 256 s / 256 ^ (bit / 8) % 2 ^ 64
+  loaded = number-part 256 byte (bit / 8) 8 s bytes
+
+  pub code-in-word : bit % 8 + w ≤ 64
+      → bitAnd (number 256 (take 8 (drop (bit / 8) s)) / 2 ^ (bit % 8)) ((2 ^ 64 - 1) / 2 ^ (64 - w)) ≡ number 256 s / 2 ^ bit % 2 ^ w
+  code-in-word h =
+      masked (number 256 (take 8 (drop (bit / 8) s)) / 2 ^ (bit % 8)) w 64 most
+      ∙ ap (λ (n : ℕ). n / 2 ^ (bit % 8) % 2 ^ w) loaded
+      ∙ field-in-word (number 256 s / 256 ^ (bit / 8)) (bit % 8) w 64 h ∙ ap (λ (n : ℕ). n % 2 ^ w) (bit-place (number 256 s) bit)
+
+  skipped : bit % 8 < 8
+  skipped = mod-lt bit (zero-lt-suc 7)
+
+  ninth : getD s (bit / 8 + 8) 0 ≡ number 256 s / 256 ^ (bit / 8) / 2 ^ 64 % 2 ^ 8
+  ninth =
+      number-at 256 byte s (bit / 8 + 8) bytes
+      ∙ ap (λ (n : ℕ). n % 256)
+      (ap (λ (n : ℕ). number 256 s / n) (pow-add 256 (bit / 8) 8) ∙ sym (div-div-eq-div-mul (number 256 s) (256 ^ (bit / 8)) (256 ^ 8)))
+
+  -- the eight bytes without the bits to skip, and the ninth above them
+  joined : number 256 (take 8 (drop (bit / 8) s)) / 2 ^ (bit % 8) + getD s (bit / 8 + 8) 0 * 2 ^ (64 - bit % 8) % 2 ^ 64
+      ≡ (number 256 (take 8 (drop (bit / 8) s)) / 2 ^ (bit % 8) + getD s (bit / 8 + 8) 0 * 2 ^ (64 - bit % 8)) % 2 ^ 64
+  joined =
+      join-low (bit % 8) (64 - bit % 8) 64 _ (getD s (bit / 8 + 8) 0) (add-sub-of-le below)
+      (shr-lt (64 - bit % 8) (bit % 8)
+      (subst₂ (λ (n m : ℕ). n < 2 ^ m) (sym loaded) (sym (sub-add-cancel below)) (mod-lt (number 256 s / 256 ^ (bit / 8)) (pow-pos 64))))
+    where
+      below : bit % 8 ≤ 64
+      below = omega (arith, skipped)
+
+  pub joined-fits : number 256 (take 8 (drop (bit / 8) s)) / 2 ^ (bit % 8) + getD s (bit / 8 + 8) 0 * 2 ^ (64 - bit % 8) % 2 ^ 64 < 2 ^ 64
+  joined-fits = rw joined (mod-lt _ (pow-pos 64))
+
+  pub code-past-word :
+      bitAnd (number 256 (take 8 (drop (bit / 8) s)) / 2 ^ (bit % 8) + getD s (bit / 8 + 8) 0 * 2 ^ (64 - bit % 8) % 2 ^ 64) ((2 ^ 64 - 1) / 2 ^ (64 - w))
+      ≡ number 256 s / 2 ^ bit % 2 ^ w
+  code-past-word =
+      masked _ w 64 most
+      ∙ ap (λ (n : ℕ). n % 2 ^ w) joined
+      ∙ ap (λ (m : ℕ). (number 256 (take 8 (drop (bit / 8) s)) / 2 ^ (bit % 8) + getD s (bit / 8 + 8) 0 * 2 ^ (64 - bit % 8)) % 2 ^ m % 2 ^ w) (sym (sub-add-cancel most))
+      ∙ mod-mod-pow (number 256 (take 8 (drop (bit / 8) s)) / 2 ^ (bit % 8) + getD s (bit / 8 + 8) 0 * 2 ^ (64 - bit % 8)) (64 - w) w
+      ∙ ap₂ (λ (n b : ℕ). (n / 2 ^ (bit % 8) + b * 2 ^ (64 - bit % 8)) % 2 ^ w) loaded ninth
+      ∙ field-past-word (number 256 s / 256 ^ (bit / 8)) (bit % 8) w 64 8 (omega (arith, skipped)) (omega (arith, skipped))
+      ∙ ap (λ (n : ℕ). n % 2 ^ w) (bit-place (number 256 s) bit)
+
+-- ---- the codes one after the other, from the first bit behind the width byte on
+
+-- the padding and what follows the group do not count
+pub codes-from : (n : ℕ) (s : List ℕ) → Below 256 s → groupCodes n s ≡ digits (2 ^ givenWidth s) n (number 256 s / 256)
+unfolding groupCodes groupNumber
+codes-from n s bytes =
+    let w : ℕ = givenWidth s in
+    let M : ℕ = number 256 s / 256 in
+    let k : ℕ = 8 * bytesFor w n - w * n in
+    sym (digits-mod (2 ^ w) (pow-pos w) n (number 256 (take (bytesFor w n) (drop 1 s))))
+    ∙ ap (digits (2 ^ w) n)
+    (ap (λ (x : ℕ). x % (2 ^ w) ^ n) (number-part 256 byte 1 (bytesFor w n) s bytes)
+    ∙ ap₂ (λ (p q : ℕ). M % p % q) (pow-pow 2 8 (bytesFor w n) ∙ ap (λ (x : ℕ). 2 ^ x) (sym (sub-add-cancel (bytes-hold w n)))) (pow-pow 2 w n)
+    ∙ mod-mod-pow M k (w * n) ∙ ap (λ (p : ℕ). M % p) (sym (pow-pow 2 w n)))
+    ∙ digits-mod (2 ^ w) (pow-pos w) n M
+
+-- the code at an index, by its first bit
+pub code-at-bit : (n : ℕ) (s : List ℕ) → Below 256 s → (i : ℕ) → i < n
+    → getD (groupCodes n s) i 0 ≡ number 256 s / 2 ^ (8 + givenWidth s * i) % 2 ^ givenWidth s
+code-at-bit n s bytes i h =
+    let w : ℕ = givenWidth s in
+    ap (λ (l : List ℕ). getD l i 0) (codes-from n s bytes)
+    ∙ digit-at (2 ^ w) (pow-pos w) n (number 256 s / 256) i h
+    ∙ ap (λ (x : ℕ). x % 2 ^ w) (ap (λ (p : ℕ). number 256 s / 256 / p) (pow-pow 2 w i) ∙ shr-shr (number 256 s) 8 (w * i))
+
+pub one-code : (s codes : List ℕ) (w i : ℕ) → i < length codes → take i codes ≡ digits (2 ^ w) i (number 256 s / 256)
+    → take (i + 1) (set codes i (number 256 s / 2 ^ (8 + w * i) % 2 ^ w)) ≡ digits (2 ^ w) (i + 1) (number 256 s / 256)
+one-code s codes w i h e =
+    let v : ℕ = number 256 s / 2 ^ (8 + w * i) % 2 ^ w in
+    ap (λ (k : ℕ). take k (set codes i v)) (add-one i) ∙ take-suc-set codes i v h
+    ∙ ap₂ (λ (r : List ℕ) (x : ℕ). r ++ (x ∷ [])) e
+    (ap (λ (x : ℕ). x % 2 ^ w) (sym (shr-shr (number 256 s) 8 (w * i)) ∙ ap (λ (p : ℕ). number 256 s / 256 / p) (sym (pow-pow 2 w i))))
+    ∙ sym (digits-snoc (2 ^ w) (pow-pos w) i (number 256 s / 256))
+
+-- a code of no bits is 0
+pub no-bits : (n x : ℕ) → digits 1 n x ≡ replicate n 0
+unfolding digits
+no-bits zero x = refl
+no-bits (suc n) x = ap₂ (λ (y : ℕ) (r : List ℕ). y ∷ r) (mod-one x) (no-bits n (x / 1))
+
+-- so the codes of a group of no bits are zeros
+pub no-codes : (n : ℕ) (s : List ℕ) → getD s 0 0 ≡ 0 → groupCodes n s ≡ replicate n 0
+unfolding groupCodes givenWidth
+no-codes n s e = ap (λ (w : ℕ). digits (2 ^ w) n (groupNumber n s)) e ∙ no-bits n (groupNumber n s)
+
+pub take-replicate : (n m a : ℕ) → n ≤ m → take n (replicate m a) ≡ replicate n a
+take-replicate zero m a h = refl
+take-replicate (suc n) zero a h = absurd (not-suc-le-zero h)
+take-replicate (suc n) (suc m) a h = ap (λ (r : List ℕ). a ∷ r) (take-replicate n m a (le-of-suc-le-suc h))
+
+-- ---- a copy with zeros behind
+
+one-fewer : (m i : ℕ) → i < m → m - i ≡ suc (m - (i + 1))
+one-fewer m i h = omega arith
+
+pub one-copied : (s : List ℕ) (i m : ℕ) → i < length s → i < m
+    → set (take i s ++ replicate (m - i) 0) i (getD s i 0) ≡ take (i + 1) s ++ replicate (m - (i + 1)) 0
+one-copied s i m h k =
+    let zeros : List ℕ = replicate (m - (i + 1)) 0 in
+    ap (λ (n : ℕ). set (take i s ++ replicate n 0) i (getD s i 0)) (one-fewer m i k)
+    ∙ set-at (take i s) 0 zeros (getD s i 0) i (length-take-le i s (le-of-lt h))
+    ∙ sym (append-snoc (take i s) (getD s i 0) zeros)
+    ∙ ap (λ (r : List ℕ). r ++ zeros) (sym (ap (λ (n : ℕ). take n s) (add-one i) ∙ take-suc s i 0 h))

@@ -1,0 +1,98 @@
+-- A list filled from the front: by a function of another list's elements, or with those elements themselves.
+use mathlib.Core.Path.{_≡_, refl, sym, ap, ap₂, _∙_}
+use mathlib.Core.Logic.{_⊎_, inl, inr}
+use mathlib.Core.List.{List, [], _∷_, _++_, map, map-append, append-assoc, append-nil}
+use Prim.Native.Nat.{ℕ, zero, suc, _+_, _-_, _≤_, _<_}
+use native.Mathlib.Numerals.{add-one}
+use native.Mathlib.Omega.{arith}
+use lib.ListN.{length, take, drop, getD, set, length-map, length-append, length-drop, drop-of-length-le}
+use lib.Seq.{take-suc, take-suc-set, drop-cons, set-at, length-take-le, take-add, take-take, take-all, drop-at}
+use Rattle.stream.specs.Bytes.{Below}
+use Rattle.stream.proofs.Law.Plain.Truth.{le-or-lt}
+
+-- one element more of a list that is filled by f from the elements of xs
+pub one-mapped : (f : ℕ → ℕ) (xs ys : List ℕ) (i : ℕ) → i < length xs → i < length ys → take i ys ≡ map f (take i xs)
+    → take (i + 1) (set ys i (f (getD xs i 0))) ≡ map f (take (i + 1) xs)
+one-mapped f xs ys i h l e =
+    ap (λ (k : ℕ). take k (set ys i (f (getD xs i 0)))) (add-one i)
+    ∙ take-suc-set ys i (f (getD xs i 0)) l
+    ∙ ap (λ (l : List ℕ). l ++ (f (getD xs i 0) ∷ [])) e
+    ∙ sym (ap (map f) (ap (λ (k : ℕ). take k xs) (add-one i) ∙ take-suc xs i 0 h) ∙ map-append f (take i xs) (getD xs i 0 ∷ []))
+
+-- the same of a list that is copied
+pub one-copied : (xs ys : List ℕ) (i : ℕ) → i < length xs → i < length ys → take i ys ≡ take i xs
+    → take (i + 1) (set ys i (getD xs i 0)) ≡ take (i + 1) xs
+one-copied xs ys i h l e =
+    ap (λ (k : ℕ). take k (set ys i (getD xs i 0))) (add-one i)
+    ∙ take-suc-set ys i (getD xs i 0) l
+    ∙ ap (λ (l : List ℕ). l ++ (getD xs i 0 ∷ [])) e
+    ∙ sym (ap (λ (k : ℕ). take k xs) (add-one i) ∙ take-suc xs i 0 h)
+
+-- the same over what was there: the images so far, and the rest of `base`
+pub one-put : (f : ℕ → ℕ) (xs base : List ℕ) (i : ℕ) → i < length xs → i < length base
+    → set (map f (take i xs) ++ drop i base) i (f (getD xs i 0)) ≡ map f (take (i + 1) xs) ++ drop (i + 1) base
+one-put f xs base i h l =
+    let long : length (map f (take i xs)) ≡ i = length-map (take i xs) f ∙ length-take-le i xs (omega arith) in
+    ap (λ (t : List ℕ). set (map f (take i xs) ++ t) i (f (getD xs i 0))) (drop-cons base i 0 l)
+    ∙ set-at (map f (take i xs)) (getD base i 0) (drop (suc i) base) (f (getD xs i 0)) i long
+    ∙ sym (ap₂ (λ (a b : List ℕ). a ++ b)
+    (ap (map f) (ap (λ (k : ℕ). take k xs) (add-one i) ∙ take-suc xs i 0 h) ∙ map-append f (take i xs) (getD xs i 0 ∷ []))
+    (ap (λ (k : ℕ). drop k base) (add-one i))
+    ∙ append-assoc (map f (take i xs)) (f (getD xs i 0) ∷ []) (drop (suc i) base))
+
+-- the same of a copy
+map-same : (l : List ℕ) → map (λ (x : ℕ). x) l ≡ l
+map-same [] = refl
+map-same (x ∷ xs) = ap (λ (t : List ℕ). x ∷ t) (map-same xs)
+
+pub one-over : (xs base : List ℕ) (i : ℕ) → i < length xs → i < length base
+    → set (take i xs ++ drop i base) i (getD xs i 0) ≡ take (i + 1) xs ++ drop (i + 1) base
+one-over xs base i h l =
+    ap (λ (t : List ℕ). set (t ++ drop i base) i (getD xs i 0)) (sym (map-same (take i xs)))
+    ∙ one-put (λ (x : ℕ). x) xs base i h l
+    ∙ ap (λ (t : List ℕ). t ++ drop (i + 1) base) (map-same (take (i + 1) xs))
+
+pub length-over : (xs base out : List ℕ) (i : ℕ) → i ≤ length xs → i ≤ length base → out ≡ take i xs ++ drop i base → length out ≡ length base
+length-over xs base out i h l e =
+    ap length e ∙ length-append (take i xs) (drop i base)
+    ∙ ap₂ _+_ (length-take-le i xs h) (length-drop i base) ∙ (let q : i + (length base - i) ≡ length base = omega arith in q)
+
+pub length-put : (f : ℕ → ℕ) (xs base : List ℕ) (i : ℕ) → i ≤ length xs → i ≤ length base → length (map f (take i xs) ++ drop i base) ≡ length base
+length-put f xs base i h l =
+    length-append (map f (take i xs)) (drop i base)
+    ∙ ap₂ _+_ (length-map (take i xs) f ∙ length-take-le i xs h) (length-drop i base)
+    ∙ (let e : i + (length base - i) ≡ length base = omega arith in e)
+
+pub map-take : (f : ℕ → ℕ) (k : ℕ) (xs : List ℕ) → map f (take k xs) ≡ take k (map f xs)
+map-take f zero xs = refl
+map-take f (suc k) [] = refl
+map-take f (suc k) (x ∷ xs) = ap (λ (t : List ℕ). f x ∷ t) (map-take f k xs)
+
+pub map-drop : (f : ℕ → ℕ) (k : ℕ) (xs : List ℕ) → map f (drop k xs) ≡ drop k (map f xs)
+map-drop f zero xs = refl
+map-drop f (suc k) [] = refl
+map-drop f (suc k) (x ∷ xs) = map-drop f k xs
+
+take-none : (k : ℕ) → take {A = ℕ} k [] ≡ []
+take-none zero = refl
+take-none (suc k) = refl
+
+-- a part of what is at the front
+pub part-taken : (n at m : ℕ) (l : List ℕ) → at + n ≤ m → take n (drop at (take m l)) ≡ take n (drop at l)
+part-taken n at m l h =
+    ap (λ (k : ℕ). take n (drop at (take k l))) (let e : m ≡ at + (m - at) = omega arith in e)
+    ∙ ap (λ (x : List ℕ). take n (drop at x)) (take-add at (m - at) l)
+    ∙ go (le-or-lt at (length l))
+  where
+    go : (at ≤ length l) ⊎ (length l < at) → take n (drop at (take at l ++ take (m - at) (drop at l))) ≡ take n (drop at l)
+    go (inl k) = ap (take n) (drop-at (take at l) (take (m - at) (drop at l)) at (length-take-le at l k)) ∙ take-take n (m - at) (drop at l) (omega arith)
+    go (inr k) =
+        ap₂ (λ (x y : List ℕ). take n (drop at (x ++ take (m - at) y))) (take-all at l (omega arith)) (drop-of-length-le l {i = at} (omega arith))
+        ∙ ap (λ (x : List ℕ). take n (drop at (l ++ x))) (take-none (m - at))
+        ∙ ap (λ (x : List ℕ). take n (drop at x)) (append-nil l)
+
+-- what holds of every image holds of the list of images
+pub map-below : (f : ℕ → ℕ) (a b : ℕ) → 0 < b → ((x : ℕ) → x < a → f x < b) → (xs : List ℕ) → Below a xs → Below b (map f xs)
+map-below f a b some h [] below i = some
+map-below f a b some h (x ∷ xs) below zero = h x (below 0)
+map-below f a b some h (x ∷ xs) below (suc i) = map-below f a b some h xs (λ k. below (suc k)) i

@@ -1,0 +1,13 @@
+-- The rows of the refusal table.
+--   First: the first row that is given decides
+--   Passed: what is known of a stream that rows have passed
+--   Given: the rows behind the opening, one by one
+--   Chunks: the rows of the tables and the chunks
+--   Packing: what length and pack answer
+--   Small: numbers, details and answers have 32 bits
+pub mod First
+pub mod Passed
+pub mod Given
+pub mod Chunks
+pub mod Packing
+pub mod Small

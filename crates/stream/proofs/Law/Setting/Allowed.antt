@@ -1,0 +1,156 @@
+-- What is known of a setting: its need by cases, and its bin where it is allowed.
+use mathlib.Core.Path.{_≡_, refl, sym, subst, _∙_}
+use mathlib.Core.Logic.{_⊎_, inl, inr, ⊎-elim}
+use mathlib.Core.Bool.{Bool, true, false, _&&_, cond}
+use Prim.Native.Nat.{ℕ, suc, _-_, _*_, _^_, _≤_, _<_, zero-le}
+use native.Mathlib.Omega.{arith}
+use borrow.Author.Tests.{eqb-true, eq-eqb, ne-eqb}
+use lib.Dec.{eqb, lit<, lit≤}
+use mathlib.Core.List.{List}
+use lib.IntN.{ℤ, pos, negsuc}
+use lib.ListN.{length}
+use Rattle.stream.specs.Bytes.{Below}
+use mir.Syntax.{w32}
+use mir.Val.{SFits, ofZ}
+use Rattle.numbers.specs.declared.tolerance.BinAnswer.the-variants as bin
+use Rattle.numbers.specs.Tolerance.{allowedK, lastBin}
+use Rattle.numbers.specs.Theorem.{Format}
+use Rattle.numbers.specs.Answers.{binAnswer}
+use Rattle.numbers.proofs.Theorems.{format-32, format-64, a-bin-is-that-of-k, no-bin-means-not-allowed, an-allowed-k-has-a-bin}
+use Rattle.stream.specs.Setting.{knownWidth, fractionBits, isZero, allowedSetting, binFor, settingOf, widthNeed, modeNeed, need, groupSize}
+use Rattle.stream.specs.Header.{kOf, needRight, settingRight}
+use Rattle.stream.specs.Relied.{Allowed, Settled}
+use Rattle.stream.specs.Packing.{Packable}
+use Rattle.stream.specs.declared.header.Header.{Header}
+use Rattle.stream.specs.declared.setting.Setting.{Setting}
+use Rattle.stream.proofs.Law.Plain.Truth.{le-or-lt, and-left, and-right, either}
+
+-- ---- widths
+
+pub width-cases : (W : ℕ) → knownWidth W ≡ true → (W ≡ 32) ⊎ (W ≡ 64)
+unfolding knownWidth
+width-cases W e = ⊎-elim (λ a. inl (eqb-true W 32 a)) (λ a. inr (eqb-true W 64 a)) (either (eqb W 32) (eqb W 64) e)
+
+pub width-other : (W : ℕ) → knownWidth W ≡ true → (W ≡ 32 → ⊥) → W ≡ 64
+width-other W e n = ⊎-elim (λ a. absurd (n a)) (λ a. a) (width-cases W e)
+
+pub width-format : (W : ℕ) → knownWidth W ≡ true → Format W (fractionBits W)
+unfolding fractionBits
+width-format W e =
+    ⊎-elim (λ a. subst (λ (w : ℕ). Format w (cond (eqb w 32) 23 52)) (sym a) format-32) (λ a. subst (λ (w : ℕ). Format w (cond (eqb w 32) 23 52)) (sym a) format-64) (width-cases W e)
+
+pub width-most : (W : ℕ) → knownWidth W ≡ true → W ≤ 64
+width-most W e = ⊎-elim (λ a. omega arith) (λ a. omega arith) (width-cases W e)
+
+-- ---- needs
+
+mode-need-small : (b : Bool) → cond b 9 8 ≤ 9
+mode-need-small true = lit≤ tt
+mode-need-small false = lit≤ tt
+
+module _ (t : Setting) where
+  pub need-64 : t .width ≡ 64 → 10 ≡ need t
+  unfolding need widthNeed modeNeed
+  need-64 e = rw (eq-eqb (t .width) 64 e) (omega (arith, mode-need-small (eqb (t .mode) 1)))
+
+  pub need-mode-1 : (t .width ≡ 64 → ⊥) → t .mode ≡ 1 → 9 ≡ need t
+  unfolding need widthNeed modeNeed
+  need-mode-1 n e = rw (ne-eqb (t .width) 64 n, eq-eqb (t .mode) 1 e)
+
+  pub need-mode-0 : (t .width ≡ 64 → ⊥) → (t .mode ≡ 1 → ⊥) → 8 ≡ need t
+  unfolding need widthNeed modeNeed
+  need-mode-0 n m = rw (ne-eqb (t .width) 64 n, ne-eqb (t .mode) 1 m)
+
+-- ---- groups: a size is some, and a chunk is a whole number of groups
+
+pub record Dividing (size : ℕ) : Type 0 where
+  pub some : 0 < size
+  pub parts : ℕ
+  pub whole : size * parts ≡ 1024
+
+pub dividing : (t : Setting) → Dividing (groupSize t)
+unfolding groupSize
+dividing t = record { some = lit< tt; parts = 32; whole = refl }
+
+pub size-some : (t : Setting) → 0 < groupSize t
+size-some t = dividing t .some
+
+pub size-most : (t : Setting) → groupSize t ≤ 32
+unfolding groupSize
+size-most t = lit≤ tt
+
+-- ---- k
+
+-- a test of k's bits against 0
+pub zero-test : (k : ℤ) → SFits w32 k → eqb (ofZ w32 k) 0 ≡ isZero k
+unfolding isZero
+zero-test (pos n) f = refl
+zero-test (negsuc n) f = let h : n < 2 ^ 31 = f .sfits in ne-eqb (2 ^ 32 - suc n) 0 (λ e. omega arith)
+
+-- an allowed setting of another mode than 0 is of mode 1, and its k has a bin
+module _ (W mode : ℕ) (k : ℤ) (allowed : allowedSetting W mode k ≡ true) (some : mode ≡ 0 → ⊥) where
+  both : eqb mode 1 && allowedK W (fractionBits W) k ≡ true
+  unfolding allowedSetting
+  both = rw (ne-eqb mode 0 some) at allowed
+
+  pub setting-bin : (j : ℕ) → binAnswer W (fractionBits W) k ≡ bin.Bin j → j ≡ binFor W mode k
+  unfolding binFor
+  setting-bin j is = rw (and-left (eqb mode 1) (allowedK W (fractionBits W) k) both) (sym (a-bin-is-that-of-k W (fractionBits W) k j is .1))
+
+  pub setting-has-bin : binAnswer W (fractionBits W) k ≡ bin.NotAllowed → ⊥
+  setting-has-bin is =
+      let f : true ≡ false = sym (and-right (eqb mode 1) (allowedK W (fractionBits W) k) both) ∙ no-bin-means-not-allowed W (fractionBits W) k is in
+      let z : _≡_ {A = ℕ} 0 1 = cc in
+      omega arith
+
+-- ---- the setting of a header that is right
+
+pub mode-small : (W mode : ℕ) (k : ℤ) → allowedSetting W mode k ≡ true → mode ≤ 1
+mode-small W mode k a = go (le-or-lt mode 0)
+  where
+    go : (mode ≤ 0) ⊎ (0 < mode) → mode ≤ 1
+    go (inl z) = omega arith
+    go (inr s) =
+        omega (arith, eqb-true mode 1 (and-left (eqb mode 1) (allowedK W (fractionBits W) k) (both W mode k a (λ e. omega arith))))
+
+pub settled : (h : Header) → settingRight h ≡ true → Settled h
+unfolding settingRight
+settled h e =
+    let allowed = and-right (knownWidth (h .width) && needRight h) (allowedSetting (h .width) (h .mode) (kOf h)) e in
+    let known = and-left (knownWidth (h .width)) (needRight h) (and-left (knownWidth (h .width) && needRight h) (allowedSetting (h .width) (h .mode) (kOf h)) e) in
+    record {
+      known = known;
+      narrow = width-most (h .width) known;
+      mode = mode-small (h .width) (h .mode) (kOf h) allowed;
+      allowed = allowed;
+    }
+
+-- ---- the setting that is made
+
+module _ (W mode : ℕ) (k : ℤ) (known : knownWidth W ≡ true) (allowed : allowedSetting W mode k ≡ true) where
+  pub made-allowed : Allowed (settingOf W mode k)
+  unfolding binFor
+  made-allowed =
+      record {
+        known = known;
+        mode = mode-small W mode k allowed;
+        bin = go (eqb mode 1) refl;
+        none = λ n. rw (ne-eqb mode 1 n);
+      }
+    where
+      go : (b : Bool) → eqb mode 1 ≡ b → binFor W mode k ≤ lastBin W (fractionBits W)
+      go true e =
+          rw e (an-allowed-k-has-a-bin W (fractionBits W) (width-format W known) k
+          (and-right (eqb mode 1) (allowedK W (fractionBits W) k) (both W mode k allowed (λ z. let q = eqb-true mode 1 e in omega arith))))
+      go false e = rw e zero-le
+
+-- A list that a stream of a setting may hold, with its written minor.
+pub record Storable (level : ℕ) (t : Setting) (vs : List ℕ) : Type 0 where
+  pub setting : Allowed t
+  pub minor : level < 2 ^ 32
+  pub needs : need t ≤ level
+  pub few : length vs ≤ 1048576
+  pub patterns : Below (2 ^ t .width) vs
+
+pub storable : (W level mode : ℕ) (k : ℤ) (vs : List ℕ) → Packable W level mode k vs → Storable level (settingOf W mode k) vs
+storable W level mode k vs p = record { setting = made-allowed W mode k (p .width) (p .allowed); minor = p .minor; needs = p .needs; few = p .few; patterns = p .patterns }

@@ -1,0 +1,119 @@
+-- The header's number for k is a number of 32 bits, and gives the setting back.
+use mathlib.Core.Path.{_≡_, refl, sym, ap}
+use mathlib.Core.Logic.{_⊎_, inl, inr}
+use mathlib.Core.Bool.{Bool, true, false, cond}
+use Prim.Native.Nat.{ℕ, suc, _-_, _^_, _≤_, _<_}
+use native.Mathlib.Omega.{arith}
+use borrow.Author.Tests.{eq-eqb, ne-eqb, lt-ltb, le-ltb}
+use lib.Dec.{eqb, lit<}
+use lib.IntN.{pos, negsuc, subℕ}
+use Rattle.numbers.specs.Signed.{signedView, bitsOf}
+use Rattle.numbers.specs.Tolerance.{kOffset, lastBin, binOf}
+use Rattle.numbers.specs.Bound.{exponentOf}
+use Rattle.numbers.specs.Theorem.{Format}
+use Rattle.numbers.proofs.Theorems.{the-k-of-a-bin-is-allowed, the-bin-of-its-k}
+use Rattle.stream.specs.Setting.{fractionBits, isZero, allowedSetting, binFor, settingOf, kBits}
+use Rattle.stream.specs.Relied.{Allowed}
+use Rattle.stream.specs.declared.setting.Setting.{Setting}
+use Rattle.stream.proofs.Law.Plain.Truth.{le-or-lt}
+use Rattle.stream.proofs.Law.Setting.Allowed.{width-cases, width-format}
+
+-- a small number in two's complement, read back
+positive-back : (n : ℕ) → n < 2 ^ 31 → signedView 32 (bitsOf 32 (pos n)) ≡ pos n
+unfolding signedView bitsOf
+positive-back n h = rw (lt-ltb n (2 ^ 31) h)
+
+negative-back : (n : ℕ) → n < 2 ^ 31 → signedView 32 (bitsOf 32 (negsuc n)) ≡ negsuc n
+unfolding signedView bitsOf
+negative-back n h =
+    rw (le-ltb (2 ^ 32 - suc n) (2 ^ 31) (omega arith)) (ap negsuc (let e : 2 ^ 32 - suc (2 ^ 32 - suc n) ≡ n = omega arith in e))
+
+-- a difference of small numbers in two's complement
+module _ (a b : ℕ) (small-a : a < 2 ^ 31) (small-b : b < 2 ^ 31) where
+  pub below-bits : a < b → 2 ^ 32 - 1 - (b - a - 1) ≡ bitsOf 32 (subℕ a b)
+  unfolding bitsOf
+  below-bits h = rw (lt-ltb a b h) (omega arith)
+
+  pub above-bits : b ≤ a → a - b ≡ bitsOf 32 (subℕ a b)
+  unfolding bitsOf
+  above-bits h = rw (le-ltb a b h)
+
+  difference-bits : bitsOf 32 (subℕ a b) < 2 ^ 32
+  difference-bits = go (le-or-lt b a)
+    where
+      go : (b ≤ a) ⊎ (a < b) → bitsOf 32 (subℕ a b) < 2 ^ 32
+      go (inl h) = rw (← (above-bits h)) (omega arith)
+      go (inr h) = rw (← (below-bits h)) (omega arith)
+
+  difference-back : signedView 32 (bitsOf 32 (subℕ a b)) ≡ subℕ a b
+  difference-back = go (le-or-lt b a)
+    where
+      go : (b ≤ a) ⊎ (a < b) → signedView 32 (bitsOf 32 (subℕ a b)) ≡ subℕ a b
+      go (inl h) = rw (le-ltb a b h) (positive-back (a - b) (omega arith))
+      go (inr h) = rw (lt-ltb a b h) (negative-back (b - suc a) (omega arith))
+
+module _ (t : Setting) (allowed : Allowed t) where
+  abbrev W : ℕ
+  W = t .width
+
+  abbrev m : ℕ
+  m = fractionBits (t .width)
+
+  format : Format W m
+  format = width-format W (allowed .known)
+
+  -- both are small
+  offset-small : (kOffset W m < 2 ^ 31) × (lastBin W m < 2 ^ 31)
+  unfolding kOffset lastBin fractionBits
+  offset-small = go (width-cases W (allowed .known))
+    where
+      go : (W ≡ 32) ⊎ (W ≡ 64) → (kOffset W m < 2 ^ 31) × (lastBin W m < 2 ^ 31)
+      go (inl e) = rw e (lit< tt, lit< tt)
+      go (inr e) = rw e (lit< tt, lit< tt)
+
+  bin-small : t .bin < 2 ^ 31
+  bin-small = omega (arith, allowed .bin, offset-small .1)
+
+  pub bits-small : kBits t < 2 ^ 32
+  unfolding kBits exponentOf
+  bits-small = go (eqb (t .mode) 1)
+    where
+      go : (b : Bool) → cond b (bitsOf 32 (subℕ (t .bin) (kOffset W m))) 0 < 2 ^ 32
+      go true = difference-bits (t .bin) (kOffset W m) bin-small (offset-small .0)
+      go false = lit< tt
+
+  -- k is read as it was written: that of the bin, or 0
+  k-back : signedView 32 (kBits t) ≡ cond (eqb (t .mode) 1) (exponentOf W m (t .bin)) (pos 0)
+  unfolding kBits exponentOf signedView
+  k-back = go (eqb (t .mode) 1)
+    where
+      go : (b : Bool) → signedView 32 (cond b (bitsOf 32 (subℕ (t .bin) (kOffset W m))) 0) ≡ cond b (subℕ (t .bin) (kOffset W m)) (pos 0)
+      go true = difference-back (t .bin) (kOffset W m) bin-small (offset-small .0)
+      go false = refl
+
+  mode-cases : (t .mode ≡ 1) ⊎ (t .mode ≡ 0)
+  mode-cases = go (le-or-lt (t .mode) 0)
+    where
+      go : (t .mode ≤ 0) ⊎ (0 < t .mode) → (t .mode ≡ 1) ⊎ (t .mode ≡ 0)
+      go (inl h) = inr (omega arith)
+      go (inr h) = inl (omega (arith, allowed .mode))
+
+  bin-back : binFor W (t .mode) (signedView 32 (kBits t)) ≡ t .bin
+  unfolding binFor
+  bin-back = rw k-back (go mode-cases)
+    where
+      go : (t .mode ≡ 1) ⊎ (t .mode ≡ 0) → cond (eqb (t .mode) 1) (binOf W m (cond (eqb (t .mode) 1) (exponentOf W m (t .bin)) (pos 0))) 0 ≡ t .bin
+      go (inl e) = rw (eq-eqb (t .mode) 1 e) (the-bin-of-its-k W m format (t .bin))
+      go (inr e) = let n : t .mode ≡ 1 → ⊥ = λ o. omega arith in rw (ne-eqb (t .mode) 1 n) (sym (allowed .none n))
+
+  pub setting-back : settingOf W (t .mode) (signedView 32 (kBits t)) ≡ t
+  setting-back = ap (λ (b : ℕ). record { width = W; mode = t .mode; bin = b }) bin-back
+
+  pub allowed-back : allowedSetting W (t .mode) (signedView 32 (kBits t)) ≡ true
+  unfolding allowedSetting isZero
+  allowed-back = rw k-back (go mode-cases)
+    where
+      go : (t .mode ≡ 1) ⊎ (t .mode ≡ 0)
+          → allowedSetting W (t .mode) (cond (eqb (t .mode) 1) (exponentOf W m (t .bin)) (pos 0)) ≡ true
+      go (inl e) = rw (e, the-k-of-a-bin-is-allowed W m format (t .bin) (allowed .bin))
+      go (inr e) = rw e

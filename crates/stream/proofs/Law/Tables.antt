@@ -1,0 +1,5 @@
+-- The chunk table and the side table.
+--   Starts: what a right chunk table says of each chunk
+--   Sides: the side table, entry by entry
+pub mod Starts
+pub mod Sides

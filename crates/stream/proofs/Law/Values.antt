@@ -1,0 +1,10 @@
+-- The values of a stream.
+--   Counts: how many there are, and which chunk has each
+--   ThreeReaders: check, unpack and probe beside each other
+--   OtherChunks: bytes of other chunks play no part
+--   Shown, ShownNumber: what probe shows of a pattern
+pub mod Counts
+pub mod ThreeReaders
+pub mod OtherChunks
+pub mod Shown
+pub mod ShownNumber
