@@ -4,6 +4,8 @@ ghost use mathlib.Core.Bool.{true};
 ghost use mathlib.Core.List.{_∷_, []};
 ghost use Prim.Native.Nat.{_≤_, _<_, _+_};
 ghost use lib.ListN.{length, drop};
+ghost use Rattle.stream.specs.Setting.{groupSize};
+ghost use Rattle.stream.specs.Chunk.{groupsIn};
 ghost use Rattle.stream.specs.Header.{settingIn};
 ghost use Rattle.stream.specs.Relied.{Words, Allowed, Settled, Layout, Opened};
 ghost use Rattle.stream.specs.Tables.{chunkTableRight, startAt};
@@ -52,6 +54,15 @@ pub(crate) fn count_at(h: Header, j: usize) -> usize
         return count - before;
     }
     1024
+}
+
+// How many groups a chunk is cut into.
+pub(crate) fn groups_at(h: Header, j: usize) -> usize
+    requires { ⌜ Words h × Settled h × (j ≤ 1024) ⌝ }
+    ensures { λ r. ⌜ (r ≡ groupsIn (groupSize (settingIn h)) (countOf h j)) × (r ≤ 1024) ⌝ }
+{
+    let size = setting::group_size(setting_in(h));
+    (count_at(h, j) + (size - 1)) / size
 }
 
 // The header's setting.

@@ -5,7 +5,7 @@ ghost use mathlib.Core.List.{_∷_, [], _++_};
 ghost use Prim.Native.Nat.{_+_, _*_, _≤_, _<_};
 ghost use lib.ListN.{length, drop};
 ghost use Rattle.stream.specs.Header.{headerOf};
-ghost use Rattle.stream.specs.Relied.{Words, Layout, Opened};
+ghost use Rattle.stream.specs.Relied.{Opened, Words};
 ghost use Rattle.stream.specs.Tables.{chunkTableRight};
 ghost use Rattle.stream.specs.Stream.{joined};
 ghost use Rattle.stream.specs.Listing.{digit, decimal, signedDecimal, labelled, formatLine, settingLine, countLine, chunkLine};
@@ -120,14 +120,14 @@ fn put_count_line(h: Header, text: &mut [u8], at: usize) -> usize
     put_byte(b'\n', text, next)
 }
 
-// A chunk's number is below 1,024 and its groups are at most 32, so the line has at most 80 bytes.
+// A chunk's number is below 1,024 and its groups are no more than its values, so the line has at most 80 bytes.
 fn put_chunk_line(h: Header, bytes: &[u8], j: usize, text: &mut [u8], at: usize) -> usize
-    requires { ⌜ Layout (length (now bytes)) h × (chunkTableRight h (now bytes) ≡ true) × (j < h .chunks) × (at + 120 ≤ length (now text)) ⌝ }
+    requires { ⌜ Opened (length (now bytes)) h × (chunkTableRight h (now bytes) ≡ true) × (j < h .chunks) × (at + 120 ≤ length (now text)) ⌝ }
     ensures { λ r. ⌜ Appends (chunkLine h (now (bytes .entry)) j) at r (now (text .entry)) (now (text .exit)) × (r ≤ at + 80) ⌝ }
 {
     let start = tables::start_at(h, bytes, j);
     let end = tables::start_at(h, bytes, j + 1);
-    let groups = (chunks::count_at(h, j) + 31) / 32;
+    let groups = chunks::groups_at(h, j);
     let next = put_labelled(b"chunk ", j, text, at);
     let next = put_labelled(b" at ", start, text, next);
     let next = put_labelled(b" bytes ", end - start, text, next);
@@ -136,7 +136,7 @@ fn put_chunk_line(h: Header, bytes: &[u8], j: usize, text: &mut [u8], at: usize)
 }
 
 fn put_chunk_lines(h: Header, bytes: &[u8], text: &mut [u8], at: usize) -> usize
-    requires { ⌜ Layout (length (now bytes)) h × (chunkTableRight h (now bytes) ≡ true) × (at + 80 * h .chunks + 120 ≤ length (now text)) ⌝ }
+    requires { ⌜ Opened (length (now bytes)) h × (chunkTableRight h (now bytes) ≡ true) × (at + 80 * h .chunks + 120 ≤ length (now text)) ⌝ }
     ensures { λ r. ⌜ Appends (joined (chunkLine h (now (bytes .entry))) (h .chunks)) at r (now (text .entry)) (now (text .exit)) ⌝ }
 {
     let mut next = at;

@@ -15,7 +15,7 @@ use lib.Signed.{ltZ}
 use Rattle.stream.specs.Bytes.{Below}
 use Rattle.stream.specs.Setting.{groupSize}
 use Rattle.stream.specs.Chunk.{groupsIn}
-use Rattle.stream.specs.Header.{headerOf}
+use Rattle.stream.specs.Header.{headerOf, settingIn}
 use Rattle.stream.specs.Tables.{startAt, chunkTableRight}
 use Rattle.stream.specs.Stream.{joined, countOf}
 use Rattle.stream.specs.Relied.{Opened}
@@ -55,11 +55,11 @@ module _ (x : ℤ) (f : SFits w32 x) (size : ℕ) (is : size ≡ natAbs (toZ w32
 
 -- ---- the line of a chunk, and of the chunks
 
-pub chunk-line-is : (h : Header) (s : List ℕ) (j start end count : ℕ) → start ≡ startAt h s j → end ≡ startAt h s (j + 1) → count ≡ countOf h j
-    → labelled chunkWord j ++ labelled atWord start ++ labelled bytesWord (end - start) ++ labelled groupsWord ((count + 31) / 32) ++ newline
+pub chunk-line-is : (h : Header) (s : List ℕ) (j start end groups : ℕ) → start ≡ startAt h s j → end ≡ startAt h s (j + 1) → groups ≡ groupsIn (groupSize (settingIn h)) (countOf h j)
+    → labelled chunkWord j ++ labelled atWord start ++ labelled bytesWord (end - start) ++ labelled groupsWord groups ++ newline
     ≡ chunkLine h s j
-unfolding chunkLine groupsIn groupSize
-chunk-line-is h s j start end count starts ends counts = rw (starts, ends, counts)
+unfolding chunkLine
+chunk-line-is h s j start end groups starts ends counts = rw (starts, ends, counts)
 
 pub one-line-more : (f : ℕ → List ℕ) (j : ℕ) → joined f j ++ f j ≡ joined f (j + 1)
 unfolding joined

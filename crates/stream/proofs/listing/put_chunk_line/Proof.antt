@@ -17,11 +17,8 @@ add-start-at c = search needs
 start-at-requires-2 : tie.Need-start-at-requires-2
 start-at-requires-2 c κs = search needs
 
-count-at-requires : tie.Need-count-at-requires
-count-at-requires c κs = search needs
-
-add-groups : tie.Need-add-groups
-add-groups c = search needs
+groups-at-requires : tie.Need-groups-at-requires
+groups-at-requires c κs = let start = c .before .before .before .before in (start .pre .0 .words, start .pre .0 .setting, omega (arith, start .pre .0 .layout, start .pre .2))
 
 slice-aggregate-put-labelled : tie.Need-slice-aggregate-put-labelled
 slice-aggregate-put-labelled c = search needs
@@ -66,21 +63,21 @@ returns c =
     let at-put-labelled3 = at-put-labelled4 .before .before .before .before .before in
     let at-put-labelled2 = at-put-labelled3 .before .before .before .before .before in
     let at-put-labelled = at-put-labelled2 .before .before .before .before .before in
-    let at-count-at = at-put-labelled .before .before .before in
-    let at-start-at2 = at-count-at .before in
+    let at-groups-at = at-put-labelled .before .before .before in
+    let at-start-at2 = at-groups-at .before in
     let at-start-at = at-start-at2 .before in
     let start = at-start-at .before .before .before in (
       same-piece (chunk-line-is (start .args .h) (start .args .bytes .now) (start .args .j) (at-start-at .start-at .result)
-          (at-start-at2 .start-at2 .result) (at-count-at .count-at .result) (at-start-at .start-at .ensures) (at-start-at2 .start-at2 .ensures)
-          (at-count-at .count-at .ensures .0))
+          (at-start-at2 .start-at2 .result) (at-groups-at .groups-at .result) (at-start-at .start-at .ensures) (at-start-at2 .start-at2 .ensures)
+          (at-groups-at .groups-at .ensures .0))
           (and-then (and-then (and-then (and-then (at-put-labelled .put-labelled .ensures .0) (at-put-labelled2 .put-labelled2 .ensures .0))
           (at-put-labelled3 .put-labelled3 .ensures .0)) (at-put-labelled4 .put-labelled4 .ensures .0)) (at-put-byte .put-byte .ensures)),
       omega (
         arith,
         within-digits chunkWord (start .args .j) (at-put-labelled .put-labelled .ensures .0) 3 (omega
-            (arith, start .pre .2, start .pre .0)),
-        within-digits groupsWord _ (at-put-labelled4 .put-labelled4 .ensures .0) 1 (omega
-            (arith, at-count-at .count-at .ensures .1)),
+            (arith, start .pre .2, start .pre .0 .layout)),
+        within-digits groupsWord _ (at-put-labelled4 .put-labelled4 .ensures .0) 3 (omega
+            (arith, at-groups-at .groups-at .ensures .1)),
       ),
     )
 
@@ -91,8 +88,7 @@ put-chunk-line-spec =
     start-at-requires
     add-start-at
     start-at-requires-2
-    count-at-requires
-    add-groups
+    groups-at-requires
     slice-aggregate-put-labelled
     put-labelled-requires
     slice-aggregate-put-labelled-2

@@ -39,7 +39,7 @@ put-chunk-lines-requires c κs =
     let setting-kept = at-setting .put-setting-line .kept .1 .0 in
     let format-kept = at-format .put-format-line .kept .1 .0 in
     let room = start .pre .1 in
-    (r .0 .layout, r .1, omega (arith, r .0 .layout, at-most, count-most, setting-most, count-kept, setting-kept, format-kept, room))
+    (r .0, r .1, omega (arith, r .0 .layout, at-most, count-most, setting-most, count-kept, setting-kept, format-kept, room))
 
 same-length : tie.Need-same-length
 same-length c = search needs
