@@ -141,10 +141,11 @@ pattern-requires c κs = let l = c .before .before .before .before .before in
 
 returns : tie.Need-returns Inv-loop μ-loop
 returns c =
+    let at-group-count = c .before .before .before in
     let l = c .before .before .before .before .before .before in
     c .pattern .ensures
     ∙ ap (patternAt (t l)) (read (c .before))
-    ∙ sym (within-next (groupSize (t l)) (size-some (t l)) (t l .width) (limitOf (t l)) (bytes l) (l .loop .left) (l .loop .at) (c .before .before .before .group-count .result) (l .loop .inv .2) (some-left l) (count-is (c .before .before .before)) (t l) _ refl (l .loop .index) (within (c .before .before .before)))
+    ∙ sym (within-next (groupSize (t l)) (size-some (t l)) (t l .width) (limitOf (t l)) (bytes l) (l .loop .left) (l .loop .at) (at-group-count .group-count .result) (l .loop .inv .2) (some-left l) (count-is (at-group-count)) (t l) _ refl (l .loop .index) (within (at-group-count)))
     ∙ l .loop .inv .3
 
 pub value-spec : {M : Type 1} → statement M

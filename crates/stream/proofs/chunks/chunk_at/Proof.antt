@@ -10,7 +10,9 @@ start-at-requires : tie.Need-start-at-requires
 start-at-requires c κs = search needs
 
 add-from : tie.Need-add-from
-add-from c = omega (arith, placed (length (c .before .before .before .args .bytes .now)) (c .before .before .before .args .h) (c .before .before .before .args .bytes .now) (c .before .before .before .pre .0) (c .before .before .before .pre .1) (c .before .before .before .args .j) (c .before .before .before .pre .2))
+add-from c =
+    let start = c .before .before .before in
+    omega (arith, placed (length (start .args .bytes .now)) (start .args .h) (start .args .bytes .now) (start .pre .0) (start .pre .1) (start .args .j) (start .pre .2))
 
 add-start-at : tie.Need-add-start-at
 add-start-at c = search needs
@@ -19,19 +21,30 @@ start-at-requires-2 : tie.Need-start-at-requires-2
 start-at-requires-2 c κs = search needs
 
 add-to : tie.Need-add-to
-add-to c = omega (arith, placed (length (c .before .before .before .before .before .args .bytes .now)) (c .before .before .before .before .before .args .h) (c .before .before .before .before .before .args .bytes .now) (c .before .before .before .before .before .pre .0) (c .before .before .before .before .before .pre .1) (c .before .before .before .before .before .args .j) (c .before .before .before .before .before .pre .2))
+add-to c =
+    let start = c .before .before .before .before .before in
+    omega (arith, placed (length (start .args .bytes .now)) (start .args .h) (start .args .bytes .now) (start .pre .0) (start .pre .1) (start .args .j) (start .pre .2))
 
 sub-result : tie.Need-sub-result
-sub-result c = omega (arith, placed (length (c .before .before .before .before .before .args .bytes .now)) (c .before .before .before .before .before .args .h) (c .before .before .before .before .before .args .bytes .now) (c .before .before .before .before .before .pre .0) (c .before .before .before .before .before .pre .1) (c .before .before .before .before .before .args .j) (c .before .before .before .before .before .pre .2))
+sub-result c =
+    let start = c .before .before .before .before .before in
+    omega (arith, placed (length (start .args .bytes .now)) (start .args .h) (start .args .bytes .now) (start .pre .0) (start .pre .1) (start .args .j) (start .pre .2))
 
 part-result-start : tie.Need-part-result-start
-part-result-start c = omega (arith, placed (length (c .before .before .before .before .before .args .bytes .now)) (c .before .before .before .before .before .args .h) (c .before .before .before .before .before .args .bytes .now) (c .before .before .before .before .before .pre .0) (c .before .before .before .before .before .pre .1) (c .before .before .before .before .before .args .j) (c .before .before .before .before .before .pre .2))
+part-result-start c =
+    let start = c .before .before .before .before .before in
+    omega (arith, placed (length (start .args .bytes .now)) (start .args .h) (start .args .bytes .now) (start .pre .0) (start .pre .1) (start .args .j) (start .pre .2))
 
 part-result-end : tie.Need-part-result-end
-part-result-end c = omega (arith, placed (length (c .before .before .before .before .before .args .bytes .now)) (c .before .before .before .before .before .args .h) (c .before .before .before .before .before .args .bytes .now) (c .before .before .before .before .before .pre .0) (c .before .before .before .before .before .pre .1) (c .before .before .before .before .before .args .j) (c .before .before .before .before .before .pre .2))
+part-result-end c =
+    let start = c .before .before .before .before .before in
+    omega (arith, placed (length (start .args .bytes .now)) (start .args .h) (start .args .bytes .now) (start .pre .0) (start .pre .1) (start .args .j) (start .pre .2))
 
 returns : tie.Need-returns
-returns c = ends-are (c .before .before .before .before .before .before .args .h) (c .before .before .before .before .before .before .args .bytes .now) (c .before .before .before .before .before .before .args .j) (c .before .before .before .before .start-at .result) (c .before .before .start-at2 .result) (c .before .before .before .before .start-at .ensures) (c .before .before .start-at2 .ensures)
+returns c =
+    let at-start-at = c .before .before .before .before in
+    let start = at-start-at .before .before in
+    ends-are (start .args .h) (start .args .bytes .now) (start .args .j) (at-start-at .start-at .result) (c .before .before .start-at2 .result) (at-start-at .start-at .ensures) (c .before .before .start-at2 .ensures)
 
 pub chunk-at-spec : {M : Type 1} → statement M
 chunk-at-spec =

@@ -11,8 +11,9 @@ use Rattle.stream.proofs.chunks.chunk_step.Tie as tie
 -- what the check found is the chunk's state
 state-is : (c : tie.After-checked) (a : ChunkAnswer) → c .checked .result ≡ a → let s = c .before .before .before .before .before .args in chunkState (s .h) (s .bytes .now) (s .j) ≡ a
 state-is c a e =
+    let at-setting-in = c .before .before .before in
     let s = c .before .before .before .before .before .args in
-    found-is (s .h) (s .bytes .now) (s .j) (c .before .before .before .setting-in .result) (c .before .count-at .result) _ (c .before .before .before .setting-in .ensures .0) (c .before .count-at .ensures .0) (c .before .before .chunk-at .ensures) (c .checked .result) a (c .checked .ensures) e
+    found-is (s .h) (s .bytes .now) (s .j) (at-setting-in .setting-in .result) (c .before .count-at .result) _ (at-setting-in .setting-in .ensures .0) (c .before .count-at .ensures .0) (c .before .before .chunk-at .ensures) (c .checked .result) a (c .checked .ensures) e
 
 setting-in-requires : tie.Need-setting-in-requires
 setting-in-requires c κs = (c .before .pre .0 .words, c .before .pre .0 .setting)

@@ -23,7 +23,9 @@ loop-holds c =
     (omega arith, ap first (all-left (rowsFrom (chunkRow h s)) (h .chunks)))
 
 chunk-step-requires : tie.Need-chunk-step-requires Inv-loop μ-loop
-chunk-step-requires c κs = (c .before .before .before .before .pre .0, c .before .before .before .before .pre .1, c .if1 .taken)
+chunk-step-requires c κs =
+    let start = c .before .before .before .before in
+    (start .pre .0, start .pre .1, c .if1 .taken)
 
 enum-told : tie.Need-enum-told Inv-loop μ-loop
 enum-told c = search needs
@@ -33,9 +35,11 @@ enum-known-step c = search needs
 
 returns : tie.Need-returns Inv-loop μ-loop
 returns c =
-    let h = c .before .before .before .before .before .before .before .before .args .h in
-    let s = c .before .before .before .before .before .before .before .before .args .bytes .now in
-    sym (c .before .before .before .before .before .before .loop .inv .1 ∙ rows-stop (chunkRow h s) _ _ (h .chunks) (c .before .before .before .before .before .before .loop .j) (c .before .before .before .before .if1 .taken) (sym (c .before .before .before .chunk-step .ensures) ∙ c .before .step .given .1))
+    let at-loop = c .before .before .before .before .before .before in
+    let start = at-loop .before .before in
+    let h = start .args .h in
+    let s = start .args .bytes .now in
+    sym (at-loop .loop .inv .1 ∙ rows-stop (chunkRow h s) _ _ (h .chunks) (at-loop .loop .j) (c .before .before .before .before .if1 .taken) (sym (c .before .before .before .chunk-step .ensures) ∙ c .before .step .given .1))
 
 add-j : tie.Need-add-j Inv-loop μ-loop
 add-j c = omega arith
@@ -45,14 +49,17 @@ loop-less c = omega arith
 
 loop-again : tie.Need-loop-again Inv-loop μ-loop
 loop-again c =
-    let h = c .before .before .before .before .before .before .before .args .h in
-    let s = c .before .before .before .before .before .before .before .args .bytes .now in
-    (omega arith, c .before .before .before .before .before .loop .inv .1 ∙ rows-on (chunkRow h s) (h .chunks) (c .before .before .before .before .before .loop .j) (c .before .before .before .if1 .taken) (sym (c .before .before .chunk-step .ensures) ∙ c .enum-told .given .1))
+    let at-loop = c .before .before .before .before .before in
+    let start = at-loop .before .before in
+    let h = start .args .h in
+    let s = start .args .bytes .now in
+    (omega arith, at-loop .loop .inv .1 ∙ rows-on (chunkRow h s) (h .chunks) (at-loop .loop .j) (c .before .before .before .if1 .taken) (sym (c .before .before .chunk-step .ensures) ∙ c .enum-told .given .1))
 
 returns-2 : tie.Need-returns-2 Inv-loop μ-loop
 returns-2 c =
-    let h = c .before .before .before .before .args .h in
-    let s = c .before .before .before .before .args .bytes .now in
+    let start = c .before .before .before .before in
+    let h = start .args .h in
+    let s = start .args .bytes .now in
     sym (c .before .before .loop .inv .1 ∙ rows-done (chunkRow h s) (h .chunks) (c .before .before .loop .j) (c .if1 .left))
 
 pub chunk-steps-spec : {M : Type 1} → statement M

@@ -14,18 +14,24 @@ enum-told : tie.Need-enum-told
 enum-told c = search needs
 
 chunk-steps-requires : tie.Need-chunk-steps-requires
-chunk-steps-requires c κs = (c .before .before .before .before .pre, tables (c .before .before .before .before .args .h) (c .before .before .before .before .args .bytes .now) (sym (c .before .before .table-step .ensures) ∙ c .enum-told .given .1) .chunks)
+chunk-steps-requires c κs =
+    let start = c .before .before .before .before in
+    (start .pre, tables (start .args .h) (start .args .bytes .now) (sym (c .before .before .table-step .ensures) ∙ c .enum-told .given .1) .chunks)
 
 enum-known-step : tie.Need-enum-known-step
 enum-known-step c = search needs
 
 returns : tie.Need-returns
 unfolding contentRows
-returns c = c .chunk-steps .ensures ∙ sym (opened (tableRows (c .before .before .before .before .before .args .h) (c .before .before .before .before .before .args .bytes .now)) (chunkRows (c .before .before .before .before .before .args .h) (c .before .before .before .before .before .args .bytes .now)) (sym (c .before .before .before .table-step .ensures) ∙ c .before .enum-told .given .1))
+returns c =
+    let start = c .before .before .before .before .before in
+    c .chunk-steps .ensures ∙ sym (opened (tableRows (start .args .h) (start .args .bytes .now)) (chunkRows (start .args .h) (start .args .bytes .now)) (sym (c .before .before .before .table-step .ensures) ∙ c .before .enum-told .given .1))
 
 returns-2 : tie.Need-returns-2
 unfolding contentRows
-returns-2 c = sym (shut _ _ (tableRows (c .before .before .before .before .before .args .h) (c .before .before .before .before .before .args .bytes .now)) (chunkRows (c .before .before .before .before .before .args .h) (c .before .before .before .before .before .args .bytes .now)) (sym (c .before .before .before .table-step .ensures) ∙ c .before .step .given .1))
+returns-2 c =
+    let start = c .before .before .before .before .before in
+    sym (shut _ _ (tableRows (start .args .h) (start .args .bytes .now)) (chunkRows (start .args .h) (start .args .bytes .now)) (sym (c .before .before .before .table-step .ensures) ∙ c .before .step .given .1))
 
 pub content-step-spec : {M : Type 1} → statement M
 content-step-spec =

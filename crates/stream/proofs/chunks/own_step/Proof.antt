@@ -17,18 +17,24 @@ enum-told : tie.Need-enum-told
 enum-told c = search needs
 
 chunk-step-requires : tie.Need-chunk-step-requires
-chunk-step-requires c κs = (c .before .before .before .before .pre .0, tables (c .before .before .before .before .args .h) (c .before .before .before .before .args .bytes .now) (sym (c .before .before .table-step .ensures) ∙ c .enum-told .given .1) .chunks, omega arith)
+chunk-step-requires c κs =
+    let start = c .before .before .before .before in
+    (start .pre .0, tables (start .args .h) (start .args .bytes .now) (sym (c .before .before .table-step .ensures) ∙ c .enum-told .given .1) .chunks, omega arith)
 
 enum-known-step : tie.Need-enum-known-step
 enum-known-step c = search needs
 
 returns : tie.Need-returns
 unfolding ownRows
-returns c = c .chunk-step .ensures ∙ sym (opened (tableRows (c .before .before .before .before .before .args .h) (c .before .before .before .before .before .args .bytes .now)) (chunkRow (c .before .before .before .before .before .args .h) (c .before .before .before .before .before .args .bytes .now) (c .before .before .before .before .before .args .index / 1024) ∷ []) (sym (c .before .before .before .table-step .ensures) ∙ c .before .enum-told .given .1))
+returns c =
+    let start = c .before .before .before .before .before in
+    c .chunk-step .ensures ∙ sym (opened (tableRows (start .args .h) (start .args .bytes .now)) (chunkRow (start .args .h) (start .args .bytes .now) (start .args .index / 1024) ∷ []) (sym (c .before .before .before .table-step .ensures) ∙ c .before .enum-told .given .1))
 
 returns-2 : tie.Need-returns-2
 unfolding ownRows
-returns-2 c = sym (shut _ _ (tableRows (c .before .before .before .before .before .args .h) (c .before .before .before .before .before .args .bytes .now)) (chunkRow (c .before .before .before .before .before .args .h) (c .before .before .before .before .before .args .bytes .now) (c .before .before .before .before .before .args .index / 1024) ∷ []) (sym (c .before .before .before .table-step .ensures) ∙ c .before .step .given .1))
+returns-2 c =
+    let start = c .before .before .before .before .before in
+    sym (shut _ _ (tableRows (start .args .h) (start .args .bytes .now)) (chunkRow (start .args .h) (start .args .bytes .now) (start .args .index / 1024) ∷ []) (sym (c .before .before .before .table-step .ensures) ∙ c .before .step .given .1))
 
 pub own-step-spec : {M : Type 1} → statement M
 own-step-spec =

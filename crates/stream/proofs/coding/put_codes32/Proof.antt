@@ -32,7 +32,9 @@ code32-requires : tie.Need-code32-requires Inv-loop μ-loop
 code32-requires c κs = c .before .before .before .before .before .pre .0
 
 mul-c : tie.Need-mul-c Inv-loop μ-loop
-mul-c c = omega (arith, c .before .before .before .before .before .before .good, c .before .before .before .before .before .before .pre)
+mul-c c =
+    let start = c .before .before .before .before .before .before in
+    omega (arith, start .good, start .pre)
 
 slice-write-c : tie.Need-slice-write-c Inv-loop μ-loop
 slice-write-c c =

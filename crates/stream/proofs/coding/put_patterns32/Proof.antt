@@ -23,7 +23,9 @@ unfolding patternsOf
 loop-holds c = (omega arith, refl)
 
 mul-pattern32 : tie.Need-mul-pattern32 Inv-loop μ-loop
-mul-pattern32 c = omega (arith, c .before .before .before .before .good, c .before .before .before .before .pre, c .loop-test .taken)
+mul-pattern32 c =
+    let start = c .before .before .before .before in
+    omega (arith, start .good, start .pre, c .loop-test .taken)
 
 shared-slice-read-pattern32 : tie.Need-shared-slice-read-pattern32 Inv-loop μ-loop
 shared-slice-read-pattern32 c = omega (arith, c .before .before .before .before .before .pre .1, c .before .loop-test .taken)
@@ -32,7 +34,9 @@ pattern32-requires : tie.Need-pattern32-requires Inv-loop μ-loop
 pattern32-requires c κs = c .before .before .before .before .before .pre .0
 
 mul-out : tie.Need-mul-out Inv-loop μ-loop
-mul-out c = omega (arith, c .before .before .before .before .before .before .good, c .before .before .before .before .before .before .pre, c .before .before .loop-test .taken)
+mul-out c =
+    let start = c .before .before .before .before .before .before in
+    omega (arith, start .good, start .pre, c .before .before .loop-test .taken)
 
 slice-write-out : tie.Need-slice-write-out Inv-loop μ-loop
 slice-write-out c =

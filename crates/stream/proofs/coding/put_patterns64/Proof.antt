@@ -24,7 +24,9 @@ unfolding patternsOf
 loop-holds c = (omega arith, refl)
 
 mul-pattern64 : tie.Need-mul-pattern64 Inv-loop μ-loop
-mul-pattern64 c = omega (arith, c .before .before .before .before .good, c .before .before .before .before .pre)
+mul-pattern64 c =
+    let start = c .before .before .before .before in
+    omega (arith, start .good, start .pre)
 
 shared-slice-read-pattern64 : tie.Need-shared-slice-read-pattern64 Inv-loop μ-loop
 shared-slice-read-pattern64 c = omega (arith, c .before .before .before .before .before .pre .1)
@@ -33,10 +35,15 @@ pattern64-requires : tie.Need-pattern64-requires Inv-loop μ-loop
 pattern64-requires c κs = c .before .before .before .before .before .pre .0
 
 mul-out : tie.Need-mul-out Inv-loop μ-loop
-mul-out c = omega (arith, c .before .before .before .before .before .before .good, c .before .before .before .before .before .before .pre)
+mul-out c =
+    let start = c .before .before .before .before .before .before in
+    omega (arith, start .good, start .pre)
 
 slice-write-out : tie.Need-slice-write-out Inv-loop μ-loop
-slice-write-out c = omega (arith, length-filled (c .before .before .before .before .before .before .args .t) (c .before .before .before .before .before .before .args .n) (c .before .before .before .before .before .before .args .codes .now) (c .before .before .before .before .before .before .args .out .now) (c .before .before .before .loop .out) (c .before .before .before .loop .i) (c .before .before .before .before .before .before .pre .1) (c .before .before .before .before .before .before .pre .2) (c .before .before .before .loop .inv .0) (c .before .before .before .loop .inv .1), c .before .before .before .before .before .before .pre .2)
+slice-write-out c =
+    let at-loop = c .before .before .before in
+    let start = at-loop .before .before .before in
+    omega (arith, length-filled (start .args .t) (start .args .n) (start .args .codes .now) (start .args .out .now) (at-loop .loop .out) (at-loop .loop .i) (start .pre .1) (start .pre .2) (at-loop .loop .inv .0) (at-loop .loop .inv .1), start .pre .2)
 
 add-i : tie.Need-add-i Inv-loop μ-loop
 add-i c = omega arith
@@ -60,7 +67,9 @@ loop-again c =
     )
 
 same-length : tie.Need-same-length Inv-loop μ-loop
-same-length c = length-filled (c .before .before .before .before .args .t) (c .before .before .before .before .args .n) (c .before .before .before .before .args .codes .now) (c .before .before .before .before .args .out .now) (c .before .loop .out) (c .before .loop .i) (c .before .before .before .before .pre .1) (c .before .before .before .before .pre .2) (c .before .loop .inv .0) (c .before .loop .inv .1)
+same-length c =
+    let start = c .before .before .before .before in
+    length-filled (start .args .t) (start .args .n) (start .args .codes .now) (start .args .out .now) (c .before .loop .out) (c .before .loop .i) (start .pre .1) (start .pre .2) (c .before .loop .inv .0) (c .before .loop .inv .1)
 
 returns : tie.Need-returns Inv-loop μ-loop
 returns c =

@@ -64,13 +64,14 @@ same-length c =
 returns : tie.Need-returns
 unfolding groupBytes
 returns c =
+    let at-width = c .before .before .before .before in
     let s = c .before .before .before .before .before .before .before in
     let codes : List ℕ = s .args .codes .now in
     let out : List ℕ = s .args .out .now in
-    let w = c .before .before .before .before .width in
+    let w = at-width .width in
     let b = c .before .before .put-packed in (
       one-add (b .result) ∙ ap suc (b .ensures .0 ∙ ap (λ (n : ℕ). bytesFor n (length codes)) (w .ensures .0)) ∙ sym (length-group codes),
-      first-back out (b .last .1 .1 .0) (w .result) (lt-of-lt-of-le (zero-lt-suc _) (room (c .before .before .before .before)))
+      first-back out (b .last .1 .1 .0) (w .result) (lt-of-lt-of-le (zero-lt-suc _) (room (at-width)))
           ∙ ap₂ (λ (n : ℕ) (r : List ℕ). n ∷ r) (w .ensures .0)
           (b .ensures .1
           ∙ ap₂ (λ (n : ℕ) (r : List ℕ). packed n codes ++ drop (b .result) r) (w .ensures .0) (behind-first out (w .result))

@@ -36,11 +36,12 @@ shl-full c = omega arith
 
 add-full : tie.Need-add-full Inv-loop μ-loop
 add-full c =
-    let a = c .before .before .before .before .before .args in
+    let start = c .before .before .before .before .before in
+    let a = start .args in
     let l = c .before .before .loop in
     record {
       fits = word-fits (l .inv .2)
-          (below-take (2 ^ a .w) (l .i) (a .codes .now) (c .before .before .before .before .before .pre .1)) (getD (a .codes .now) (l .i) 0);
+          (below-take (2 ^ a .w) (l .i) (a .codes .now) (start .pre .1)) (getD (a .codes .now) (l .i) 0);
     }
 
 add-i : tie.Need-add-i Inv-loop μ-loop
@@ -54,13 +55,14 @@ loop-less c = omega arith
 
 loop-again : tie.Need-loop-again Inv-loop μ-loop
 loop-again c =
-    let a = c .before .before .before .before .before .before .args in
+    let start = c .before .before .before .before .before .before in
+    let a = start .args in
     let l = c .before .before .before .loop in (
       omega arith,
       l .inv .1,
       rw (add-one, take-suc (a .codes .now) (l .i) 0 (c .before .before .loop-test .taken))
           (kept (l .inv .2)
-          (getD (a .codes .now) (l .i) 0) (c .before .before .before .before .before .before .pre .1 (l .i)) (c .if1 .taken)),
+          (getD (a .codes .now) (l .i) 0) (start .pre .1 (l .i)) (c .if1 .taken)),
     )
 
 -- where a full word is stored

@@ -12,7 +12,9 @@ returns c = rw (ne-eqb (c .before .before .args .h .major) 1 (c .if1 .taken))
 
 returns-2 : tie.Need-returns-2
 unfolding first headerRows
-returns-2 c = rw (eq-eqb (c .before .before .before .args .h .major) 1 (c .before .if1 .left), lt-ltb (c .before .before .before .args .level) (c .before .before .before .args .h .needed) (c .if2 .taken))
+returns-2 c =
+    let start = c .before .before .before in
+    rw (eq-eqb (start .args .h .major) 1 (c .before .if1 .left), lt-ltb (start .args .level) (start .args .h .needed) (c .if2 .taken))
 
 setting-right-requires : tie.Need-setting-right-requires
 setting-right-requires c κs = search needs

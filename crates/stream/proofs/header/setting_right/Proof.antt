@@ -20,7 +20,9 @@ k-is : (c : tie.After-exponent-of) → toZ w32 (ofZ w32 (c .exponent-of .result)
 k-is c = toZ-ofZ {w = w32} (record { sfits = c .exponent-of .ok }) ∙ c .exponent-of .ensures
 
 allowed-is : (c : tie.After-allowed) → c .allowed .result ≡ allowedSetting (c .before .before .before .before .args .h .width) (c .before .before .before .before .args .h .mode) (kOf (c .before .before .before .before .args .h))
-allowed-is c = c .allowed .ensures ∙ ap (allowedSetting (c .before .before .before .before .args .h .width) (c .before .before .before .before .args .h .mode)) (k-is (c .before))
+allowed-is c =
+    let start = c .before .before .before .before in
+    c .allowed .ensures ∙ ap (allowedSetting (start .args .h .width) (start .args .h .mode)) (k-is (c .before))
 
 known-width-requires : tie.Need-known-width-requires
 known-width-requires c κs = search needs
@@ -48,9 +50,10 @@ need-of-requires c κs = search needs
 returns-3 : tie.Need-returns-3
 unfolding settingRight needRight
 returns-3 c =
+    let at-allowed = c .before .before .before .before in
     let h = c .before .before .before .before .before .before .before .before .args .h in
     let setting : c .before .before .setting-of .result ≡ settingIn h = c .before .before .setting-of .ensures .0 ∙ ap (settingOf (h .width) (h .mode)) (k-is (c .before .before .before .before .before)) in
-    rw (known (c .before .before .before .before .before .before), sym (allowed-is (c .before .before .before .before)) ∙ not-false (c .before .before .before .before .allowed .result) (c .before .before .before .if2 .left)) (rw (c .before .need-of .ensures ∙ ap need setting, and-true))
+    rw (known (c .before .before .before .before .before .before), sym (allowed-is (at-allowed)) ∙ not-false (at-allowed .allowed .result) (c .before .before .before .if2 .left)) (rw (c .before .need-of .ensures ∙ ap need setting, and-true))
 
 pub setting-right-spec : {M : Type 1} → statement M
 setting-right-spec =

@@ -58,9 +58,10 @@ add-result-3 c = omega arith
 
 returns : tie.Need-returns
 returns c =
-    let s = c .before .before .before .before .before .before .before .before .before .args .bytes .now in
-    let at = c .before .before .before .before .before .before .before .before .before .args .at in
-    (omega (arith, word-is s at (c .before .before .before .before .before .before .before .before .before .pre)), omega arith)
+    let start = c .before .before .before .before .before .before .before .before .before in
+    let s = start .args .bytes .now in
+    let at = start .args .at in
+    (omega (arith, word-is s at (start .pre)), omega arith)
 
 pub word-at-spec : {M : Type 1} → statement M
 word-at-spec =

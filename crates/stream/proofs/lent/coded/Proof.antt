@@ -35,7 +35,9 @@ part-coded32-end : tie.Need-part-coded32-end
 part-coded32-end c = long32 (c .before .before)
 
 coded32-requires : tie.Need-coded32-requires
-coded32-requires c κs = (c .before .before .before .if1 .taken, rw (length-take, length-drop) (omega (arith, long32 (c .before .before .before))))
+coded32-requires c κs =
+    let at-if1 = c .before .before .before in
+    (at-if1 .if1 .taken, rw (length-take, length-drop) (omega (arith, long32 (at-if1))))
 
 mul-grouped32 : tie.Need-mul-grouped32
 mul-grouped32 c = search needs

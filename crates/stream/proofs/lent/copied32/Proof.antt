@@ -26,12 +26,15 @@ shared-slice-read-out c = omega (arith, c .before .before .before .pre .0, c .be
 
 cast-out : tie.Need-cast-out Inv-loop μ-loop
 cast-out c =
-    let v = c .before .before .before .args in
+    let start = c .before .before .before in
+    let v = start .args in
     let l = c .before .before .loop in
-    omega (arith, c .before .before .before .pre .2 (l .i), getD-take (v .n) (v .codes .now) (l .i) 0 (c .before .loop-test .taken))
+    omega (arith, start .pre .2 (l .i), getD-take (v .n) (v .codes .now) (l .i) 0 (c .before .loop-test .taken))
 
 mul-out-2 : tie.Need-mul-out-2 Inv-loop μ-loop
-mul-out-2 c = omega (arith, c .before .before .before .good, c .before .before .before .pre, c .before .loop-test .taken)
+mul-out-2 c =
+    let start = c .before .before .before in
+    omega (arith, start .good, start .pre, c .before .loop-test .taken)
 
 slice-write-out : tie.Need-slice-write-out Inv-loop μ-loop
 slice-write-out c =

@@ -24,7 +24,9 @@ shared-slice-read-out : tie.Need-shared-slice-read-out Inv-loop μ-loop
 shared-slice-read-out c = omega (arith, c .before .before .before .pre .0, c .before .loop-test .taken)
 
 mul-out-2 : tie.Need-mul-out-2 Inv-loop μ-loop
-mul-out-2 c = omega (arith, c .before .before .before .good, c .before .before .before .pre, c .before .loop-test .taken)
+mul-out-2 c =
+    let start = c .before .before .before in
+    omega (arith, start .good, start .pre, c .before .loop-test .taken)
 
 slice-write-out : tie.Need-slice-write-out Inv-loop μ-loop
 slice-write-out c =

@@ -34,7 +34,9 @@ coded-requires c κs =
     ((s .pre .0 .0, omega arith, omega (arith, is), omega (arith, is, s .pre .0 .1), omega (arith, is, s .pre .0 .2)), s .pre .1 .0)
 
 written-requires : tie.Need-written-requires
-written-requires c κs = let m = c .before in (omega (arith, m .coded .ensures .0, end-is m, size-most (c .before .before .before .before .before .before .before .args .t)), rw (codes-are m) (c .before .before .before .before .before .before .before .pre .1 .1))
+written-requires c κs =
+    let start = c .before .before .before .before .before .before .before in
+    let m = c .before in (omega (arith, m .coded .ensures .0, end-is m, size-most (start .args .t)), rw (codes-are m) (start .pre .1 .1))
 
 same-length : tie.Need-same-length
 same-length c = search needs

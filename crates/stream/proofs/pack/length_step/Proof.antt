@@ -49,11 +49,15 @@ returns-3 c = let n = c .before in rw (known (c .before .before .before .before 
 
 returns-4 : tie.Need-returns-4
 unfolding first lengthRows tooMany
-returns-4 c = let n = c .before .before in rw (known (c .before .before .before .before .before .before), allowed (c .before .before .before .before), need-is n, le-ltb (c .before .before .before .before .before .before .before .before .args .level) (n .need-of .result) (c .before .if3 .left), lt-ltb 1048576 (c .before .before .before .before .before .before .before .before .args .n) (c .if4 .taken))
+returns-4 c =
+    let start = c .before .before .before .before .before .before .before .before in
+    let n = c .before .before in rw (known (c .before .before .before .before .before .before), allowed (c .before .before .before .before), need-is n, le-ltb (start .args .level) (n .need-of .result) (c .before .if3 .left), lt-ltb 1048576 (start .args .n) (c .if4 .taken))
 
 returns-5 : tie.Need-returns-5
 unfolding first lengthRows tooMany
-returns-5 c = let n = c .before .before in rw (known (c .before .before .before .before .before .before), allowed (c .before .before .before .before), need-is n, le-ltb (c .before .before .before .before .before .before .before .before .args .level) (n .need-of .result) (c .before .if3 .left), le-ltb 1048576 (c .before .before .before .before .before .before .before .before .args .n) (c .if4 .left))
+returns-5 c =
+    let start = c .before .before .before .before .before .before .before .before in
+    let n = c .before .before in rw (known (c .before .before .before .before .before .before), allowed (c .before .before .before .before), need-is n, le-ltb (start .args .level) (n .need-of .result) (c .before .if3 .left), le-ltb 1048576 (start .args .n) (c .if4 .left))
 
 pub length-step-spec : {M : Type 1} → statement M
 length-step-spec =

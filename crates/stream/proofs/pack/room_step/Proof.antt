@@ -16,7 +16,9 @@ abbrev values : tie.Start → List ℕ
 values s = chosen (s .args .t .width) (s .args .v32 .now) (s .args .v64 .now)
 
 most-requires : tie.Need-most-requires
-most-requires c κs = (c .before .before .before .pre .0, c .before .before .before .pre .2)
+most-requires c κs =
+    let start = c .before .before .before in
+    (start .pre .0, start .pre .2)
 
 returns : tie.Need-returns
 returns c =

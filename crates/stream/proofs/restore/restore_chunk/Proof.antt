@@ -31,9 +31,10 @@ width-is c = ap (λ (x : Setting). x .width) (c .before .before .before .before 
 
 good : (c : tie.After-least2) → let a = start c .args in chunkAnswer (t c .width) (limitOf (t c)) (groupSize (t c)) (c .before .before .before .count-at .result) (chunkOf (a .h) (a .bytes .now) (a .j)) ≡ Good
 good c =
+    let at-count-at = c .before .before .before in
     let s = start c in
     let a = s .args in
-    good-is (a .h) (a .bytes .now) (a .j) (t c) (c .before .before .before .count-at .result) (chunkOf (a .h) (a .bytes .now) (a .j)) (c .before .before .before .before .setting-in .ensures .0) (c .before .before .before .count-at .ensures .0) refl (s .pre .2)
+    good-is (a .h) (a .bytes .now) (a .j) (t c) (at-count-at .count-at .result) (chunkOf (a .h) (a .bytes .now) (a .j)) (c .before .before .before .before .setting-in .ensures .0) (at-count-at .count-at .ensures .0) refl (s .pre .2)
 
 setting-in-requires : tie.Need-setting-in-requires
 setting-in-requires c κs = let p = c .before .before .before .before .before .pre .0 .opened in (p .words, p .setting)

@@ -26,15 +26,17 @@ enum-told-2 c = search needs
 returns-2 : tie.Need-returns-2
 unfolding allowedSetting
 returns-2 c =
-    let a = c .before .before .before .before .before .args in
-    let is = ap (binAnswer (a .width) (fractionBits (a .width))) (sym (toZ-ofZ (c .before .before .before .before .before .fits .k))) ∙ sym (c .before .before .bin-at .ensures) ∙ c .enum-told .given .1 in
+    let start = c .before .before .before .before .before in
+    let a = start .args in
+    let is = ap (binAnswer (a .width) (fractionBits (a .width))) (sym (toZ-ofZ (start .fits .k))) ∙ sym (c .before .before .bin-at .ensures) ∙ c .enum-told .given .1 in
     rw (ne-eqb (a .mode) 0 (c .before .before .before .before .if1 .left), eq-eqb (a .mode) 1 (c .before .before .before .if2 .taken)) (sym (a-bin-is-that-of-k (a .width) (fractionBits (a .width)) (a .k) _ is .0))
 
 returns-3 : tie.Need-returns-3
 unfolding allowedSetting
 returns-3 c =
-    let a = c .before .before .before .before .before .args in
-    let is = ap (binAnswer (a .width) (fractionBits (a .width))) (sym (toZ-ofZ (c .before .before .before .before .before .fits .k))) ∙ sym (c .before .before .bin-at .ensures) ∙ c .enum-told2 .given .1 in
+    let start = c .before .before .before .before .before in
+    let a = start .args in
+    let is = ap (binAnswer (a .width) (fractionBits (a .width))) (sym (toZ-ofZ (start .fits .k))) ∙ sym (c .before .before .bin-at .ensures) ∙ c .enum-told2 .given .1 in
     rw (ne-eqb (a .mode) 0 (c .before .before .before .before .if1 .left), eq-eqb (a .mode) 1 (c .before .before .before .if2 .taken)) (sym (no-bin-means-not-allowed (a .width) (fractionBits (a .width)) (a .k) is))
 
 returns-4 : tie.Need-returns-4

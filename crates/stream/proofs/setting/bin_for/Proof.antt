@@ -23,15 +23,17 @@ enum-told c = search needs
 
 returns-2 : tie.Need-returns-2
 returns-2 c =
-    let a = c .before .before .before .before .before .args in
-    let is = ap (binAnswer (a .width) (fractionBits (a .width))) (sym (toZ-ofZ (c .before .before .before .before .before .fits .k))) ∙ sym (c .before .before .before .bin-at .ensures) ∙ c .before .bin .given .1 in
-    setting-bin (a .width) (a .mode) (a .k) (c .before .before .before .before .before .pre .1) (c .before .before .before .before .if1 .left) _ is
+    let start = c .before .before .before .before .before in
+    let a = start .args in
+    let is = ap (binAnswer (a .width) (fractionBits (a .width))) (sym (toZ-ofZ (start .fits .k))) ∙ sym (c .before .before .before .bin-at .ensures) ∙ c .before .bin .given .1 in
+    setting-bin (a .width) (a .mode) (a .k) (start .pre .1) (c .before .before .before .before .if1 .left) _ is
 
 returns-3 : tie.Need-returns-3
 returns-3 c =
-    let a = c .before .before .before .before .args in
-    let is = ap (binAnswer (a .width) (fractionBits (a .width))) (sym (toZ-ofZ (c .before .before .before .before .fits .k))) ∙ sym (c .before .before .bin-at .ensures) ∙ c .enum-told .given .1 in
-    absurd (setting-has-bin (a .width) (a .mode) (a .k) (c .before .before .before .before .pre .1) (c .before .before .before .if1 .left) is)
+    let start = c .before .before .before .before in
+    let a = start .args in
+    let is = ap (binAnswer (a .width) (fractionBits (a .width))) (sym (toZ-ofZ (start .fits .k))) ∙ sym (c .before .before .bin-at .ensures) ∙ c .enum-told .given .1 in
+    absurd (setting-has-bin (a .width) (a .mode) (a .k) (start .pre .1) (c .before .before .before .if1 .left) is)
 
 pub bin-for-spec : {M : Type 1} → statement M
 bin-for-spec =

@@ -20,13 +20,16 @@ start-at-requires c κs = c .before .pre
 
 returns : tie.Need-returns Inv-loop μ-loop
 unfolding chunkTableRight
-returns c = rw (ne-eqb (startAt (c .before .before .before .args .h) (c .before .before .before .args .bytes .now) 0) 0 (λ e. c .if1 .taken (c .before .start-at .ensures ∙ e)))
+returns c =
+    let start = c .before .before .before in
+    rw (ne-eqb (startAt (start .args .h) (start .args .bytes .now) 0) 0 (λ e. c .if1 .taken (c .before .start-at .ensures ∙ e)))
 
 loop-holds : tie.Need-loop-holds Inv-loop μ-loop
 unfolding chunkTableRight
 loop-holds c =
-    let h = c .before .before .before .args .h in
-    let s = c .before .before .before .args .bytes .now in (
+    let start = c .before .before .before in
+    let h = start .args .h in
+    let s = start .args .bytes .now in (
       omega arith,
       c .before .start-at .ensures,
       rw (eq-eqb (startAt h s 0) 0 (sym (c .before .start-at .ensures) ∙ c .if1 .left)) (all-left (every (startRight h s)) (h .chunks)),
@@ -41,11 +44,13 @@ start-at-requires-2 c κs = c .before .before .before .before .before .before .p
 returns-2 : tie.Need-returns-2 Inv-loop μ-loop
 unfolding startRight
 returns-2 c =
-    let h = c .before .before .before .before .before .before .before .before .args .h in
-    let s = c .before .before .before .before .before .before .before .before .args .bytes .now in
-    let j = c .before .before .before .before .loop .j in
-    let broken : startRight h s j ≡ false = le-ltb (startAt h s j) (startAt h s (j + 1)) (omega (arith, c .if3 .taken, c .before .start-at2 .ensures, c .before .before .before .before .loop .inv .1)) in
-    sym (c .before .before .before .before .loop .inv .2 ∙ every-broken (startRight h s) (h .chunks) j (c .before .before .if2 .taken) broken)
+    let at-loop = c .before .before .before .before in
+    let start = at-loop .before .before .before .before in
+    let h = start .args .h in
+    let s = start .args .bytes .now in
+    let j = at-loop .loop .j in
+    let broken : startRight h s j ≡ false = le-ltb (startAt h s j) (startAt h s (j + 1)) (omega (arith, c .if3 .taken, c .before .start-at2 .ensures, at-loop .loop .inv .1)) in
+    sym (at-loop .loop .inv .2 ∙ every-broken (startRight h s) (h .chunks) j (c .before .before .if2 .taken) broken)
 
 add-j : tie.Need-add-j Inv-loop μ-loop
 add-j c = omega arith
@@ -56,16 +61,19 @@ loop-less c = omega arith
 loop-again : tie.Need-loop-again Inv-loop μ-loop
 unfolding startRight
 loop-again c =
-    let h = c .before .before .before .before .before .before .before .before .args .h in
-    let s = c .before .before .before .before .before .before .before .before .args .bytes .now in
-    let j = c .before .before .before .before .loop .j in
-    let right : startRight h s j ≡ true = lt-ltb (startAt h s j) (startAt h s (j + 1)) (omega (arith, c .if3 .left, c .before .start-at2 .ensures, c .before .before .before .before .loop .inv .1)) in
-    (omega arith, c .before .start-at2 .ensures, c .before .before .before .before .loop .inv .2 ∙ every-on (startRight h s) (h .chunks) j (c .before .before .if2 .taken) right)
+    let at-loop = c .before .before .before .before in
+    let start = at-loop .before .before .before .before in
+    let h = start .args .h in
+    let s = start .args .bytes .now in
+    let j = at-loop .loop .j in
+    let right : startRight h s j ≡ true = lt-ltb (startAt h s j) (startAt h s (j + 1)) (omega (arith, c .if3 .left, c .before .start-at2 .ensures, at-loop .loop .inv .1)) in
+    (omega arith, c .before .start-at2 .ensures, at-loop .loop .inv .2 ∙ every-on (startRight h s) (h .chunks) j (c .before .before .if2 .taken) right)
 
 returns-3 : tie.Need-returns-3 Inv-loop μ-loop
 returns-3 c =
-    let h = c .before .before .before .before .before .before .args .h in
-    let s = c .before .before .before .before .before .before .args .bytes .now in
+    let start = c .before .before .before .before .before .before in
+    let h = start .args .h in
+    let s = start .args .bytes .now in
     sym (c .before .before .loop .inv .2 ∙ every-done (startRight h s) (h .chunks) (c .before .before .loop .j) (c .if2 .left))
 
 pub chunk-table-right-spec : {M : Type 1} → statement M

@@ -29,13 +29,16 @@ add-place : tie.Need-add-place Inv-loop μ-loop
 add-place c = omega arith
 
 returns : tie.Need-returns Inv-loop μ-loop
-returns c = side-short (c .before .before .before .before .args .h) (c .before .before .before .before .args .bytes .now) (c .if1 .taken)
+returns c =
+    let start = c .before .before .before .before in
+    side-short (start .args .h) (start .args .bytes .now) (c .if1 .taken)
 
 loop-holds : tie.Need-loop-holds Inv-loop μ-loop
 unfolding idFloor partAt
 loop-holds c =
-    let h = c .before .before .before .before .args .h in
-    let s = c .before .before .before .before .args .bytes .now in (
+    let start = c .before .before .before .before in
+    let h = start .args .h in
+    let s = start .args .bytes .now in (
       omega arith,
       refl,
       refl,
@@ -54,9 +57,11 @@ word-at-requires c κs = omega arith
 
 returns-2 : tie.Need-returns-2 Inv-loop μ-loop
 returns-2 c =
-    let h = c .before .before .before .before .before .before .before .before .before .before .args .h in
-    let s = c .before .before .before .before .before .before .before .before .before .before .args .bytes .now in
-    sym (c .before .before .before .before .before .loop .inv .4 ∙ ap (λ (b : Bool). b && eqb (partAt h s (h .sides)) (length s)) (every-broken (entryRight h s) (h .sides) (c .before .before .before .before .before .loop .i) (c .before .before .before .if2 .taken) (entry-low h s (c .before .before .before .before .before .loop .i) (c .before .word-at .result) (c .before .before .before .before .before .loop .place) (c .before .before .before .before .before .loop .floor) (c .before .word-at .ensures .0) (c .before .before .before .before .before .loop .inv .1) (c .before .before .before .before .before .loop .inv .2) (c .if3 .taken))))
+    let at-loop = c .before .before .before .before .before in
+    let start = at-loop .before .before .before .before .before in
+    let h = start .args .h in
+    let s = start .args .bytes .now in
+    sym (at-loop .loop .inv .4 ∙ ap (λ (b : Bool). b && eqb (partAt h s (h .sides)) (length s)) (every-broken (entryRight h s) (h .sides) (at-loop .loop .i) (c .before .before .before .if2 .taken) (entry-low h s (at-loop .loop .i) (c .before .word-at .result) (at-loop .loop .place) (at-loop .loop .floor) (c .before .word-at .ensures .0) (at-loop .loop .inv .1) (at-loop .loop .inv .2) (c .if3 .taken))))
 
 add-word-at : tie.Need-add-word-at Inv-loop μ-loop
 add-word-at c = omega arith
@@ -66,9 +71,12 @@ word-at-requires-2 c κs = omega arith
 
 returns-3 : tie.Need-returns-3 Inv-loop μ-loop
 returns-3 c =
-    let h = c .before .before .before .before .before .before .before .before .before .before .before .before .args .h in
-    let s = c .before .before .before .before .before .before .before .before .before .before .before .before .args .bytes .now in
-    sym (c .before .before .before .before .before .before .before .loop .inv .4 ∙ ap (λ (b : Bool). b && eqb (partAt h s (h .sides)) (length s)) (every-broken (entryRight h s) (h .sides) (c .before .before .before .before .before .before .before .loop .i) (c .before .before .before .before .before .if2 .taken) (entry-elsewhere h s (c .before .before .before .before .before .before .before .loop .i) (c .before .before .before .word-at .result) (c .before .before .before .before .before .before .before .loop .place) (c .before .before .before .before .before .before .before .loop .floor) (c .before .before .before .word-at .ensures .0) (c .before .before .before .before .before .before .before .loop .inv .1) (c .before .before .before .before .before .before .before .loop .inv .2) (λ e. c .if4 .taken (c .before .word-at2 .ensures .0 ∙ e)))))
+    let at-word-at = c .before .before .before in
+    let at-loop = at-word-at .before .before .before .before in
+    let start = at-loop .before .before .before .before .before in
+    let h = start .args .h in
+    let s = start .args .bytes .now in
+    sym (at-loop .loop .inv .4 ∙ ap (λ (b : Bool). b && eqb (partAt h s (h .sides)) (length s)) (every-broken (entryRight h s) (h .sides) (at-loop .loop .i) (c .before .before .before .before .before .if2 .taken) (entry-elsewhere h s (at-loop .loop .i) (at-word-at .word-at .result) (at-loop .loop .place) (at-loop .loop .floor) (at-word-at .word-at .ensures .0) (at-loop .loop .inv .1) (at-loop .loop .inv .2) (λ e. c .if4 .taken (c .before .word-at2 .ensures .0 ∙ e)))))
 
 add-word-at-2 : tie.Need-add-word-at-2 Inv-loop μ-loop
 add-word-at-2 c = omega arith
@@ -90,22 +98,26 @@ loop-less c = omega arith
 
 loop-again : tie.Need-loop-again Inv-loop μ-loop
 loop-again c =
-    let h = c .before .before .before .before .before .before .before .before .before .before .before .before .before .args .h in
-    let s = c .before .before .before .before .before .before .before .before .before .before .before .before .before .args .bytes .now in
-    let i = c .before .before .before .before .before .before .before .before .loop .i in (
+    let at-word-at = c .before .before .before .before in
+    let at-loop = at-word-at .before .before .before .before in
+    let start = at-loop .before .before .before .before .before in
+    let h = start .args .h in
+    let s = start .args .bytes .now in
+    let i = at-loop .loop .i in (
       omega arith,
-      next-floor h s (c .before .before .before .before .before .before .before .before .loop .i) (c .before .before .before .before .word-at .result) (c .before .before .before .before .before .before .before .before .loop .place) (c .before .before .before .before .before .before .before .before .loop .floor) (c .before .before .before .before .word-at .ensures .0) (c .before .before .before .before .before .before .before .before .loop .inv .1) (c .before .before .before .before .before .before .before .before .loop .inv .2),
-      ap (λ (w : ℕ). c .before .before .before .before .before .before .before .before .loop .place + w) (c .word-at3 .ensures .0) ∙ next-place h s (c .before .before .before .before .before .before .before .before .loop .i) (c .before .before .before .before .word-at .result) (c .before .before .before .before .before .before .before .before .loop .place) (c .before .before .before .before .before .before .before .before .loop .floor) (c .before .before .before .before .word-at .ensures .0) (c .before .before .before .before .before .before .before .before .loop .inv .1) (c .before .before .before .before .before .before .before .before .loop .inv .2),
+      next-floor h s (at-loop .loop .i) (at-word-at .word-at .result) (at-loop .loop .place) (at-loop .loop .floor) (at-word-at .word-at .ensures .0) (at-loop .loop .inv .1) (at-loop .loop .inv .2),
+      ap (λ (w : ℕ). at-loop .loop .place + w) (c .word-at3 .ensures .0) ∙ next-place h s (at-loop .loop .i) (at-word-at .word-at .result) (at-loop .loop .place) (at-loop .loop .floor) (at-word-at .word-at .ensures .0) (at-loop .loop .inv .1) (at-loop .loop .inv .2),
       omega (arith, c .word-at3 .ensures .1),
-      c .before .before .before .before .before .before .before .before .loop .inv .4
+      at-loop .loop .inv .4
           ∙ ap (λ (b : Bool). b && eqb (partAt h s (h .sides)) (length s)) (every-on (entryRight h s) (h .sides) i (c .before .before .before .before .before .before .if2 .taken)
-          (entry-good h s (c .before .before .before .before .before .before .before .before .loop .i) (c .before .before .before .before .word-at .result) (c .before .before .before .before .before .before .before .before .loop .place) (c .before .before .before .before .before .before .before .before .loop .floor) (c .before .before .before .before .word-at .ensures .0) (c .before .before .before .before .before .before .before .before .loop .inv .1) (c .before .before .before .before .before .before .before .before .loop .inv .2) (c .before .before .before .if3 .left) (sym (c .before .before .word-at2 .ensures .0) ∙ c .before .if4 .left))),
+          (entry-good h s (at-loop .loop .i) (at-word-at .word-at .result) (at-loop .loop .place) (at-loop .loop .floor) (at-word-at .word-at .ensures .0) (at-loop .loop .inv .1) (at-loop .loop .inv .2) (c .before .before .before .if3 .left) (sym (c .before .before .word-at2 .ensures .0) ∙ c .before .if4 .left))),
     )
 
 returns-4 : tie.Need-returns-4 Inv-loop μ-loop
 returns-4 c =
-    let h = c .before .before .before .before .before .before .before .args .h in
-    let s = c .before .before .before .before .before .before .before .args .bytes .now in
+    let start = c .before .before .before .before .before .before .before in
+    let h = start .args .h in
+    let s = start .args .bytes .now in
     let e : h .sides ≡ c .before .before .loop .i = omega (arith, c .if2 .left, c .before .before .loop .inv .0) in
     sym
     (c .before .before .loop .inv .4

@@ -16,14 +16,18 @@ word-at-requires c κs = omega arith
 
 returns : tie.Need-returns
 unfolding startAt
-returns c = rw (lt-ltb (c .before .before .before .before .args .j) (c .before .before .before .before .args .h .chunks) (c .before .if1 .taken)) (c .word-at .ensures .0)
+returns c =
+    let start = c .before .before .before .before in
+    rw (lt-ltb (start .args .j) (start .args .h .chunks) (c .before .if1 .taken)) (c .word-at .ensures .0)
 
 sub-result : tie.Need-sub-result
 sub-result c = c .before .before .before .before .pre .ordered
 
 returns-2 : tie.Need-returns-2
 unfolding startAt
-returns-2 c = rw (le-ltb (c .before .before .before .before .args .j) (c .before .before .before .before .args .h .chunks) (c .before .if1 .left))
+returns-2 c =
+    let start = c .before .before .before .before in
+    rw (le-ltb (start .args .j) (start .args .h .chunks) (c .before .if1 .left))
 
 pub start-at-spec : {M : Type 1} → statement M
 start-at-spec =

@@ -11,10 +11,14 @@ side-table-right-requires : tie.Need-side-table-right-requires
 side-table-right-requires c κs = search needs
 
 returns : tie.Need-returns
-returns c = tables-pass (c .before .before .before .before .args .h) (c .before .before .before .before .args .bytes .now) (c .before .before .chunk-table-right .result) (c .before .side-table-right .result) (c .before .before .chunk-table-right .ensures) (c .before .side-table-right .ensures) (c .if1 .taken)
+returns c =
+    let start = c .before .before .before .before in
+    tables-pass (start .args .h) (start .args .bytes .now) (c .before .before .chunk-table-right .result) (c .before .side-table-right .result) (c .before .before .chunk-table-right .ensures) (c .before .side-table-right .ensures) (c .if1 .taken)
 
 returns-2 : tie.Need-returns-2
-returns-2 c = tables-stop (c .before .before .before .before .args .h) (c .before .before .before .before .args .bytes .now) (c .before .before .chunk-table-right .result) (c .before .side-table-right .result) (c .before .before .chunk-table-right .ensures) (c .before .side-table-right .ensures) (c .if1 .left)
+returns-2 c =
+    let start = c .before .before .before .before in
+    tables-stop (start .args .h) (start .args .bytes .now) (c .before .before .chunk-table-right .result) (c .before .side-table-right .result) (c .before .before .chunk-table-right .ensures) (c .before .side-table-right .ensures) (c .if1 .left)
 
 pub table-step-spec : {M : Type 1} → statement M
 table-step-spec =
