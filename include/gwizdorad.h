@@ -18,8 +18,9 @@
  *   may be: behind `pattern` and `code`, one element is lent.
  * - Pointers to uint32_t and uint64_t are aligned as C has it. Bytes may lie anywhere.
  *
- * Any content is safe to lend: bytes that break a rule of the format get a refusal, never a fault. The format has no checksum, so a flipped
- * bit that breaks no rule is not seen, and changes the value it stands in. Where that matters, keep a checksum beside the file.
+ * Any content is safe to lend: bytes that break a rule of the format get a refusal, never a fault. The format has no
+ * checksum: a flipped bit that breaks no rule is not seen, and changes values. Where that matters, keep a checksum
+ * beside the file.
  *
  *
  * WHAT IS ANSWERED
