@@ -9,3 +9,7 @@ pub mod Exponent
 pub mod Answers
 pub mod Bound
 pub mod Ieee
+pub mod Float
+pub mod Round
+pub mod Near
+pub mod Far

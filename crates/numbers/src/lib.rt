@@ -4,3 +4,5 @@ pub mod bound;
 pub mod lossless;
 pub mod signed;
 pub mod tolerance;
+mod tolerance_float;
+mod tolerance_whole;

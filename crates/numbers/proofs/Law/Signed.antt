@@ -3,13 +3,16 @@ use mathlib.Core.Path.{_≡_, refl, sym, ap, _∙_}
 use mathlib.Core.Logic.{_⊎_, inl, inr}
 use mathlib.Core.Bool.{true, false}
 use Prim.Native.Nat.{ℕ, zero, suc, _+_, _-_, _*_, _/_, _%_, _^_, _≤_, _<_}
-use native.Mathlib.Nat.{zero-add, mul-comm}
+use native.Mathlib.Nat.{zero-add, zero-mul, one-mul, mul-comm, mod-eq-of-lt}
 use native.Mathlib.Numerals.{add-one}
 use native.Mathlib.Omega.{arith}
 use borrow.Author.Tests.{lt-ltb, le-ltb, eq-eqb, ne-eqb}
+use lib.Arith.{digits-mod}
+use lib.Bits.{bitAnd, bitXor, xor-add-and, xor-zero-r, and-mask}
 use lib.Dec.{T, ltb}
 use lib.IntN.{ℤ, pos, negsuc, natAbs, _-ℤ_}
 use lib.Signed.{mag, ltZ, nonNeg}
+use lib.Pow.{pow-pos}
 use mir.Syntax.{Width}
 use mir.Val.{bits, hbits, Fits, SFits, toZ, ofZ}
 use mir.ValLaws.{bits-suc, pow-bits}
@@ -121,20 +124,9 @@ module _ (w : Width) where
       below-is (2 ^ bits w - 1 - s) (top-small s h l)
       ∙ rw (le-ltb s (2 ^ (bits w - 1)) (omega (arith, half-is))) (ap negsuc (let e : 2 ^ bits w - 1 - s ≡ 2 ^ bits w - suc s = omega arith in e))
 
-  -- the code unfolded, by its parity
+  -- half of a code
   half-small : (c : ℕ) → c < 2 ^ bits w → c / 2 < 2 ^ hbits w
   half-small c h = omega (arith, half-twice)
-
-  pub even-is : (c : ℕ) → c < 2 ^ bits w → c % 2 ≡ 0 → toZ w (c / 2) ≡ unfolded c
-  unfolding unfolded
-  even-is c h e = toZ-pos w (half-small c h) ∙ rw (eq-eqb (c % 2) 0 e)
-
-  pub odd-fits : (c : ℕ) → c < 2 ^ bits w → SFits w (negsuc 0 -ℤ toZ w (c / 2))
-  odd-fits c h = below-fits (c / 2) (half-small c h)
-
-  pub odd-is : (c : ℕ) → c < 2 ^ bits w → (c % 2 ≡ 0 → ⊥) → toZ w (ofZ w (negsuc 0 -ℤ toZ w (c / 2))) ≡ unfolded c
-  unfolding unfolded
-  odd-is c h e = below-is (c / 2) (half-small c h) ∙ rw (ne-eqb (c % 2) 0 e)
 
   -- ---- a signed number by its test against 0: what is cast is natural and in the lower half
 
@@ -151,12 +143,6 @@ module _ (w : Width) where
     pub cast-fits : T (nonNeg y) × Fits w (natAbs y)
     cast-fits = rw is (tt, record { fits = omega (arith, half-twice) })
 
-    pub twice-fits : Fits w (natAbs y * 2)
-    twice-fits = rw is (record { fits = omega (arith, half-twice) })
-
-    pub twice-one-fits : Fits w (natAbs y * 2 + 1)
-    twice-one-fits = rw is (record { fits = omega (arith, half-twice) })
-
     pub one-more-fits : Fits w (natAbs y + 1)
     one-more-fits = rw is (record { fits = omega (arith, half-twice) })
 
@@ -166,10 +152,6 @@ module _ (w : Width) where
   module _ (x : ℤ) (f : SFits w x) (t : ltZ (toZ w (ofZ w x)) (pos 0) ≡ false) where
     pub positive-cast : toZ w (ofZ w x) ≡ pos (mag x)
     positive-cast = toZ-ofZ f ∙ positive-is x f t
-
-    pub positive-folded : natAbs (toZ w (ofZ w x)) * 2 ≡ folded x
-    unfolding folded
-    positive-folded = ap (λ (z : ℤ). natAbs z * 2) positive-cast ∙ mul-comm (mag x) 2 ∙ sym (ap folded (positive-is x f t))
 
     pub positive-size : natAbs (toZ w (ofZ w x)) ≡ natAbs x
     positive-size = ap natAbs (toZ-ofZ f)
@@ -188,13 +170,6 @@ module _ (w : Width) where
     pub negative-cast : toZ w (ofZ w (negsuc 0 -ℤ toZ w (ofZ w x))) ≡ pos (mag x)
     negative-cast = toZ-ofZ negative-fits ∙ opposite
 
-    pub negative-folded : natAbs (toZ w (ofZ w (negsuc 0 -ℤ toZ w (ofZ w x)))) * 2 + 1 ≡ folded x
-    unfolding folded
-    negative-folded =
-        ap (λ (z : ℤ). natAbs z * 2 + 1) negative-cast
-        ∙ (let e : mag x * 2 + 1 ≡ 2 * mag x + 1 = omega arith in e)
-        ∙ sym (ap folded (negative-is x f t))
-
     pub negative-size : natAbs (toZ w (ofZ w (negsuc 0 -ℤ toZ w (ofZ w x)))) + 1 ≡ natAbs x
     negative-size = ap (λ (z : ℤ). natAbs z + 1) negative-cast ∙ add-one (mag x) ∙ sym (ap natAbs (negative-is x f t))
 
@@ -204,3 +179,51 @@ module _ (w : Width) where
         ap (λ (z : ℤ). 2 ^ bits w - 1 - natAbs z) negative-cast
         ∙ (let e : 2 ^ bits w - 1 - mag x ≡ 2 ^ bits w - suc (mag x) = omega arith in e)
         ∙ sym (ap (bitsOf (bits w)) (negative-is x f t))
+
+-- ---- the fold without a branch
+
+-- every bit turned, or none
+turned : (W a n : ℕ) → a < 2 ^ W → n ≡ 1 → bitXor a (n * (2 ^ W - 1)) ≡ 2 ^ W - 1 - a
+turned W a n h e =
+    let one : n * (2 ^ W - 1) ≡ 2 ^ W - 1 = ap (λ (k : ℕ). k * (2 ^ W - 1)) e ∙ one-mul (2 ^ W - 1) in
+    let s : bitXor a (2 ^ W - 1) + bitAnd a (2 ^ W - 1) * 2 ≡ a + (2 ^ W - 1) = xor-add-and a (2 ^ W - 1) in
+    let t : bitAnd a (2 ^ W - 1) ≡ a = and-mask a W ∙ mod-eq-of-lt h in
+    ap (bitXor a) one ∙ (let q : bitXor a (2 ^ W - 1) ≡ 2 ^ W - 1 - a = omega (arith, s, t) in q)
+
+unturned : (W a n : ℕ) → n ≡ 0 → bitXor a (n * (2 ^ W - 1)) ≡ a
+unturned W a n e = ap (bitXor a) (ap (λ (k : ℕ). k * (2 ^ W - 1)) e ∙ zero-mul (2 ^ W - 1)) ∙ xor-zero-r a
+
+module _ (w : Width) where
+  pub fold-by-bits : (x : ℤ) → SFits w x → (b n : ℕ) → b ≡ bitsOf (bits w) x → n ≡ folded x % 2 → bitXor (b % 2 ^ hbits w * 2) (n * (2 ^ bits w - 1)) ≡ folded x
+  unfolding bitsOf folded
+  fold-by-bits (pos k) f b n e g =
+      unturned (bits w) (b % 2 ^ hbits w * 2) n (omega arith)
+      ∙ ap (λ (z : ℕ). z * 2) (ap (λ (z : ℕ). z % 2 ^ hbits w) e ∙ mod-eq-of-lt (f .sfits)) ∙ mul-comm k 2
+  fold-by-bits (negsuc k) f b n e g =
+      let T = half-twice w in
+      let l : b % 2 ^ hbits w ≡ 2 ^ hbits w - suc k =
+      ap (λ (z : ℕ). z % 2 ^ hbits w) (e ∙ (let q : 2 ^ bits w - suc k ≡ 1 * 2 ^ hbits w + (2 ^ hbits w - suc k) = omega (arith, T, f .sfits) in q))
+      ∙ digits-mod 1 (let q : 2 ^ hbits w - suc k < 2 ^ hbits w = omega (arith, pow-pos (hbits w)) in q) in
+      turned (bits w) (b % 2 ^ hbits w * 2) n (omega (arith, l, T, pow-pos (hbits w))) (omega arith)
+      ∙ (let q : 2 ^ bits w - 1 - b % 2 ^ hbits w * 2 ≡ 2 * k + 1 = omega (arith, l, T, f .sfits) in q)
+
+  pub negative-even : (x : ℤ) → SFits w x → ltZ (toZ w (ofZ w x)) (pos 0) ≡ false → 0 ≡ folded x % 2
+  unfolding folded
+  negative-even x f t = sym (ap (λ (z : ℤ). folded z % 2) (positive-is w x f t) ∙ (let q : 2 * mag x % 2 ≡ 0 = omega arith in q))
+
+  pub negative-odd : (x : ℤ) → SFits w x → ltZ (toZ w (ofZ w x)) (pos 0) ≡ true → 1 ≡ folded x % 2
+  unfolding folded
+  negative-odd x f t = sym (ap (λ (z : ℤ). folded z % 2) (negative-is w x f t) ∙ (let q : (2 * mag x + 1) % 2 ≡ 1 = omega arith in q))
+
+  pub unfold-by-bits : (c : ℕ) → c < 2 ^ bits w → signedView (bits w) (bitXor (c / 2) (c % 2 * (2 ^ bits w - 1))) ≡ unfolded c
+  unfolding signedView unfolded
+  unfold-by-bits c h = go (le-or-lt (c % 2) 0)
+    where
+      go : (c % 2 ≤ 0) ⊎ (0 < c % 2) → signedView (bits w) (bitXor (c / 2) (c % 2 * (2 ^ bits w - 1))) ≡ unfolded c
+      go (inl g) =
+          ap (signedView (bits w)) (unturned (bits w) (c / 2) (c % 2) (omega arith))
+          ∙ rw (lt-ltb (c / 2) (2 ^ (bits w - 1)) (omega (arith, half-is w, half-small w c h))) (rw (eq-eqb (c % 2) 0 (omega arith)))
+      go (inr g) =
+          ap (signedView (bits w)) (turned (bits w) (c / 2) (c % 2) (omega arith) (omega arith))
+          ∙ rw (le-ltb (2 ^ bits w - 1 - c / 2) (2 ^ (bits w - 1)) (omega (arith, half-is w, half-twice w, half-small w c h)))
+          (rw (ne-eqb (c % 2) 0 (λ e. omega arith)) (ap negsuc (let e : 2 ^ bits w - suc (2 ^ bits w - 1 - c / 2) ≡ c / 2 = omega (arith, half-twice w, half-small w c h) in e)))

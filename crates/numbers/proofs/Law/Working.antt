@@ -77,6 +77,14 @@ by-left m j o h = rw (← (add-one j)) h
 pub under-last : (j bin last : ℕ) → j ≡ min bin last → j ≤ last
 under-last j bin last e = omega arith
 
+-- a bin, on either side of the one from which the float rules serve
+module _ (from last bin : ℕ) (some : from ≤ last) where
+  pub own-bin : bin < from → bin ≡ min bin last
+  own-bin h = omega arith
+
+  pub far-bin : (j : ℕ) → from ≤ bin → j ≡ min bin last → from ≤ j
+  far-bin j h e = omega arith
+
 -- ---- the code of a pattern, by the side of T that its ordinal is on
 
 module _ (W m : ℕ) (room : m + 3 ≤ W) (j : ℕ) (allowed : j ≤ lastBin W m) where

@@ -1,42 +1,32 @@
 -- `numbers::signed::folded32` meets its contract, by the laws over the machine's width.
+use mathlib.Core.Path.{_∙_, ap}
+use Prim.Native.Nat.{_%_}
+use lib.IntN.{ℤ}
+use mir.Facts.{toZ-ofZ}
 use mir.Syntax.{w32}
-use Rattle.numbers.proofs.Law.Signed.{cast-fits, twice-fits, twice-one-fits, negative-fits, negative-cast, negative-folded, positive-cast, positive-folded}
+use Rattle.numbers.specs.Signed.{folded, bitsOf}
+use Rattle.numbers.proofs.Law.Signed.{fold-by-bits}
+use borrow.Author.Needs.{needs}
 use Rattle.numbers.proofs.signed.folded32.Statement.{statement}
 use Rattle.numbers.proofs.signed.folded32.Tie as tie
 
-sub-result : tie.Need-sub-result
-sub-result c = negative-fits w32 (c .before .args .x) (c .before .fits .x) (c .if1 .taken)
-
-cast-result : tie.Need-cast-result
-cast-result c = cast-fits w32 _ _ (negative-cast w32 (c .before .args .x) (c .before .fits .x) (c .if1 .taken)) (c .before .fits .x .sfits)
+bits32-requires : tie.Need-bits32-requires
+bits32-requires c κs = search needs
 
 mul-result : tie.Need-mul-result
-mul-result c = twice-fits w32 _ _ (negative-cast w32 (c .before .args .x) (c .before .fits .x) (c .if1 .taken)) (c .before .fits .x .sfits)
+mul-result c = search needs
 
-add-result : tie.Need-add-result
-add-result c = twice-one-fits w32 _ _ (negative-cast w32 (c .before .args .x) (c .before .fits .x) (c .if1 .taken)) (c .before .fits .x .sfits)
-
-cast-result-2 : tie.Need-cast-result-2
-cast-result-2 c = cast-fits w32 _ _ (positive-cast w32 (c .before .args .x) (c .before .fits .x) (c .if1 .left)) (c .before .fits .x .sfits)
+negative32-requires : tie.Need-negative32-requires
+negative32-requires c κs = search needs
 
 mul-result-2 : tie.Need-mul-result-2
-mul-result-2 c = twice-fits w32 _ _ (positive-cast w32 (c .before .args .x) (c .before .fits .x) (c .if1 .left)) (c .before .fits .x .sfits)
+mul-result-2 c = search needs
 
 returns : tie.Need-returns
-returns c = negative-folded w32 (c .before .args .x) (c .before .fits .x) (c .if1 .taken)
-
-returns-2 : tie.Need-returns-2
-returns-2 c = positive-folded w32 (c .before .args .x) (c .before .fits .x) (c .if1 .left)
+returns c =
+    let f = c .before .before in
+    fold-by-bits w32 (f .args .x) (f .fits .x) (c .before .bits32 .result) (c .negative32 .result) (c .before .bits32 .ensures ∙ ap (bitsOf 32) (toZ-ofZ (f .fits .x)))
+    (c .negative32 .ensures ∙ ap (λ (z : ℤ). folded z % 2) (toZ-ofZ (f .fits .x)))
 
 pub folded32-spec : {M : Type 1} → statement M
-folded32-spec =
-    tie.close
-    (tie.spec
-    sub-result
-    cast-result
-    mul-result
-    add-result
-    cast-result-2
-    mul-result-2
-    returns
-    returns-2)
+folded32-spec = tie.close (tie.spec bits32-requires mul-result negative32-requires mul-result-2 returns)

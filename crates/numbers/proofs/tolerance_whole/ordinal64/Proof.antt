@@ -1,4 +1,4 @@
--- `numbers::tolerance::ordinal_of64` meets its contract.
+-- `numbers::tolerance_whole::ordinal64` meets its contract.
 use mathlib.Core.Path.{_≡_, ap, _∙_, subst⁻¹}
 use Prim.Native.Nat.{ℕ, _+_, _-_, _*_, _/_, _%_, _^_, _<_}
 use native.Mathlib.Omega.{arith}
@@ -7,8 +7,8 @@ use lib.Dec.{lit≤}
 use Rattle.numbers.specs.Tolerance.{restoredOrdinal}
 use Rattle.numbers.proofs.Law.Straight.{some-is, some-small, restored-straight, restored-fits, exponent-fits, rest-fits, shift-small}
 use borrow.Author.Needs.{needs}
-use Rattle.numbers.proofs.tolerance.ordinal_of64.Statement.{statement}
-use Rattle.numbers.proofs.tolerance.ordinal_of64.Tie as tie
+use Rattle.numbers.proofs.tolerance_whole.ordinal64.Statement.{statement}
+use Rattle.numbers.proofs.tolerance_whole.ordinal64.Tie as tie
 
 abbrev entry : tie.After-past642 → tie.Start
 entry c = c .before .before
@@ -74,8 +74,8 @@ add-result c =
 returns : tie.Need-returns
 returns c = sum-is c
 
-pub ordinal-of64-spec : {M : Type 1} → statement M
-ordinal-of64-spec =
+pub ordinal64-spec : {M : Type 1} → statement M
+ordinal64-spec =
     tie.close
     (tie.spec
     add-some

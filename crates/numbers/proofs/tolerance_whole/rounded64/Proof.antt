@@ -1,9 +1,9 @@
--- `numbers::tolerance::rounded64` meets its contract.
+-- `numbers::tolerance_whole::rounded64` meets its contract.
 use lib.Dec.{lit≤}
 use Rattle.numbers.proofs.Law.Working.{rounds-away, rounded-fits, rounded-is}
 use borrow.Author.Needs.{needs}
-use Rattle.numbers.proofs.tolerance.rounded64.Statement.{statement}
-use Rattle.numbers.proofs.tolerance.rounded64.Tie as tie
+use Rattle.numbers.proofs.tolerance_whole.rounded64.Statement.{statement}
+use Rattle.numbers.proofs.tolerance_whole.rounded64.Tie as tie
 
 returns : tie.Need-returns
 returns c = rounds-away 53 (c .before .args .s) (c .before .args .q) (c .before .pre) (c .if1 .taken)

@@ -1,4 +1,4 @@
--- `numbers::tolerance::ordinal_of32` meets its contract.
+-- `numbers::tolerance_whole::ordinal32` meets its contract.
 use mathlib.Core.Path.{_≡_, ap, _∙_, subst⁻¹}
 use Prim.Native.Nat.{ℕ, _+_, _-_, _*_, _/_, _%_, _^_, _<_}
 use lib.Count.{leadingZeros}
@@ -6,8 +6,8 @@ use lib.Dec.{lit≤}
 use Rattle.numbers.specs.Tolerance.{restoredOrdinal}
 use Rattle.numbers.proofs.Law.Straight.{some-is, some-small, restored-straight, restored-fits, exponent-fits, rest-fits, shift-small}
 use borrow.Author.Needs.{needs}
-use Rattle.numbers.proofs.tolerance.ordinal_of32.Statement.{statement}
-use Rattle.numbers.proofs.tolerance.ordinal_of32.Tie as tie
+use Rattle.numbers.proofs.tolerance_whole.ordinal32.Statement.{statement}
+use Rattle.numbers.proofs.tolerance_whole.ordinal32.Tie as tie
 
 abbrev entry : tie.After-past322 → tie.Start
 entry c = c .before .before
@@ -70,8 +70,8 @@ add-result c =
 returns : tie.Need-returns
 returns c = sum-is c
 
-pub ordinal-of32-spec : {M : Type 1} → statement M
-ordinal-of32-spec =
+pub ordinal32-spec : {M : Type 1} → statement M
+ordinal32-spec =
     tie.close
     (tie.spec
     add-some

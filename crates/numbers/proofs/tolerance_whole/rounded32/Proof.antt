@@ -1,12 +1,12 @@
--- `numbers::tolerance::rounded32` meets its contract.
+-- `numbers::tolerance_whole::rounded32` meets its contract.
 use mathlib.Core.Path.{_∙_, ap}
 use Prim.Native.Nat.{ℕ, _+_, _-_, _*_, _/_, _^_}
 use native.Mathlib.Nat.{div-le-self}
 use native.Mathlib.Omega.{arith}
 use Rattle.numbers.proofs.Law.Straight.{rounded-short}
 use borrow.Author.Needs.{needs}
-use Rattle.numbers.proofs.tolerance.rounded32.Statement.{statement}
-use Rattle.numbers.proofs.tolerance.rounded32.Tie as tie
+use Rattle.numbers.proofs.tolerance_whole.rounded32.Statement.{statement}
+use Rattle.numbers.proofs.tolerance_whole.rounded32.Tie as tie
 
 mul-result : tie.Need-mul-result
 mul-result c = search needs

@@ -1,11 +1,11 @@
--- `numbers::tolerance::nearest64` meets its contract.
+-- `numbers::tolerance_whole::nearest64` meets its contract.
 use mathlib.Core.Path.{_∙_}
 use native.Mathlib.Omega.{arith}
 use Rattle.numbers.specs.Tolerance.{lastBin}
 use Rattle.numbers.proofs.Law.Working.{plain-is, exponent-under, led-is}
 use borrow.Author.Needs.{needs}
-use Rattle.numbers.proofs.tolerance.nearest64.Statement.{statement}
-use Rattle.numbers.proofs.tolerance.nearest64.Tie as tie
+use Rattle.numbers.proofs.tolerance_whole.nearest64.Statement.{statement}
+use Rattle.numbers.proofs.tolerance_whole.nearest64.Tie as tie
 
 rounded64-requires : tie.Need-rounded64-requires
 rounded64-requires c κs = search needs

@@ -1,4 +1,4 @@
--- `numbers::tolerance::magnitude_code32` meets its contract.
+-- `numbers::tolerance_whole::magnitude_code32` meets its contract.
 use mathlib.Core.Path.{_≡_, ap, ap₂, _∙_}
 use Prim.Native.Nat.{ℕ, _+_, _*_, _/_, _%_, _^_}
 use native.Mathlib.Omega.{arith}
@@ -7,8 +7,8 @@ use Rattle.numbers.specs.Tolerance.{lastBin, near, magnitudeCode, larges
 use Rattle.numbers.proofs.Law.Tolerance.{code-largest}
 use Rattle.numbers.proofs.Law.Straight.{some-is, code-straight}
 use borrow.Author.Needs.{needs}
-use Rattle.numbers.proofs.tolerance.magnitude_code32.Statement.{statement}
-use Rattle.numbers.proofs.tolerance.magnitude_code32.Tie as tie
+use Rattle.numbers.proofs.tolerance_whole.magnitude_code32.Statement.{statement}
+use Rattle.numbers.proofs.tolerance_whole.magnitude_code32.Tie as tie
 
 sum-is : (c : tie.After-past322)
     → c .before .rounded32 .result + c .past322 .result * 2 ^ 23 ≡ magnitudeCode 23 (c .before .before .before .args .j) (c .before .before .before .args .o)
