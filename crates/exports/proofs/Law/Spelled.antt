@@ -13,8 +13,7 @@ use Rattle.numbers.specs.Theorem.{Format}
 use Rattle.numbers.specs.declared.bound.BoundAnswer.{BoundAnswer}
 use Rattle.numbers.specs.declared.bound.BoundAnswer.the-variants.{Exponent, UnknownWidth, NoTolerance, TooSmall}
 use Rattle.numbers.proofs.Law.Signed.{unfolded-folded, view-of-bits, bits-below}
-use Rattle.numbers.proofs.Law.Bound.{exponent-back}
-use Rattle.numbers.proofs.Theorems.{format-32, format-64, an-allowed-k-has-a-bin, bound-is-the-largest}
+use Rattle.numbers.proofs.Theorems.{format-32, format-64, the-k-of-its-bin, an-allowed-k-has-a-bin, bound-is-the-largest}
 use Rattle.stream.specs.Rows.{answerNumber, answerDetail}
 use Rattle.stream.specs.Probe.{probeNumber32, probeNumber64}
 use Rattle.stream.specs.declared.answers.Answer.{Answer}
@@ -64,7 +63,7 @@ module _ (W m : ℕ) (format : Format W m) (last : lastBin W m < 2 ^ 31) (least 
       go : (a : BoundAnswer) → boundAt W m t ≡ a → folded (boundDetail a) < 2 ^ 32
       go (Exponent k) e =
           let allowed = bound-is-the-largest W m format t k e .allowed in
-          rw (← (exponent-back W m format k allowed)) (difference-folded (binOf W m k) (kOffset W m) (omega (arith, an-allowed-k-has-a-bin W m format k allowed)) least)
+          rw (← (the-k-of-its-bin W m format k allowed)) (difference-folded (binOf W m k) (kOffset W m) (omega (arith, an-allowed-k-has-a-bin W m format k allowed)) least)
       go UnknownWidth e = lit< tt
       go NoTolerance e = lit< tt
       go TooSmall e = lit< tt

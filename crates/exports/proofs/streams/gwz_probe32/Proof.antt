@@ -4,7 +4,7 @@ use denote.Ref.{now}
 use Rattle.stream.specs.declared.answers.Probe32.{Probe32}
 use Rattle.stream.specs.Probe.{probeNumber32}
 use Rattle.exports.specs.Result.{probeKind32, probeResult32, probeOut32}
-use Rattle.stream.proofs.Law.ShownNumber.{finite-is-a-number32}
+use Rattle.stream.proofs.Law.Values.ShownNumber.{finite-is-a-number32}
 use borrow.Author.Needs.{needs}
 use Rattle.exports.proofs.streams.gwz_probe32.Statement.{statement}
 use Rattle.exports.proofs.streams.gwz_probe32.Tie as tie

@@ -4,7 +4,7 @@ use denote.Ref.{now}
 use Rattle.stream.specs.declared.answers.Probe64.{Probe64}
 use Rattle.stream.specs.Probe.{probeNumber64}
 use Rattle.exports.specs.Result.{probeKind64, probeResult64, probeOut64}
-use Rattle.stream.proofs.Law.ShownNumber.{finite-is-a-number64}
+use Rattle.stream.proofs.Law.Values.ShownNumber.{finite-is-a-number64}
 use borrow.Author.Needs.{needs}
 use Rattle.exports.proofs.streams.gwz_probe64.Statement.{statement}
 use Rattle.exports.proofs.streams.gwz_probe64.Tie as tie
