@@ -1,4 +1,4 @@
-// Values and their codes, for one width: by mode, one by one and side by side. Only the functions of `lent` choose between the widths.
+// Values and their codes, for one width: by mode, one by one and side by side. The functions of `lent` choose between the widths.
 ghost use mathlib.Core.Path.{_≡_};
 ghost use mathlib.Core.List.{_++_};
 ghost use Prim.Native.Nat.{_≤_};

@@ -77,7 +77,7 @@ pub(crate) fn exponent_of(h: Header) -> i32
     signed::view32(h.exponent as u32)
 }
 
-// The part of refusal 8 that is about the setting. A need is told of an allowed setting alone.
+// The part of refusal 8 that is about the setting. Of an allowed setting alone there is a need.
 fn setting_right(h: Header) -> bool
     requires { ⌜ Words h ⌝ }
     ensures { λ r. ⌜ r ≡ settingRight h ⌝ }
@@ -138,7 +138,7 @@ pub(crate) fn opening_of(step: Step, h: Header) -> Opening
     }
 }
 
-// 1 5 6 7 8: what every reader begins with; and the header where none of them is given, so that it is read once.
+// 1 5 6 7 8: what every reader begins with; and the header where none of them is given, so that a reader has it from here.
 pub(crate) fn opened(level: usize, bytes: &[u8]) -> Opening
     ensures { λ r. ⌜ r ≡ openedBy (first (openingRows level (now (bytes .entry)))) (headerOf (now (bytes .entry))) ⌝ }
 {

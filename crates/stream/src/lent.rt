@@ -1,8 +1,9 @@
-// What the walks over a chunk do with the lists that are lent, one for each width: the only functions that look at the width.
+// What the walks over a chunk do with the lists that are lent, one for each width: of the walks, only these functions look
+// at the width.
 ghost use mathlib.Core.Path.{_≡_};
 ghost use mathlib.Core.List.{_++_};
 ghost use Prim.Native.Nat.{_≤_, _<_, _-_, _+_, _^_};
-ghost use lib.ListN.{length, take, drop};
+ghost use lib.ListN.{length, take, drop, replicate};
 ghost use Rattle.stream.specs.Bytes.{Below};
 ghost use Rattle.stream.specs.Group.{groupBytes, givenWidth, groupLength, groupCodes};
 ghost use Rattle.stream.specs.Setting.{groupSize, patternAt, patternsOf};
@@ -128,21 +129,52 @@ fn copied64(codes: &[u64], n: usize, out: &mut [u64])
     }
 }
 
-// The codes of the group at the front of `s`, at the front of `out`.
+// n zeros, at the front of `out`.
+fn zeros32(n: usize, out: &mut [u32])
+    requires { ⌜ n ≤ length (now out) ⌝ }
+    ensures { λ _. ⌜ now (out .exit) ≡ replicate n 0 ++ drop n (now (out .entry)) ⌝ }
+{
+    let mut i: usize = 0;
+    while i < n {
+        out[i] = 0;
+        i += 1;
+    }
+}
+
+fn zeros64(n: usize, out: &mut [u64])
+    requires { ⌜ n ≤ length (now out) ⌝ }
+    ensures { λ _. ⌜ now (out .exit) ≡ replicate n 0 ++ drop n (now (out .entry)) ⌝ }
+{
+    let mut i: usize = 0;
+    while i < n {
+        out[i] = 0;
+        i += 1;
+    }
+}
+
+// The codes of the group at the front of `s`, at the front of `out`. Most groups of calm water have no bits, and are not opened.
 fn put_codes32(s: &[u8], n: usize, out: &mut [u32])
     requires { ⌜ (n ≤ 32) × (givenWidth (now s) ≤ 32) × (groupLength n (now s) ≤ length (now s)) × (n ≤ length (now out)) ⌝ }
     ensures { λ _. ⌜ now (out .exit) ≡ groupCodes n (now (s .entry)) ++ drop n (now (out .entry)) ⌝ }
 {
-    let g = group_read::codes_of(s, n);
-    copied32(&g.codes, n, out);
+    if s[0] == 0 {
+        zeros32(n, out);
+    } else {
+        let g = group_read::codes_of(s, n);
+        copied32(&g.codes, n, out);
+    }
 }
 
 fn put_codes64(s: &[u8], n: usize, out: &mut [u64])
     requires { ⌜ (n ≤ 32) × (givenWidth (now s) ≤ 64) × (groupLength n (now s) ≤ length (now s)) × (n ≤ length (now out)) ⌝ }
     ensures { λ _. ⌜ now (out .exit) ≡ groupCodes n (now (s .entry)) ++ drop n (now (out .entry)) ⌝ }
 {
-    let g = group_read::codes_of(s, n);
-    copied64(&g.codes, n, out);
+    if s[0] == 0 {
+        zeros64(n, out);
+    } else {
+        let g = group_read::codes_of(s, n);
+        copied64(&g.codes, n, out);
+    }
 }
 
 // The codes of the group at the front of `s`, from `at` on in the scratch of the width.

@@ -5,7 +5,7 @@ use mathlib.Core.List.{List, [], _∷_, _++_, map, map-append, append-assoc, app
 use Prim.Native.Nat.{ℕ, zero, suc, _+_, _-_, _≤_, _<_}
 use native.Mathlib.Numerals.{add-one}
 use native.Mathlib.Omega.{arith}
-use lib.ListN.{length, take, drop, getD, set, length-map, length-append, length-drop, drop-of-length-le}
+use lib.ListN.{length, take, drop, getD, set, replicate, length-map, length-append, length-drop, length-replicate, drop-of-length-le}
 use lib.Seq.{take-suc, take-suc-set, drop-cons, set-at, length-take-le, take-add, take-take, take-all, drop-at}
 use Rattle.stream.specs.Bytes.{Below}
 use Rattle.stream.proofs.Law.Plain.Truth.{le-or-lt}
@@ -57,6 +57,26 @@ length-over xs base out i h l e =
     ap length e ∙ length-append (take i xs) (drop i base)
     ∙ ap₂ _+_ (length-take-le i xs h) (length-drop i base) ∙ (let q : i + (length base - i) ≡ length base = omega arith in q)
 
+-- the same of zeros
+replicate-snoc : (i : ℕ) (t : List ℕ) → replicate i 0 ++ (0 ∷ t) ≡ replicate (suc i) 0 ++ t
+replicate-snoc zero t = refl
+replicate-snoc (suc i) t = ap (λ (r : List ℕ). 0 ∷ r) (replicate-snoc i t)
+
+pub one-zero : (base : List ℕ) (i : ℕ) → i < length base
+    → set (replicate i 0 ++ drop i base) i 0 ≡ replicate (i + 1) 0 ++ drop (i + 1) base
+one-zero base i h =
+    ap (λ (t : List ℕ). set (replicate i 0 ++ t) i 0) (drop-cons base i 0 h)
+    ∙ set-at (replicate i 0) (getD base i 0) (drop (suc i) base) 0 i (length-replicate i 0)
+    ∙ replicate-snoc i (drop (suc i) base)
+    ∙ ap (λ (k : ℕ). replicate k 0 ++ drop k base) (sym (add-one i))
+
+pub length-zeros : (base : List ℕ) (i : ℕ) → i ≤ length base → length (replicate i 0 ++ drop i base) ≡ length base
+length-zeros base i h =
+    length-append (replicate i 0) (drop i base)
+    ∙ ap₂ _+_ (length-replicate i 0) (length-drop i base)
+    ∙ (let e : i + (length base - i) ≡ length base = omega arith in e)
+
+-- and the length of what is filled by f
 pub length-put : (f : ℕ → ℕ) (xs base : List ℕ) (i : ℕ) → i ≤ length xs → i ≤ length base → length (map f (take i xs) ++ drop i base) ≡ length base
 length-put f xs base i h l =
     length-append (map f (take i xs)) (drop i base)
