@@ -1,8 +1,8 @@
 // The tolerance code by float operations that are exact, or whose rounding cannot be seen, at the bins j from 24 (53) on. What is promised is
 // whole numbers, as at the lower bins. Which side of T a pattern is on is told by ordinals, so that no infinity and no not-a-number is ever
 // computed with. No branch depends on a value: a compiler does several values side by side.
-// The proofs are of round to nearest. The forms are such that a caller who rounds another way, or has subnormals taken for zero, gets the
-// same codes and patterns: from these bins on E and half of it are normal floats, and a subnormal is nearest to no bin.
+// The proofs are of round to nearest. The forms are meant to give a caller who rounds another way, or has subnormals taken for zero, the same
+// codes and patterns (from these bins on E and half of it are normal floats, and a subnormal is nearest to no bin): tests/c/rounding.c tries it.
 ghost use mathlib.Core.Bool.{cond};
 ghost use mathlib.Core.Path.{_≡_};
 ghost use Prim.Native.Nat.{_*_, _^_, _≤_, _<_};
