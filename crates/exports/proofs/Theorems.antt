@@ -14,7 +14,7 @@ use Rattle.numbers.specs.declared.tolerance.CodeAnswer.{CodeAnswer}
 use Rattle.numbers.specs.declared.tolerance.CodeAnswer.the-variants as code
 use Rattle.numbers.specs.declared.tolerance.PatternAnswer.{PatternAnswer}
 use Rattle.numbers.specs.declared.tolerance.PatternAnswer.the-variants as pattern
-use Rattle.stream.specs.Bytes.{Below}
+use Rattle.blocks.specs.Bytes.{Below}
 use Rattle.stream.specs.Setting.{knownWidth}
 use Rattle.stream.specs.Stream.{valueAt}
 use Rattle.stream.specs.Probe.{shown32, shown64, probeNumber32, probeNumber64}

@@ -8,7 +8,7 @@ use native.Mathlib.Omega.{arith}
 use lib.IntN.{ℤ}
 use lib.Ieee.{Float, nan, inf, fin, binary32, binary64, ofBits}
 use lib.ListN.{length, getD}
-use Rattle.stream.specs.Bytes.{Below}
+use Rattle.blocks.specs.Bytes.{Below}
 use Rattle.stream.specs.Setting.{knownWidth}
 use Rattle.stream.specs.Header.{headerOf}
 use Rattle.stream.specs.Stream.{valueAt}

@@ -9,7 +9,7 @@ use lib.ListN.{replicate}
 use Rattle.numbers.specs.Signed.{signedView, folded}
 use Rattle.numbers.specs.Tolerance.{kOffset, lastBin, binOf, largestU}
 use Rattle.numbers.specs.Lossless.{rotated, field, minus, lowered, stepped, losslessCode}
-use Rattle.stream.specs.Bytes.{number, digits}
+use Rattle.blocks.specs.Bytes.{number, digits}
 use Rattle.stream.specs.Group.{bytesFor, largest, widthOf, packed, groupBytes, givenWidth, groupLength, groupNumber, groupCodes, within, goodGroup}
 use Rattle.stream.specs.Setting.{fractionBits, binFor, settingOf, clipped, codeAt, codesOf, limitOf}
 use Rattle.stream.specs.Chunk.{groupsIn, groupsBytes, chunkBytes}

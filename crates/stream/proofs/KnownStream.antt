@@ -8,7 +8,7 @@ use lib.ListN.{length, replicate}
 use lib.Ieee.{size}
 use Rattle.numbers.specs.Signed.{signedView, folded, unfolded, bitsOf}
 use Rattle.numbers.specs.Lossless.{rotated, field, minus, lowered, stepped, losslessCode, plus, raised, unstepped, unrotated, losslessRestored}
-use Rattle.stream.specs.Bytes.{number, digits}
+use Rattle.blocks.specs.Bytes.{number, digits}
 use Rattle.stream.specs.Group.{bytesFor, largest, widthOf, packed, groupBytes, givenWidth, groupLength, groupNumber, groupCodes, within, goodGroup}
 use Rattle.stream.specs.Setting.{knownLevel, knownWidth, fractionBits, widthNeed, modeNeed, need, isZero, allowedSetting, binFor, settingOf, kBits, groupSize, codeAt, patternAt, codesOf, patternsOf, limitOf}
 use Rattle.stream.specs.Chunk.{groupsIn, groupsBytes, chunkBytes, firstFault, chunkAnswer, groupsCodes, chunkCodes}

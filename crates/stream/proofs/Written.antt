@@ -11,7 +11,7 @@ use lib.IntN.{ℤ}
 use lib.ListN.{length, drop, getD}
 use Rattle.numbers.specs.Tolerance.{binOf, ordinal}
 use Rattle.numbers.specs.Theorem.{Within}
-use Rattle.stream.specs.Bytes.{Below}
+use Rattle.blocks.specs.Bytes.{Below}
 use Rattle.stream.specs.Setting.{knownLevel, fractionBits, binFor, settingOf, need, groupSize, codesOf, patternsOf}
 use Rattle.stream.specs.Chunk.{groupsIn}
 use Rattle.stream.specs.Rows.{first, answer, after}

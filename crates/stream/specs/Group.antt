@@ -6,7 +6,7 @@ use mathlib.Core.List.{List, [], _∷_}
 use lib.Dec.{leb, ltb, eqb}
 use lib.Ieee.{size}
 use lib.ListN.{length, take, drop, getD}
-use Rattle.stream.specs.Bytes.{number, digits}
+use Rattle.blocks.specs.Bytes.{number, digits}
 use Rattle.stream.specs.declared.group.GroupAnswer.{GroupAnswer}
 use Rattle.stream.specs.declared.group.GroupAnswer.the-variants.{Bad, Good}
 

@@ -6,7 +6,7 @@ use lib.Dec.{leb, ltb, eqb}
 use lib.IntN.{ℤ}
 use lib.ListN.{take, drop}
 use Rattle.numbers.specs.Signed.{signedView}
-use Rattle.stream.specs.Bytes.{number}
+use Rattle.blocks.specs.Bytes.{number}
 use Rattle.stream.specs.Setting.{knownWidth, allowedSetting, settingOf, need}
 use Rattle.stream.specs.declared.header.Header.{Header}
 use Rattle.stream.specs.declared.setting.Setting.{Setting}

@@ -3,7 +3,7 @@ use mathlib.Core.Path.{_≡_}
 use mathlib.Core.List.{List, _++_}
 use Prim.Native.Nat.{ℕ, _+_, _*_, _/_, _^_, _<_}
 use lib.ListN.{length, drop}
-use Rattle.stream.specs.Bytes.{number, digits}
+use Rattle.blocks.specs.Bytes.{number, digits}
 
 -- The codes cs, w bits each, have been added to what is written over `base`. Their number's `at` lowest bytes stand in `out`, and the `fill`
 -- bits above those are still in the word `acc`.

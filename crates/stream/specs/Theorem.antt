@@ -3,7 +3,7 @@ use mathlib.Core.Path.{_≡_}
 use mathlib.Core.List.{List, [], _∷_, _++_}
 use Prim.Native.Nat.{ℕ, _+_, _-_, _*_, _/_, _^_, _≤_, _<_}
 use lib.ListN.{length, take, drop, getD}
-use Rattle.stream.specs.Bytes.{Below, digits}
+use Rattle.blocks.specs.Bytes.{Below, digits}
 use Rattle.stream.specs.Group.{groupBytes}
 use Rattle.stream.specs.Chunk.{chunkBytes, chunkCodes}
 use Rattle.stream.specs.Header.{headerOf}

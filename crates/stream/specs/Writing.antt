@@ -6,7 +6,7 @@ use mathlib.Core.Bool.{Bool, true, _&&_}
 use mathlib.Core.List.{List, [], _∷_, _++_}
 use lib.Dec.{leb}
 use lib.ListN.{length, take, drop, replicate}
-use Rattle.stream.specs.Bytes.{digits, Below}
+use Rattle.blocks.specs.Bytes.{digits, Below}
 use Rattle.stream.specs.Setting.{need, kBits, groupSize, codesOf}
 use Rattle.stream.specs.Chunk.{chunkBytes}
 use Rattle.stream.specs.Header.{chunksIn}

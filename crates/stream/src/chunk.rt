@@ -131,7 +131,7 @@ pub(crate) fn restored(
     o64: &mut [u64],
 )
     requires { ⌜ Allowed t × (n ≤ 1024) × Begun t n (now s) ⌝ }
-    requires { ⌜ (n ≤ length (chosen (t .width) (now c32) (now c64))) × (n ≤ length (chosen (t .width) (now o32) (now o64))) ⌝ }
+    requires { ⌜ (32 ≤ length (chosen (t .width) (now c32) (now c64))) × (n ≤ length (chosen (t .width) (now o32) (now o64))) ⌝ }
     ensures { λ _. ⌜ chosen (t .width) (now (o32 .exit)) (now (o64 .exit)) ≡ patternsOf t (chunkCodes (groupSize t) n (now (s .entry))) ++ drop n (chosen (t .width) (now (o32 .entry)) (now (o64 .entry))) ⌝ }
 {
     let size = setting::group_size(t);
@@ -140,12 +140,11 @@ pub(crate) fn restored(
     let mut done: usize = 0;
     while 0 < left {
         let count = group_count(size, left);
-        lent::put_codes(t, &s[at..], count, c32, c64, done);
+        lent::put_values(t, &s[at..], count, c32, c64, o32, o64, done);
         at += group_length(&s[at..], count);
         left -= count;
         done += count;
     }
-    lent::put_patterns(t, n, c32, c64, o32, o64);
 }
 
 // The i-th value of a good chunk of n values: the full groups before its own are passed over.

@@ -5,6 +5,7 @@ ghost use Prim.Native.Nat.{_≤_};
 ghost use lib.ListN.{length, take, drop};
 ghost use Rattle.stream.specs.Setting.{codeAt, patternAt, codesOf, patternsOf};
 use crate::group::Group;
+use crate::group::Narrow;
 use crate::setting::Setting;
 use numbers::lossless;
 use numbers::tolerance;
@@ -67,7 +68,7 @@ pub(crate) fn put_codes32(t: Setting, values: &[u32], c: &mut [u32])
     }
 }
 
-// The codes of up to 32 values. They stay 32 bits wide here, so that a compiler can code four values at a time.
+// The codes of up to 32 values.
 fn codes32(t: Setting, values: &[u32]) -> [u32; 32]
     requires { ⌜ (t .width ≡ 32) × (length (now values) ≤ 32) ⌝ }
     ensures { λ r. ⌜ take (length (now (values .entry))) r ≡ codesOf t (now (values .entry)) ⌝ }
@@ -81,28 +82,15 @@ fn codes32(t: Setting, values: &[u32]) -> [u32; 32]
     codes
 }
 
-// The group of the first n of 32 codes.
-fn widened(n: usize, codes: [u32; 32]) -> Group
-    ensures { λ g. ⌜ (g .count ≡ n) × (g .codes ≡ codes) ⌝ }
-{
-    let mut g = Group {
-        count: n,
-        codes: [0u64; 32],
-    };
-    let mut i: usize = 0;
-    while i < 32 {
-        g.codes[i] = codes[i] as u64;
-        i += 1;
-    }
-    g
-}
-
 // The codes of up to 32 values, as a group.
-pub(crate) fn coded32(t: Setting, values: &[u32]) -> Group
+pub(crate) fn coded32(t: Setting, values: &[u32]) -> Narrow
     requires { ⌜ (t .width ≡ 32) × (length (now values) ≤ 32) ⌝ }
     ensures { λ g. ⌜ (g .count ≡ length (now (values .entry))) × (take (g .count) (g .codes) ≡ codesOf t (now (values .entry))) ⌝ }
 {
-    widened(values.len(), codes32(t, values))
+    Narrow {
+        count: values.len(),
+        codes: codes32(t, values),
+    }
 }
 
 pub(crate) fn coded64(t: Setting, values: &[u64]) -> Group

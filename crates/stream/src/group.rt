@@ -1,4 +1,5 @@
 // A group of codes: the record, its width and how many bytes it takes.
+// At width 32 a full group is a record of half the size, so that four codes of it are handled at a time.
 ghost use mathlib.Core.Path.{_≡_};
 ghost use Prim.Native.Nat.{_≤_};
 ghost use lib.ListN.{length, take};
@@ -8,6 +9,12 @@ ghost use Rattle.stream.specs.Group.{widthOf, groupBytes};
 pub struct Group {
     pub count: usize,
     pub codes: [u64; 32],
+}
+
+// The same of codes of 32 bits.
+pub struct Narrow {
+    pub count: usize,
+    pub codes: [u32; 32],
 }
 
 // What a check of a group finds: a broken rule, or how many bytes the group has.
@@ -29,6 +36,18 @@ pub(crate) fn width(codes: &[u64]) -> usize
     64 - (u64::leading_zeros(all) as usize)
 }
 
+pub(crate) fn width32(codes: &[u32]) -> usize
+    ensures { λ r. ⌜ (r ≡ widthOf (now (codes .entry))) × (r ≤ 32) ⌝ }
+{
+    let mut all: u32 = 0;
+    let mut i: usize = 0;
+    while i < codes.len() {
+        all = all | codes[i];
+        i += 1;
+    }
+    32 - (u32::leading_zeros(all) as usize)
+}
+
 // The codes of a group, as many as it counts.
 pub(crate) fn counted(codes: &[u64], n: usize) -> &[u64]
     requires { ⌜ n ≤ length (now codes) ⌝ }
@@ -45,4 +64,21 @@ pub(crate) fn measured(g: Group) -> usize
     let n = g.count;
     let w = width(counted(&g.codes, n));
     1 + (w * n + 7) / 8
+}
+
+// The same of a full group: 32 codes of w bits are 4w whole bytes. The codes are taken out first, so that no record is copied.
+pub(crate) fn measured_full(g: Group) -> usize
+    requires { ⌜ g .count ≡ 32 ⌝ }
+    ensures { λ r. ⌜ r ≡ length (groupBytes (take (g .count) (g .codes))) ⌝ }
+{
+    let codes = g.codes;
+    1 + 4 * width(&codes)
+}
+
+pub(crate) fn measured_full32(g: Narrow) -> usize
+    requires { ⌜ g .count ≡ 32 ⌝ }
+    ensures { λ r. ⌜ r ≡ length (groupBytes (take (g .count) (g .codes))) ⌝ }
+{
+    let codes = g.codes;
+    1 + 4 * width32(&codes)
 }

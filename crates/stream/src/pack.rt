@@ -4,7 +4,7 @@ ghost use mathlib.Core.Bool.{true};
 ghost use mathlib.Core.List.{List, [], _∷_, _++_};
 ghost use Prim.Native.Nat.{ℕ, _+_, _-_, _*_, _≤_, _<_, min};
 ghost use lib.ListN.{length, take, drop, getD, replicate};
-ghost use Rattle.stream.specs.Bytes.{digits};
+ghost use Rattle.blocks.specs.Bytes.{digits};
 ghost use Rattle.stream.specs.Setting.{knownWidth};
 ghost use Rattle.stream.specs.Lent.{chosen};
 ghost use Rattle.stream.specs.Relied.{Allowed};

@@ -30,7 +30,7 @@ fn restore_chunk(
     o32: &mut [u32],
     o64: &mut [u64],
 )
-    requires { ⌜ Readable (h .width) h (now bytes) × (j < h .chunks) × (chunkState h (now bytes) j ≡ Good) × (1024 * j + countOf h j ≤ length (chosen (h .width) (now o32) (now o64))) × (countOf h j ≤ length (chosen (h .width) (now c32) (now c64))) ⌝ }
+    requires { ⌜ Readable (h .width) h (now bytes) × (j < h .chunks) × (chunkState h (now bytes) j ≡ Good) × (1024 * j + countOf h j ≤ length (chosen (h .width) (now o32) (now o64))) × (32 ≤ length (chosen (h .width) (now c32) (now c64))) ⌝ }
     ensures { λ _. ⌜ chosen (h .width) (now (o32 .exit)) (now (o64 .exit)) ≡ landed (1024 * j) (chunkValues h (now (bytes .entry)) j) (chosen (h .width) (now (o32 .entry)) (now (o64 .entry))) ⌝ }
 {
     let t = chunks::setting_in(h);
@@ -49,7 +49,7 @@ pub(crate) fn restore(
     o32: &mut [u32],
     o64: &mut [u64],
 )
-    requires { ⌜ Readable (h .width) h (now bytes) × (first (chunkRows h (now bytes)) ≡ Pass) × (h .count ≤ length (chosen (h .width) (now o32) (now o64))) × (min 1024 (h .count) ≤ length (chosen (h .width) (now c32) (now c64))) ⌝ }
+    requires { ⌜ Readable (h .width) h (now bytes) × (first (chunkRows h (now bytes)) ≡ Pass) × (h .count ≤ length (chosen (h .width) (now o32) (now o64))) × (32 ≤ length (chosen (h .width) (now c32) (now c64))) ⌝ }
     ensures { λ _. ⌜ chosen (h .width) (now (o32 .exit)) (now (o64 .exit)) ≡ valuesIn h (now (bytes .entry)) ++ drop (h .count) (chosen (h .width) (now (o32 .entry)) (now (o64 .entry))) ⌝ }
 {
     let mut j: usize = 0;

@@ -1,9 +1,9 @@
 -- The laws of the lossless code, once over W and m with m + 2 ≤ W: every pattern is restored, and every code below 2 ^ W has exactly one pattern.
 -- With H = 2 ^ (W - 1) and F = 2 ^ (m + 1) as plain numbers, the exponent step is three linear pieces, and so is its inverse.
-use mathlib.Core.Path.{_≡_, sym, ap, ap₂, _∙_}
+use mathlib.Core.Path.{_≡_, sym, ap, _∙_}
 use mathlib.Core.Logic.{_⊎_, inl, inr}
-use Prim.Native.Nat.{ℕ, suc, _+_, _-_, _*_, _/_, _%_, _^_, _≤_, _<_, zero-le}
-use native.Mathlib.Nat.{le-trans, le-of-suc-le-suc, mul-le-mul-right, mod-eq-of-lt, mod-lt, add-comm, div-lt-iff-lt-mul, mod-add-div', two-pow-succ, div-eq-of-lt, le-div-iff-mul-le, one-mul, zero-mul, add-zero, sub-zero, add-mul, div-eq-of-lt-le, zero-div}
+use Prim.Native.Nat.{ℕ, _+_, _-_, _*_, _/_, _%_, _^_, _≤_, _<_}
+use native.Mathlib.Nat.{mod-eq-of-lt, mod-lt, add-comm, div-lt-iff-lt-mul, mod-add-div', div-eq-of-lt, le-div-iff-mul-le, one-mul, zero-mul, add-zero, div-eq-of-lt-le, zero-div}
 use native.Mathlib.Omega.{arith}
 use borrow.Author.Tests.{le-leb, lt-leb}
 use lib.Arith.{digits-div, digits-mod}
@@ -11,7 +11,7 @@ use lib.Pow.{pow-pos, pow-mono, pow-add}
 use Rattle.numbers.specs.Signed.{signedView, unfolded, bitsOf}
 use Rattle.numbers.specs.Lossless.{rotated, field, minus, lowered, stepped, losslessCode, plus, raised, unstepped, unrotated, losslessRestored}
 use Rattle.numbers.proofs.Law.Signed.{unfolded-folded, folded-unfolded, bits-of-view, view-of-bits, bits-below, folded-below}
-use Rattle.numbers.proofs.Law.Number.{le-or-lt, mod-once, minus-plain, minus-wraps, quotient-zero, quotient-some, twice-half}
+use Rattle.numbers.proofs.Law.Number.{le-or-lt, mod-once, minus-plain, minus-wraps, wraps-minus, quotient-zero, quotient-some, twice-half}
 
 module _ (W : ℕ) (some : 0 < W) where
   -- ---- the rotation
@@ -173,24 +173,46 @@ module _ (W m : ℕ) (room : m + 2 ≤ W) where
           rw (unstepped-high s a g)
           (stepped-high (s + 2 ^ (W - 1)) (omega arith) (omega (arith, H-twice)) ∙ (let e : s + 2 ^ (W - 1) - 2 ^ (W - 1) ≡ s = omega arith in e))
 
-  -- ---- the steps without a branch: what is subtracted is a product with 0 or 1
-
   some : 0 < W
   some = omega arith
 
-  exponents-twice : 2 ^ (W - 1 - m) ≡ 2 ^ (W - 2 - m) + 2 ^ (W - 2 - m)
-  exponents-twice = ap (λ (n : ℕ). 2 ^ n) (let e : W - 1 - m ≡ suc (W - 2 - m) = omega arith in e) ∙ two-pow-succ (W - 2 - m)
+  -- ---- the steps without a branch: what is added or subtracted is a product with 0 or 1
 
-  halves : 2 ^ (W - 1) ≡ 2 ^ (W - 2 - m) * 2 ^ (m + 1)
-  halves = ap (λ (n : ℕ). 2 ^ n) (let e : W - 1 ≡ W - 2 - m + (m + 1) = omega arith in e) ∙ pow-add 2 (W - 2 - m) (m + 1)
+  -- `less` is r less a unit; where it is in the lower half, `d` is that too and ends in the upper half, and where not, `d` is r and ends in the lower
+  pub stepped-units : (r less d : ℕ) → less < 2 ^ W → (less + 2 ^ (m + 1)) % 2 ^ W ≡ r
+      → d < 2 ^ W → (d + (1 - less / 2 ^ (W - 1)) * 2 ^ (m + 1)) % 2 ^ W ≡ r
+      → d % 2 ^ (W - 1) + (1 - less / 2 ^ (W - 1)) * 2 ^ (W - 1) ≡ stepped W m r
+  stepped-units r less d l e k f = go (le-or-lt (2 ^ (W - 1)) less) (le-or-lt (2 ^ W) (less + 2 ^ (m + 1)))
+    where
+      half-once : 2 ^ (W - 1) ≤ less → less / 2 ^ (W - 1) ≡ 1
+      half-once g = div-eq-of-lt-le (2 ^ (W - 1)) (omega arith) (omega (arith, H-twice))
+
+      keeps-unit : 2 ^ (W - 1) ≤ less → d ≡ r
+      keeps-unit g = sym (mod-eq-of-lt k) ∙ rw (half-once g, zero-mul (2 ^ (m + 1)), add-zero d) at f
+
+      loses-unit : less < 2 ^ (W - 1) → d ≡ less
+      loses-unit g =
+          wraps-minus (2 ^ W) r (2 ^ (m + 1)) d k (omega (arith, F≤H, H-twice)) (rw (div-eq-of-lt g, one-mul (2 ^ (m + 1))) at f)
+          ∙ sym (wraps-minus (2 ^ W) r (2 ^ (m + 1)) less l (omega (arith, F≤H, H-twice)) e)
+
+      go : (2 ^ (W - 1) ≤ less) ⊎ (less < 2 ^ (W - 1)) → (2 ^ W ≤ less + 2 ^ (m + 1)) ⊎ (less + 2 ^ (m + 1) < 2 ^ W)
+          → d % 2 ^ (W - 1) + (1 - less / 2 ^ (W - 1)) * 2 ^ (W - 1) ≡ stepped W m r
+      go (inl g) (inl x) =
+          let q : r ≡ less + 2 ^ (m + 1) - 2 ^ W = sym e ∙ mod-once (less + 2 ^ (m + 1)) (2 ^ W) x (omega (arith, F≤H, H-twice)) in
+          rw (half-once g, zero-mul (2 ^ (W - 1)), add-zero (d % 2 ^ (W - 1)), keeps-unit g)
+          (mod-eq-of-lt (omega (arith, F≤H)) ∙ sym (stepped-zero r (omega arith)))
+      go (inl g) (inr x) =
+          let q : r ≡ less + 2 ^ (m + 1) = sym e ∙ mod-eq-of-lt x in
+          rw (half-once g, zero-mul (2 ^ (W - 1)), add-zero (d % 2 ^ (W - 1)), keeps-unit g)
+          (mod-once r (2 ^ (W - 1)) (omega arith) (omega (arith, H-twice)) ∙ sym (stepped-high r (omega arith) (omega arith)))
+      go (inr g) x =
+          let q : r ≡ less + 2 ^ (m + 1) = sym e ∙ mod-eq-of-lt (omega (arith, F≤H, H-twice)) in
+          rw (div-eq-of-lt g, one-mul (2 ^ (W - 1)), loses-unit g, mod-eq-of-lt g)
+          ((let y : less + 2 ^ (W - 1) ≡ r + 2 ^ (W - 1) - 2 ^ (m + 1) = omega arith in y) ∙ sym (stepped-low r (omega arith) (omega arith)))
 
   -- 1 unless the exponent field of r is zero
   abbrev pub someUnit : ℕ → ℕ
   someUnit r = (r / 2 ^ (m + 1) + (2 ^ (W - 1 - m) - 1)) / 2 ^ (W - 1 - m)
-
-  -- 1 where the exponent field of r is above the middle
-  abbrev pub highUnit : ℕ → ℕ
-  highUnit r = (r / 2 ^ (m + 1) + (2 ^ (W - 2 - m) - 1)) / 2 ^ (W - 1 - m)
 
   field-below : (r : ℕ) → r < 2 ^ W → r / 2 ^ (m + 1) < 2 ^ (W - 1 - m)
   field-below r h =
@@ -205,49 +227,6 @@ module _ (W m : ℕ) (room : m + 2 ≤ W) where
   some-one r h l =
       let e : 1 ≤ r / 2 ^ (m + 1) = le-div-iff-mul-le (pow-pos (m + 1)) .1 (let q : 1 * 2 ^ (m + 1) ≡ 2 ^ (m + 1) = one-mul (2 ^ (m + 1)) in omega arith) in
       div-eq-of-lt-le (2 ^ (W - 1 - m)) (omega arith) (omega (arith, field-below r l))
-
-  middle-next : (2 ^ (W - 2 - m) + 1) * 2 ^ (m + 1) ≡ 2 ^ (W - 1) + 2 ^ (m + 1)
-  middle-next = add-mul (2 ^ (W - 2 - m)) 1 (2 ^ (m + 1)) ∙ ap₂ _+_ (sym halves) (one-mul (2 ^ (m + 1)))
-
-  high-zero : (r : ℕ) → r < 2 ^ (W - 1) + 2 ^ (m + 1) → highUnit r ≡ 0
-  high-zero r h =
-      let e : r / 2 ^ (m + 1) < 2 ^ (W - 2 - m) + 1 = div-lt-iff-lt-mul (pow-pos (m + 1)) .1 (omega (arith, middle-next)) in
-      div-eq-of-lt (omega (arith, exponents-twice, pow-pos (W - 2 - m)))
-
-  high-one : (r : ℕ) → 2 ^ (W - 1) + 2 ^ (m + 1) ≤ r → r < 2 ^ W → highUnit r ≡ 1
-  high-one r h l =
-      let e : 2 ^ (W - 2 - m) + 1 ≤ r / 2 ^ (m + 1) = le-div-iff-mul-le (pow-pos (m + 1)) .1 (omega (arith, middle-next)) in
-      div-eq-of-lt-le (2 ^ (W - 1 - m)) (omega (arith, exponents-twice)) (omega (arith, exponents-twice, field-below r l))
-
-  minus-zero : (r : ℕ) → r < 2 ^ W → minus W r 0 ≡ r
-  unfolding minus
-  minus-zero r h = minus-plain (2 ^ W) r 0 zero-le h ∙ sub-zero r
-
-  pub stepped-units : (r : ℕ) → r < 2 ^ W
-      → minus W (minus W r (someUnit r * 2 ^ (W - 1))) ((someUnit r - highUnit r) * 2 ^ (m + 1)) ≡ stepped W m r
-  stepped-units r h = go (le-or-lt (2 ^ (m + 1)) r) (le-or-lt (2 ^ (W - 1) + 2 ^ (m + 1)) r)
-    where
-      go : (2 ^ (m + 1) ≤ r) ⊎ (r < 2 ^ (m + 1)) → (2 ^ (W - 1) + 2 ^ (m + 1) ≤ r) ⊎ (r < 2 ^ (W - 1) + 2 ^ (m + 1))
-          → minus W (minus W r (someUnit r * 2 ^ (W - 1))) ((someUnit r - highUnit r) * 2 ^ (m + 1)) ≡ stepped W m r
-      go (inr z) g =
-          rw (some-zero r z, high-zero r (omega arith), zero-mul (2 ^ (W - 1)), zero-mul (2 ^ (m + 1)), minus-zero r h, minus-zero r h) (sym (stepped-zero r z))
-      go (inl a) (inl g) =
-          rw (some-one r a h, high-one r g h, one-mul (2 ^ (W - 1)), zero-mul (2 ^ (m + 1)))
-          (rw (minus-half r (omega arith) h) (minus-zero (r - 2 ^ (W - 1)) (omega arith) ∙ sym (stepped-high r g h)))
-      go (inl a) (inr g) =
-          rw (some-one r a h, high-zero r g, one-mul (2 ^ (W - 1)), one-mul (2 ^ (m + 1))) (sym (not-zero r a ∙ lowers r a g))
-
-  some-small : (r : ℕ) → r < 2 ^ W → someUnit r ≤ 1
-  some-small r h = le-of-suc-le-suc (div-lt-iff-lt-mul (pow-pos (W - 1 - m)) .1 (let e = field-below r h in omega arith))
-
-  -- what is subtracted is no more than 2 ^ W
-  pub half-room : (r : ℕ) → r < 2 ^ W → someUnit r * 2 ^ (W - 1) ≤ 2 ^ W
-  half-room r h = le-trans (mul-le-mul-right (2 ^ (W - 1)) (some-small r h)) (omega (arith, one-mul (2 ^ (W - 1)), H-twice))
-
-  pub unit-room : (r : ℕ) → r < 2 ^ W → (someUnit r - highUnit r) * 2 ^ (m + 1) ≤ 2 ^ W
-  unit-room r h =
-      le-trans (mul-le-mul-right (2 ^ (m + 1)) (let e = some-small r h in let q : someUnit r - highUnit r ≤ 1 = omega arith in q))
-      (omega (arith, one-mul (2 ^ (m + 1)), H-twice, F≤H))
 
   plus-zero : (s : ℕ) → s < 2 ^ W → plus W s 0 ≡ s
   unfolding plus

@@ -1,15 +1,11 @@
 -- Numbers, truth values and lists: laws that know nothing of the format.
 --   Truth: the connectives of the tests, and the case split of two numbers
---   Words: shifts, masks and sums of machine words
---   Digits: digits in any base and the numbers that they spell
 --   Joined: lists joined one after the other
 --   Mapped: a list filled from the front, element by element
 --   Appended: a list written piece by piece into a longer one
 --   Parts: a first element set and the rest lent
 --   Scan: a loop over indices that follows a definition
 pub mod Truth
-pub mod Words
-pub mod Digits
 pub mod Joined
 pub mod Mapped
 pub mod Appended

@@ -9,7 +9,7 @@ use native.Mathlib.Omega.{arith}
 use lib.ListN.{length, take, drop, length-append, length-map, length-drop, drop-of-length-le}
 use lib.Seq.{take-all, drop-drop}
 use Rattle.numbers.specs.Theorem.{Format}
-use Rattle.stream.specs.Bytes.{Below}
+use Rattle.blocks.specs.Bytes.{Below}
 use Rattle.stream.specs.Group.{groupBytes}
 use Rattle.stream.specs.Setting.{fractionBits, codeAt, codesOf}
 use Rattle.stream.specs.Chunk.{groupsIn, chunkBytes}

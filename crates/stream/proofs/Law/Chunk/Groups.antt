@@ -12,13 +12,13 @@ use lib.Pow.{pow-pos}
 use lib.Dec.{eqb}
 use lib.ListN.{length, take, drop, length-append, length-take, length-drop, take-append-drop, drop-of-length-le}
 use lib.Seq.{take-at, drop-at, take-all, drop-append-seam}
-use Rattle.stream.specs.Bytes.{Below, digits}
+use Rattle.blocks.specs.Bytes.{Below, digits}
 use Rattle.stream.specs.Group.{bytesFor, groupBytes, groupLength, groupCodes, goodGroup}
 use Rattle.stream.specs.declared.chunk.ChunkAnswer.the-variants.{Good, Bad}
 use Rattle.stream.specs.Chunk.{groupsIn, groupsBytes, chunkBytes, firstFault, chunkAnswer, groupsCodes, chunkCodes}
 use Rattle.stream.specs.Theorem.{Limited, Starts}
 use Rattle.stream.proofs.Law.Plain.Truth.{le-or-lt}
-use Rattle.stream.proofs.Law.Plain.Digits.{below-append, below-take, below-drop}
+use Rattle.blocks.proofs.Law.Digits.{below-append, below-take, below-drop}
 use Rattle.stream.proofs.Law.Group.RoundTrip.{read-length, read-codes, length-codes, length-group-most}
 use Rattle.stream.proofs.Law.Group.Exact.{true-good, read-written, starts-accepted, accepted-starts}
 

@@ -7,7 +7,7 @@ use Prim.Native.Nat.{ℕ, zero, suc, _+_, _-_, _^_, _≤_, _<_, min}
 use native.Mathlib.Omega.{arith}
 use lib.ListN.{length, take, drop, length-drop, length-append, List·getD-append, take-append-drop}
 use lib.Seq.{take-append-le, drop-append-le, drop-drop}
-use Rattle.stream.specs.Bytes.{number, digits}
+use Rattle.blocks.specs.Bytes.{number, digits}
 use Rattle.stream.specs.Group.{bytesFor, givenWidth, groupLength, groupNumber, groupCodes, goodGroup}
 use Rattle.stream.specs.Chunk.{groupsIn, firstFault, chunkAnswer, chunkCodes}
 use Rattle.stream.specs.Setting.{groupSize, limitOf}

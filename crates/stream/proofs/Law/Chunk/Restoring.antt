@@ -2,14 +2,14 @@
 -- setting and the group size.
 use mathlib.Core.Path.{_≡_, refl, sym, ap, ap₂, _∙_}
 use mathlib.Core.Bool.{Bool, true, false}
-use mathlib.Core.List.{List, [], _∷_, _++_, map, map-append}
+use mathlib.Core.List.{List, [], _∷_, _++_, map-append}
 use Prim.Native.Nat.{ℕ, zero, suc, _+_, _-_, _^_, _≤_, _<_, min}
 use native.Mathlib.Nat.{lt-of-lt-of-le, le-trans, le-of-suc-le-suc, not-suc-le-zero}
 use native.Mathlib.Omega.{arith}
 use lib.ListN.{length, take, drop, getD, length-map, length-take, List·getD-append}
 use lib.Seq.{drop-drop, getD-append-add}
 use lib.Pow.{pow-mono}
-use Rattle.stream.specs.Bytes.{Below}
+use Rattle.blocks.specs.Bytes.{Below}
 use Rattle.stream.specs.Group.{givenWidth, groupLength, groupCodes, goodGroup}
 use Rattle.stream.specs.declared.chunk.ChunkAnswer.the-variants.{Good}
 use Rattle.stream.specs.Setting.{patternAt, patternsOf}
@@ -23,6 +23,14 @@ use Rattle.stream.proofs.Law.Chunk.Checking.{found, found-bad, found-go
 pub length-patterns : (t : Setting) (cs : List ℕ) → length (patternsOf t cs) ≡ length cs
 unfolding patternsOf
 length-patterns t cs = length-map cs (patternAt t)
+
+pub patterns-none : (t : Setting) → patternsOf t [] ≡ []
+unfolding patternsOf
+patterns-none t = refl
+
+pub patterns-append : (t : Setting) (a b : List ℕ) → patternsOf t (a ++ b) ≡ patternsOf t a ++ patternsOf t b
+unfolding patternsOf
+patterns-append t a b = map-append (patternAt t) a b
 
 -- an array whose first n elements are n codes is long enough
 pub long-enough : (n : ℕ) (xs ys : List ℕ) → take n xs ≡ ys → length ys ≡ n → n ≤ length xs
@@ -87,8 +95,7 @@ module _ (size : ℕ) (some : 0 < size) (W U : ℕ) (s : List ℕ) where
     pub next-patterns : (t : Setting) (k : ℕ) → k ≡ groupLength count (drop at s)
         → patternsOf t (chunkCodes size left (drop at s))
         ≡ patternsOf t (groupCodes count (drop at s)) ++ patternsOf t (chunkCodes size (left - count) (drop (at + k) s))
-    unfolding patternsOf
-    next-patterns t k l = ap (map (patternAt t)) (next-codes k l) ∙ map-append (patternAt t) (groupCodes count (drop at s)) (chunkCodes size (left - count) (drop (at + k) s))
+    next-patterns t k l = ap (patternsOf t) (next-codes k l) ∙ patterns-append t (groupCodes count (drop at s)) (chunkCodes size (left - count) (drop (at + k) s))
 
   -- an index behind the next group, and one within it
   module _ (left at count : ℕ) (o : Onward left at) (h : 0 < left) (is : count ≡ min size left) (t : Setting) (k : ℕ) (l : k ≡ groupLength count (drop at s)) where

@@ -3,32 +3,36 @@
 use mathlib.Core.Path.{_≡_, refl, sym, ap, ap₂, _∙_, subst, subst⁻¹}
 use mathlib.Core.Bool.{Bool, true, false, cond}
 use mathlib.Core.List.{List}
-use Prim.Native.Nat.{ℕ, suc, _+_, _-_, _*_, _/_, _%_, _^_, _≤_, _<_, zero-le}
-use native.Mathlib.Nat.{le-antisymm, zero-lt-suc, mod-lt, div-eq-of-lt, div-lt-iff-lt-mul, le-div-iff-mul-le, one-mul, add-sub-of-le, add-comm, le-of-eq, le-of-suc-le-suc, lt-of-not-le, two-pow-succ}
+use mathlib.Core.Logic.{_⊎_, inl, inr}
+use Prim.Native.Nat.{ℕ, suc, _+_, _-_, _*_, _/_, _%_, _^_, _≤_, _<_, zero-le, max}
+use native.Mathlib.Nat.{le-antisymm, zero-lt-suc, mod-lt, div-eq-of-lt, div-lt-iff-lt-mul, one-mul, add-sub-of-le, add-comm, sub-add-cancel, mul-add, two-pow-succ}
+use native.Mathlib.Nat.{lt-of-lt-of-le, le-of-suc-le-suc, lt-of-not-le}
 use native.Mathlib.Omega.{arith}
+use lib.Bits.{bitOr, or-step, or-shr}
 use lib.Dec.{lit<}
 use lib.ListN.{length, take, drop, getD}
 use lib.Pow.{pow-pos, pow-mono, shr-shr, shl-exact, field}
-use Rattle.stream.specs.Bytes.{Below, number, digits}
+use Rattle.blocks.specs.Bytes.{Below, number, digits}
 use Rattle.stream.specs.Group.{groupAnswer}
 use Rattle.stream.specs.declared.group.GroupAnswer.the-variants as answers
 use Rattle.stream.specs.Group.{bytesFor, widthOf, givenWidth, groupLength, groupNumber, groupCodes, goodGroup}
 use Rattle.stream.specs.Theorem.{Limited}
-use Rattle.stream.proofs.Law.Plain.Digits.{byte, number-at, number-part, digit-at}
+use Rattle.blocks.proofs.Law.Digits.{byte, number-at, number-part, digit-at}
+use Rattle.stream.proofs.Law.Plain.Truth.{le-or-lt}
 use Rattle.stream.proofs.Law.Group.RoundTrip.{bytes-none, bytes-tight, width-holds, width-least, codes-below}
 use Rattle.stream.proofs.Law.Group.Exact.{Good, good-true, true-good}
 use Rattle.stream.proofs.Law.Group.Reading.{codes-from}
-use Rattle.stream.proofs.Law.Plain.Words.{pow-pow, bit-place, field-in-word}
+use Rattle.blocks.proofs.Law.Words.{pow-pow, bit-place, field-in-word}
 
 -- ---- the smallest width
 
--- one code with the highest of w bits makes w the width
-pub tall : (w : ℕ) (cs : List ℕ) (i : ℕ) → 1 ≤ w → Below (2 ^ w) cs → 2 ^ (w - 1) ≤ getD cs i 0 → w ≡ widthOf cs
-tall w cs i pos below h =
+-- codes that do not all lack the highest of w bits make w the width
+pub tall : (w : ℕ) (cs : List ℕ) → 1 ≤ w → Below (2 ^ w) cs → (Below (2 ^ (w - 1)) cs → ⊥) → w ≡ widthOf cs
+tall w cs pos below h =
     le-antisymm
     (le-of-suc-le-suc (lt-of-not-le (λ (g : suc (widthOf cs) ≤ w).
     let less : widthOf cs ≤ w - 1 = omega arith in
-    omega (arith, width-holds cs i, pow-mono less))))
+    h (λ i. lt-of-lt-of-le (width-holds cs i) (pow-mono less)))))
     (width-least w cs below)
 
 -- and with none the width is smaller
@@ -60,14 +64,54 @@ module _ (s : List ℕ) (n i w bit : ℕ) (bytes : Below 256 s) (is : w ≡ give
       ∙ ap (λ (m : ℕ). m % 2) (shr-shr (number 256 s) (8 + w * i) (w - 1) ∙ ap (λ (k : ℕ). number 256 s / 2 ^ k) (top-place w i pos ∙ sym at))
       ∙ sym (bit-at s bit bytes)
 
--- what that bit says of the code
-pub high-set : (x k : ℕ) → x / 2 ^ k ≡ 1 → 2 ^ k ≤ x
-high-set x k e = rw one-mul at (le-div-iff-mul-le (pow-pos k) .0 (le-of-eq (sym e)))
-
-pub high-unset : (x k y : ℕ) → x / 2 ^ k ≡ y % 2 → (y % 2 ≡ 1 → ⊥) → x < 2 ^ k
+-- a code without that bit
+pub high-unset : (x k y : ℕ) → x / 2 ^ k ≤ y % 2 → (y % 2 ≡ 1 → ⊥) → x < 2 ^ k
 high-unset x k y e f =
     let none : x / 2 ^ k < 1 = omega arith in
     rw one-mul at (div-lt-iff-lt-mul (pow-pos k) .0 none)
+
+-- an OR has a bit where one of the two has it
+or-bit : (a b p : ℕ) → bitOr a b / 2 ^ p % 2 ≡ max (a / 2 ^ p % 2) (b / 2 ^ p % 2)
+or-bit a b p = ap (λ (x : ℕ). x % 2) (or-shr a b p) ∙ omega (arith, or-step (a / 2 ^ p) (b / 2 ^ p))
+
+-- codes whose bits are k whole bytes apart have their highest bits at the same place of bytes that are k apart
+apart : (s : List ℕ) (n i w bit d k : ℕ) → Below 256 s → w ≡ givenWidth s → 1 ≤ w → i + d < n → bit ≡ 7 + w + w * i → w * d ≡ 8 * k
+    → getD (groupCodes n s) (i + d) 0 / 2 ^ (w - 1) ≡ getD s (bit / 8 + k) 0 / 2 ^ (bit % 8) % 2
+apart s n i w bit d k bytes is pos there at e =
+    let same : (bit + 8 * k) % 8 ≡ bit % 8 = omega arith in
+    let next : (bit + 8 * k) / 8 ≡ bit / 8 + k = omega arith in
+    top-bit s n (i + d) w (bit + 8 * k) bytes is pos there (omega (arith, mul-add w i d))
+    ∙ ap₂ (λ (j p : ℕ). getD s j 0 / 2 ^ p % 2) next same
+
+-- so the OR of four bytes has the highest bits of four codes that are eight apart
+pub top-four : (s : List ℕ) (i w bit x₀ x₁ x₂ x₃ : ℕ) → Below 256 s → w ≡ givenWidth s → 1 ≤ w → i < 8 → bit ≡ 7 + w + w * i
+    → x₀ ≡ getD s (bit / 8) 0 → x₁ ≡ getD s (bit / 8 + w) 0 → x₂ ≡ getD s (bit / 8 + 2 * w) 0 → x₃ ≡ getD s (bit / 8 + 3 * w) 0
+    → let top : ℕ → ℕ = λ j. getD (groupCodes 32 s) j 0 / 2 ^ (w - 1) in
+    bitOr (bitOr x₀ x₁) (bitOr x₂ x₃) / 2 ^ (bit % 8) % 2 ≡ max (max (top i) (top (i + 8))) (max (top (i + 16)) (top (i + 24)))
+top-four s i w bit x₀ x₁ x₂ x₃ bytes is pos there at e₀ e₁ e₂ e₃ =
+    let p : ℕ = bit % 8 in
+    let one : ℕ → ℕ = λ x. x / 2 ^ p % 2 in
+    or-bit (bitOr x₀ x₁) (bitOr x₂ x₃) p
+    ∙ ap₂ max
+    (or-bit x₀ x₁ p
+    ∙ ap₂ max (ap one e₀ ∙ sym (top-bit s 32 i w bit bytes is pos (omega arith) at))
+    (ap one e₁ ∙ sym (apart s 32 i w bit 8 w bytes is pos (omega arith) at (omega arith))))
+    (or-bit x₂ x₃ p
+    ∙ ap₂ max (ap one e₂ ∙ sym (apart s 32 i w bit 16 (2 * w) bytes is pos (omega arith) at (omega arith)))
+    (ap one e₃ ∙ sym (apart s 32 i w bit 24 (3 * w) bytes is pos (omega arith) at (omega arith))))
+
+-- what holds of four indices that are eight apart, from each of the first eight on, holds of the first 32
+abbrev pub Four : (ℕ → Type 0) → ℕ → Type 0
+Four P k = P k × P (k + 8) × P (k + 16) × P (k + 24)
+
+pub four-all : (P : ℕ → Type 0) → ((k : ℕ) → k < 8 → Four P k) → (k : ℕ) → k < 32 → P k
+four-all P f k h = part (le-or-lt 8 k) (le-or-lt 16 k) (le-or-lt 24 k)
+  where
+    part : (8 ≤ k) ⊎ (k < 8) → (16 ≤ k) ⊎ (k < 16) → (24 ≤ k) ⊎ (k < 24) → P k
+    part (inr l) y z = f k l .0
+    part (inl g) (inr l) z = subst P (sub-add-cancel g) (f (k - 8) (omega arith) .1)
+    part (inl x) (inl g) (inr l) = subst P (sub-add-cancel g) (f (k - 16) (omega arith) .2)
+    part (inl x) (inl y) (inl g) = subst P (sub-add-cancel g) (f (k - 24) (omega arith) .3)
 
 -- ---- the padding
 

@@ -13,12 +13,12 @@ use lib.Dec.{leb, ltb, eqb}
 use lib.ListN.{length, take, drop, getD, length-append, length-drop, take-append-drop}
 use lib.Pow.{pow-pos, pow-mono}
 use lib.Seq.{length-take-le}
-use Rattle.stream.specs.Bytes.{Below, number, digits}
+use Rattle.blocks.specs.Bytes.{Below, number, digits}
 use Rattle.stream.specs.Group.{bytesFor, widthOf, packed, groupBytes, givenWidth, groupLength, groupNumber, groupCodes, within, goodGroup}
 use Rattle.stream.specs.Theorem.{Limited, Starts}
-use Rattle.stream.proofs.Law.Plain.Digits.{byte, below-take, below-drop, number-digits-whole, digits-number, number-lt}
+use Rattle.blocks.proofs.Law.Digits.{byte, below-take, below-drop, number-digits-whole, digits-number, number-lt}
 use Rattle.stream.proofs.Law.Group.RoundTrip.{width-holds, width-least, read-width, read-length, read-number, read-codes, length-codes, codes-below}
-use Rattle.stream.proofs.Law.Plain.Words.{pow-pow}
+use Rattle.blocks.proofs.Law.Words.{pow-pow}
 
 -- ---- a good group, as a record of facts for the tests of `goodGroup`
 

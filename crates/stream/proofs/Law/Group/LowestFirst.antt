@@ -6,10 +6,10 @@ use mathlib.Core.List.{List, [], _∷_, _++_}
 use Prim.Native.Nat.{ℕ, zero, suc, _+_, _-_, _*_, _^_, _<_}
 use native.Mathlib.Nat.{add-comm, mul-zero, mul-suc, zero-lt-suc, add-sub-of-le, mod-eq-of-lt}
 use lib.ListN.{length, replicate, length-append, length-replicate}
-use Rattle.stream.specs.Bytes.{Below, number, digits}
+use Rattle.blocks.specs.Bytes.{Below, number, digits}
 use Rattle.stream.specs.Group.{bytesFor, packed}
 use Rattle.stream.specs.Theorem.{bits}
-use Rattle.stream.proofs.Law.Plain.Digits.{below-append, length-digits, digits-below, digits-zero, number-digits, number-append, number-padded, number-injective}
+use Rattle.blocks.proofs.Law.Digits.{below-append, length-digits, digits-below, digits-zero, number-digits, number-append, number-padded, number-injective}
 use Rattle.stream.proofs.Law.Group.RoundTrip.{bytes-hold, length-packed, packed-below, number-packed}
 
 two : zero < 2

@@ -9,10 +9,10 @@ use lib.Ieee.Digits.{size-lt, size-le}
 use lib.ListN.{length, getD}
 use lib.Pow.{pow-pos, pow-mono}
 use lib.Seq.{take-at}
-use Rattle.stream.specs.Bytes.{Below, number, digits}
+use Rattle.blocks.specs.Bytes.{Below, number, digits}
 use Rattle.stream.specs.Group.{bytesFor, largest, widthOf, packed, groupBytes, givenWidth, groupLength, groupNumber, groupCodes}
-use Rattle.stream.proofs.Law.Plain.Digits.{byte, length-digits, digits-below, number-digits-whole, digits-number, number-lt}
-use Rattle.stream.proofs.Law.Plain.Words.{pow-pow}
+use Rattle.blocks.proofs.Law.Digits.{byte, length-digits, digits-below, number-digits-whole, digits-number, number-lt}
+use Rattle.blocks.proofs.Law.Words.{pow-pow}
 
 -- ---- the bytes that hold some bits
 

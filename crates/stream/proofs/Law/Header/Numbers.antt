@@ -6,10 +6,10 @@ use native.Mathlib.Nat.{add-zero, lt-of-lt-of-le, pow-le-pow-right}
 use native.Mathlib.Omega.{arith}
 use lib.ListN.{length, take, drop, getD, length-take, length-drop}
 use lib.Seq.{getD-drop}
-use Rattle.stream.specs.Bytes.{Below, number}
+use Rattle.blocks.specs.Bytes.{Below, number}
 use Rattle.stream.specs.Header.{word, headerOf}
 use Rattle.stream.specs.Relied.{Words}
-use Rattle.stream.proofs.Law.Plain.Digits.{byte, below-drop, below-take, number-lt}
+use Rattle.blocks.proofs.Law.Digits.{byte, below-drop, below-take, number-lt}
 
 four : (l : List ℕ) → 4 ≤ length l
     → number 256 (take 4 l) ≡ getD l 0 0 + 256 * (getD l 1 0 + 256 * (getD l 2 0 + 256 * getD l 3 0))

@@ -7,7 +7,7 @@ use Prim.Native.Nat.{ℕ, _^_}
 use lib.Dec.{eqb}
 use lib.ListN.{length, take, drop}
 use borrow.Author.Tests.{eq-eqb, ne-eqb}
-use Rattle.stream.specs.Bytes.{Below}
+use Rattle.blocks.specs.Bytes.{Below}
 use Rattle.stream.specs.Setting.{knownWidth, patternsOf}
 use Rattle.stream.specs.Lent.{chosen}
 use Rattle.stream.specs.Writing.{piece}

@@ -5,7 +5,7 @@ use mathlib.Core.List.{List, _++_}
 use Prim.Native.Nat.{ℕ, _+_, _^_, _≤_}
 use lib.ListN.{length, take, drop}
 use lib.Seq.{take-at}
-use Rattle.stream.specs.Bytes.{Below}
+use Rattle.blocks.specs.Bytes.{Below}
 use Rattle.stream.specs.Setting.{knownWidth, groupSize, codeAt, codesOf}
 use Rattle.stream.specs.Chunk.{chunkBytes}
 use Rattle.stream.specs.Lent.{chosen, lentCodes}
@@ -18,10 +18,14 @@ use Rattle.stream.proofs.Law.Chunk.BytesLeft.{length-codes-of, chunk-sm
 use Rattle.stream.proofs.Law.Setting.Widths.{width-bytes}
 use Rattle.stream.proofs.Law.Written.Pieces.{piece-bytes}
 
--- a part of the codes of a list is the codes of its part
-codes-part : (t : Setting) (vs : List ℕ) (n at : ℕ) → codesOf t (take n (drop at vs)) ≡ take n (drop at (codesOf t vs))
-unfolding codesOf
-codes-part t vs n at = map-take (codeAt t) n (drop at vs) ∙ ap (take n) (map-drop (codeAt t) at vs)
+-- a part of the codes of a list: the codes of its part, or a part of the scratch where they stand
+module _ (t : Setting) (vs : List ℕ) (n at : ℕ) where
+  pub codes-part : codesOf t (take n (drop at vs)) ≡ take n (drop at (codesOf t vs))
+  unfolding codesOf
+  codes-part = map-take (codeAt t) n (drop at vs) ∙ ap (take n) (map-drop (codeAt t) at vs)
+
+  pub staged-part : (cs : List ℕ) → take (length vs) cs ≡ codesOf t vs → at + n ≤ length vs → take n (drop at cs) ≡ take n (drop at (codesOf t vs))
+  staged-part cs is h = sym (part-taken n at (length vs) cs h) ∙ ap (λ (l : List ℕ). take n (drop at l)) is
 
 module _ (t : Setting) (v32 v64 : List ℕ) where
   pub lent-are : lentCodes t v32 v64 ≡ codesOf t (chosen (t .width) v32 v64)
@@ -31,22 +35,12 @@ module _ (t : Setting) (v32 v64 : List ℕ) where
   pub length-lent : length (lentCodes t v32 v64) ≡ length (chosen (t .width) v32 v64)
   length-lent = ap length lent-are ∙ length-codes-of t (chosen (t .width) v32 v64)
 
-  -- a part, from the list of the width
-  lent-part : (vs : List ℕ) → chosen (t .width) v32 v64 ≡ vs → (n at : ℕ) → codesOf t (take n (drop at vs)) ≡ take n (drop at (lentCodes t v32 v64))
-  lent-part vs is n at = codes-part t vs n at ∙ ap (λ (l : List ℕ). take n (drop at l)) (ap (codesOf t) (sym is) ∙ sym lent-are)
+  -- they are those of the list of the width
+  pub lent-32 : t .width ≡ 32 → codesOf t v32 ≡ lentCodes t v32 v64
+  lent-32 e = ap (codesOf t) (sym (at-32 (t .width) v32 v64 e)) ∙ sym lent-are
 
-  pub lent-32 : t .width ≡ 32 → (n at : ℕ) → codesOf t (take n (drop at v32)) ≡ take n (drop at (lentCodes t v32 v64))
-  lent-32 e = lent-part v32 (at-32 (t .width) v32 v64 e)
-
-  pub lent-64 : (t .width ≡ 32 → ⊥) → (n at : ℕ) → codesOf t (take n (drop at v64)) ≡ take n (drop at (lentCodes t v32 v64))
-  lent-64 e = lent-part v64 (at-other (t .width) v32 v64 e)
-
-  -- a part of the scratch
-  pub lent-staged : t .width ≡ 32 → (c32 : List ℕ) → take (length v32) c32 ≡ codesOf t v32 → (n at : ℕ) → at + n ≤ length v32
-      → take n (drop at c32) ≡ take n (drop at (lentCodes t v32 v64))
-  lent-staged e c32 is n at h =
-      sym (part-taken n at (length v32) c32 h)
-      ∙ ap (λ (l : List ℕ). take n (drop at l)) (is ∙ ap (codesOf t) (sym (at-32 (t .width) v32 v64 e)) ∙ sym lent-are)
+  pub lent-64 : (t .width ≡ 32 → ⊥) → codesOf t v64 ≡ lentCodes t v32 v64
+  lent-64 e = ap (codesOf t) (sym (at-other (t .width) v32 v64 e)) ∙ sym lent-are
 
   -- a chunk takes few bytes
   pub lent-small : knownWidth (t .width) ≡ true → Below (2 ^ 32) v32 → Below (2 ^ 64) v64 → length (chosen (t .width) v32 v64) ≤ 1024

@@ -8,10 +8,10 @@ use native.Mathlib.Numerals.{add-one}
 use native.Mathlib.Omega.{arith}
 use lib.ListN.{length, take, drop, getD, length-append, List·getD-append}
 use lib.Seq.{take-at, drop-at, getD-at}
-use Rattle.stream.specs.Bytes.{Below}
+use Rattle.blocks.specs.Bytes.{Below}
 use Rattle.stream.specs.Stream.{joined}
 use Rattle.stream.proofs.Law.Plain.Truth.{le-or-lt}
-use Rattle.stream.proofs.Law.Plain.Digits.{below-append}
+use Rattle.blocks.proofs.Law.Digits.{below-append}
 
 module _ (f : ℕ → List ℕ) where
   pub length-joined : (j : ℕ) → length (joined f (suc j)) ≡ length (joined f j) + length (f j)

@@ -14,7 +14,7 @@ use Rattle.numbers.specs.Lossless.{losslessCode}
 use Rattle.numbers.specs.Tolerance.{toleranceCode, largestU}
 use Rattle.numbers.specs.Theorem.{Format}
 use Rattle.numbers.proofs.Theorems.{lossless-code-has-W-bits, no-u-is-larger}
-use Rattle.stream.specs.Bytes.{Below}
+use Rattle.blocks.specs.Bytes.{Below}
 use Rattle.stream.specs.Group.{groupBytes}
 use Rattle.stream.specs.Setting.{knownWidth, fractionBits, groupSize, clipped, codeAt, patternAt, codesOf, patternsOf, limitOf}
 use Rattle.stream.specs.Chunk.{chunkBytes}

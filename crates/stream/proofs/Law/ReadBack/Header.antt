@@ -8,13 +8,13 @@ use native.Mathlib.Omega.{arith}
 use borrow.Author.Tests.{le-ltb, le-leb, eq-eqb}
 use lib.Dec.{eqb, lit<, lit≤}
 use lib.ListN.{length, getD}
-use Rattle.stream.specs.Bytes.{Below}
+use Rattle.blocks.specs.Bytes.{Below}
 use Rattle.stream.specs.Setting.{widthNeed, modeNeed, need, kBits}
 use Rattle.stream.specs.Header.{word, headerOf, kOf, chunksIn, tooMany, needRight, settingRight, layoutRight}
 use Rattle.stream.specs.Writing.{spell, dataOf, startsOf, headerNumbers, endOf}
 use Rattle.stream.specs.declared.header.Header.{Header}
 use Rattle.stream.specs.declared.setting.Setting.{Setting}
-use Rattle.stream.proofs.Law.Plain.Digits.{everywhere}
+use Rattle.blocks.proofs.Law.Digits.{everywhere}
 use Rattle.stream.proofs.Law.Setting.Allowed.{Storable, width-most}
 use Rattle.stream.proofs.Law.Setting.Widths.{need-small}
 use Rattle.stream.proofs.Law.Setting.Exponent.{bits-small, setting-back, allowed-back}

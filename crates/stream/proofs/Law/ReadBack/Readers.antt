@@ -9,7 +9,7 @@ use native.Mathlib.Omega.{arith}
 use borrow.Author.Tests.{lt-ltb, le-ltb, eq-eqb}
 use lib.Dec.{lit<}
 use lib.ListN.{length, getD, List·getD-append}
-use Rattle.stream.specs.Bytes.{Below}
+use Rattle.blocks.specs.Bytes.{Below}
 use Rattle.stream.specs.Setting.{knownLevel, need, groupSize, codesOf, patternsOf}
 use Rattle.stream.specs.Rows.{Row, rowsFrom, first}
 use Rattle.stream.specs.Header.{word, headerOf, chunksIn, settingRight, layoutRight}
@@ -25,7 +25,7 @@ use Rattle.stream.specs.declared.setting.Setting.{Setting}
 use Rattle.stream.proofs.Law.Values.ThreeReaders.{probe-passes}
 use Rattle.stream.proofs.Law.Rows.First.{opened, shut, passed}
 use Rattle.stream.proofs.Law.Rows.Chunks.{good-row, tables-pass}
-use Rattle.stream.proofs.Law.Plain.Digits.{byte, below-append}
+use Rattle.blocks.proofs.Law.Digits.{byte, below-append}
 use Rattle.stream.proofs.Law.Setting.Codes.{codes-under}
 use Rattle.stream.proofs.Law.Setting.Allowed.{Storable, width-most}
 use Rattle.stream.proofs.Law.Setting.Widths.{width-bytes}

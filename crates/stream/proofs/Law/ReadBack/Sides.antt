@@ -9,7 +9,7 @@ use borrow.Author.Tests.{leb-true, le-leb, eq-eqb}
 use lib.Dec.{leb}
 use lib.ListN.{length, take, drop, getD, length-append}
 use lib.Seq.{drop-append-add}
-use Rattle.stream.specs.Bytes.{number}
+use Rattle.blocks.specs.Bytes.{number}
 use Rattle.stream.specs.Header.{word}
 use Rattle.stream.specs.Tables.{every, sideId, sidePlace, sideLength, idFloor, partAt, entryRight, sideTableRight}
 use Rattle.stream.specs.Writing.{spell, Side, entries, parts, increasing, WellFormedSides}

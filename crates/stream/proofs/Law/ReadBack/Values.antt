@@ -12,13 +12,13 @@ use Rattle.numbers.specs.Tolerance.{allowedK, binOf, ordinal, toleranceCode, to
 use Rattle.numbers.specs.Bound.{exponentOf}
 use Rattle.numbers.specs.Theorem.{Format, Within}
 use Rattle.numbers.proofs.Theorems.{the-k-of-a-bin-is-allowed, the-bin-of-its-k, every-pattern-is-restored, every-pattern-returns-within, specials-return}
-use Rattle.stream.specs.Bytes.{Below}
+use Rattle.blocks.specs.Bytes.{Below}
 use Rattle.stream.specs.Group.{widthOf, packed, groupBytes}
 use Rattle.stream.specs.Setting.{fractionBits, clipped, codeAt, patternAt, codesOf, patternsOf}
 use Rattle.stream.specs.Relied.{Allowed}
 use Rattle.stream.specs.Chunk.{groupsBytes, chunkBytes, groupsIn}
 use Rattle.stream.specs.declared.setting.Setting.{Setting}
-use Rattle.stream.proofs.Law.Plain.Digits.{below-cons, below-append, below-take, below-drop, byte}
+use Rattle.blocks.proofs.Law.Digits.{below-cons, below-append, below-take, below-drop, byte}
 use Rattle.stream.proofs.Law.Group.RoundTrip.{width-least, packed-below}
 use Rattle.stream.proofs.Law.Setting.Widths.{width-bytes}
 

@@ -9,7 +9,7 @@ use borrow.Author.Tests.{ltb-true, not-false}
 use lib.Dec.{ltb, lit<}
 use lib.IntN.{ℤ}
 use lib.ListN.{length, drop}
-use Rattle.stream.specs.Bytes.{Below}
+use Rattle.blocks.specs.Bytes.{Below}
 use Rattle.stream.specs.Setting.{knownWidth, settingOf, groupSize, limitOf}
 use Rattle.stream.specs.Chunk.{chunkCodes}
 use Rattle.stream.specs.Header.{headerOf, settingIn, chunksIn}
@@ -25,7 +25,7 @@ use Rattle.stream.specs.declared.answers.Step.{Step}
 use Rattle.stream.specs.declared.answers.Step.the-variants.{Pass, Stop}
 use Rattle.stream.specs.declared.chunk.ChunkAnswer.{ChunkAnswer}
 use Rattle.stream.specs.declared.chunk.ChunkAnswer.the-variants.{Good, Bad}
-use Rattle.stream.proofs.Law.Plain.Digits.{below-take, below-drop}
+use Rattle.blocks.proofs.Law.Digits.{below-take, below-drop}
 use Rattle.stream.proofs.Law.Rows.First.{opened, opened-both, shut}
 use Rattle.stream.proofs.Law.Header.Numbers.{word-small}
 use Rattle.stream.proofs.Law.Setting.Allowed.{settled, size-some}

@@ -9,7 +9,7 @@ use lib.Dec.{eqb, lit<, lit≤}
 use mathlib.Core.List.{List}
 use lib.IntN.{ℤ, pos, negsuc}
 use lib.ListN.{length}
-use Rattle.stream.specs.Bytes.{Below}
+use Rattle.blocks.specs.Bytes.{Below}
 use mir.Syntax.{w32}
 use mir.Val.{SFits, ofZ}
 use Rattle.numbers.specs.declared.tolerance.BinAnswer.the-variants as bin
@@ -74,6 +74,11 @@ dividing t = record { some = lit< tt; parts = 32; whole = refl }
 
 pub size-some : (t : Setting) → 0 < groupSize t
 size-some t = dividing t .some
+
+-- a full group is one block of 32 codes
+pub one-block : (t : Setting) → groupSize t ≡ 32
+unfolding groupSize
+one-block t = refl
 
 pub size-most : (t : Setting) → groupSize t ≤ 32
 unfolding groupSize

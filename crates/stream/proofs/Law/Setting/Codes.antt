@@ -1,18 +1,18 @@
--- Codes and patterns of a setting: they stay below 2 ^ W, and a list of them is as long as its source.
-use mathlib.Core.Path.{_≡_, ap, _∙_}
+-- Codes and patterns of a setting: they stay below 2 ^ W, a list of them is as long as its source, and zeros are zeros.
+use mathlib.Core.Path.{_≡_, refl, ap, ap₂, _∙_}
 use mathlib.Core.Bool.{Bool, true, false, cond}
-use mathlib.Core.List.{List, _++_}
-use Prim.Native.Nat.{ℕ, _^_, _≤_, _<_}
+use mathlib.Core.List.{List, _∷_, _++_}
+use Prim.Native.Nat.{ℕ, zero, suc, _^_, _≤_, _<_}
 use native.Mathlib.Nat.{min-le-right}
 use native.Mathlib.Omega.{arith}
 use lib.Dec.{eqb}
 use lib.Pow.{pow-pos}
-use lib.ListN.{length, take, drop}
+use lib.ListN.{length, take, drop, replicate}
 use lib.Seq.{length-take-le}
 use Rattle.numbers.specs.Theorem.{Format}
 use Rattle.numbers.specs.Tolerance.{lastBin}
-use Rattle.numbers.proofs.Theorems.{lossless-code-has-W-bits, lossless-pattern-has-W-bits, tolerance-code-has-W-bits, tolerance-pattern-has-W-bits}
-use Rattle.stream.specs.Bytes.{Below}
+use Rattle.numbers.proofs.Theorems.{lossless-code-has-W-bits, lossless-pattern-has-W-bits, tolerance-code-has-W-bits, tolerance-pattern-has-W-bits, lossless-zero, tolerance-zero}
+use Rattle.blocks.specs.Bytes.{Below}
 use Rattle.stream.specs.Setting.{fractionBits, clipped, codeAt, patternAt, codesOf, patternsOf}
 use Rattle.stream.specs.declared.setting.Setting.{Setting}
 use Rattle.stream.proofs.Law.Plain.Mapped.{length-put, map-below}
@@ -52,6 +52,20 @@ module _ (t : Setting) (format : Format (t .width) (fractionBits (t .width))) wh
   pattern-under c h =
       either-under (eqb (t .mode) 0) _ _ (2 ^ W) (lossless-pattern-has-W-bits W (fractionBits W) format c h)
       (tolerance-pattern-has-W-bits W (fractionBits W) format (clipped t) bin-in c)
+
+  -- zeros stand for zeros
+  pattern-zero : patternAt t 0 ≡ 0
+  unfolding patternAt
+  pattern-zero = go (eqb (t .mode) 0) (lossless-zero W (fractionBits W) format) (tolerance-zero W (fractionBits W) format (clipped t) bin-in)
+    where
+      go : (b : Bool) {x y : ℕ} → x ≡ 0 → y ≡ 0 → cond b x y ≡ 0
+      go true h l = h
+      go false h l = l
+
+  pub patterns-zero : (n : ℕ) → patternsOf t (replicate n 0) ≡ replicate n 0
+  unfolding patternsOf
+  patterns-zero zero = refl
+  patterns-zero (suc n) = ap₂ (λ (x : ℕ) (r : List ℕ). x ∷ r) pattern-zero (patterns-zero n)
 
   pub codes-under : (vs : List ℕ) → Below (2 ^ W) vs → Below (2 ^ W) (codesOf t vs)
   unfolding codesOf

@@ -9,7 +9,7 @@ use borrow.Author.Tests.{lt-ltb, le-ltb}
 use lib.Dec.{leb, ltb, eqb}
 use lib.ListN.{length, take, drop, set, length-set}
 use lib.Seq.{take-take, drop-drop, take-set-le, drop-set-lt, drop-set-add}
-use Rattle.stream.specs.Bytes.{number}
+use Rattle.blocks.specs.Bytes.{number}
 use Rattle.stream.specs.Setting.{groupSize, limitOf, patternsOf}
 use Rattle.stream.specs.Chunk.{chunkAnswer, chunkCodes}
 use Rattle.stream.specs.Header.{word, headerOf, settingIn}

@@ -7,10 +7,10 @@ use native.Mathlib.Numerals.{towards-suc, add-one}
 use native.Mathlib.Omega.{arith}
 use lib.ListN.{length, take, drop, set, getD, replicate, length-append, length-replicate}
 use lib.Seq.{sets, sets-eq, split-at, take-suc, take-at, take-all, drop-at, drop-drop, length-take-le}
-use Rattle.stream.specs.Bytes.{Below, number, digits}
+use Rattle.blocks.specs.Bytes.{Below, number, digits}
 use Rattle.stream.specs.Header.{word}
 use Rattle.stream.specs.Writing.{spell}
-use Rattle.stream.proofs.Law.Plain.Digits.{byte, below-append, length-digits, digits-below, number-digits-whole}
+use Rattle.blocks.proofs.Law.Digits.{byte, below-append, length-digits, digits-below, number-digits-whole}
 
 -- ---- one number in four stores
 

@@ -9,7 +9,7 @@ use native.Mathlib.Numerals.{add-one}
 use native.Mathlib.Omega.{arith}
 use lib.ListN.{length, take, drop, length-append, length-take, length-drop}
 use lib.Seq.{take-all, take-add}
-use Rattle.stream.specs.Bytes.{Below}
+use Rattle.blocks.specs.Bytes.{Below}
 use Rattle.stream.specs.Setting.{knownWidth, groupSize, codesOf}
 use Rattle.stream.specs.Chunk.{groupsIn, chunkBytes}
 use Rattle.stream.specs.Header.{chunksIn}
@@ -18,7 +18,7 @@ use Rattle.stream.specs.Writing.{piece, pieceBytes, dataOf, startsOf, he
 use Rattle.stream.specs.Packing.{mostBytes}
 use Rattle.stream.specs.declared.setting.Setting.{Setting}
 use Rattle.stream.proofs.Law.Plain.Truth.{le-or-lt}
-use Rattle.stream.proofs.Law.Plain.Digits.{below-take, below-drop}
+use Rattle.blocks.proofs.Law.Digits.{below-take, below-drop}
 use Rattle.stream.proofs.Law.Setting.Allowed.{Dividing, dividing, size-some}
 use Rattle.stream.proofs.Law.Chunk.BytesLeft.{take-there, drop-there, bytes-small, groups-few}
 use Rattle.stream.proofs.Law.Setting.Widths.{width-bytes}

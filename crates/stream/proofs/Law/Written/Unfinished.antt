@@ -8,7 +8,7 @@ use native.Mathlib.Omega.{arith}
 use lib.ListN.{length, take, drop, replicate, length-append, length-replicate}
 use lib.Seq.{take-at, drop-at, drop-drop, append-snoc}
 use borrow.Rule.Slice.PartMut.{putMid}
-use Rattle.stream.specs.Bytes.{Below, digits}
+use Rattle.blocks.specs.Bytes.{Below, digits}
 use Rattle.stream.specs.Setting.{knownWidth, need, kBits}
 use Rattle.stream.specs.Header.{chunksIn}
 use Rattle.stream.specs.Stream.{joined}

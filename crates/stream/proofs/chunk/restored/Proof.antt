@@ -1,9 +1,11 @@
--- `stream::chunk::restored` meets its contract. The invariant: the codes put so far, and those that the bytes left give, are all of them. Then all patterns are put at once.
+-- `stream::chunk::restored` meets its contract. The invariant: the patterns put so far, and those that the bytes left give, are all of them.
 use Prim.Native.Nat.{ℕ, _-_, _+_, _≤_, _<_, min}
 use Rattle.stream.proofs.Law.Plain.Appended.{Appended, nothing-yet, same-room, one-landed, all-there}
 use Rattle.stream.proofs.Law.Chunk.LongerBytes.{Going, starts-going, going-inside, going-wide, going-whole, goes, codes-next}
-use Rattle.stream.proofs.Law.Chunk.Groups.{codes-none, length-chunk-codes}
+use Rattle.stream.proofs.Law.Chunk.Groups.{codes-none}
+use Rattle.stream.proofs.Law.Chunk.Restoring.{length-patterns, length-restored, patterns-none, patterns-append}
 use Rattle.stream.proofs.Law.Group.RoundTrip.{length-codes}
+use Rattle.stream.proofs.Law.Lent.Chosen.{chosen-long}
 use Rattle.stream.proofs.Law.Setting.Allowed.{size-some}
 use Rattle.stream.proofs.Law.Chunk.Checking.{part-is}
 use Rattle.stream.specs.Chunk.{chunkCodes}
@@ -12,8 +14,7 @@ use Rattle.stream.specs.Lent.{chosen, landed}
 use Rattle.stream.specs.Setting.{groupSize, patternsOf, limitOf}
 use Rattle.stream.specs.declared.setting.Setting.{Setting}
 use borrow.Author.Needs.{needs}
-use lib.ListN.{length, take, drop}
-use lib.Seq.{take-at}
+use lib.ListN.{length, drop}
 use mathlib.Core.List.{List, _++_}
 use mathlib.Core.Path.{_≡_, refl, sym, ap, _∙_}
 use native.Mathlib.Nat.{zero-add}
@@ -22,13 +23,13 @@ use Rattle.stream.proofs.chunk.restored.Statement.{statement}
 use Rattle.stream.proofs.chunk.restored.Tie as tie
 
 abbrev Inv-loop : tie.InvT-loop
-Inv-loop t s n c32₀ c64₀ o32 o64 size left₀ at₀ done₀ c32 c64 left at done =
+Inv-loop t s n c32₀ c64₀ o32₀ o64₀ size left₀ at₀ done₀ c32 c64 o32 o64 left at done =
     (done + left ≡ n) × Going (groupSize t) (size-some t) (t .width) (limitOf t) s left at
-    × Appended (chunkCodes (groupSize t) n s) (chunkCodes (groupSize t) left (drop at s)) (chosen (t .width) c32₀ c64₀) (chosen (t .width) c32 c64) done
-    × (length c32 ≡ length c32₀) × (length c64 ≡ length c64₀)
+    × Appended (patternsOf t (chunkCodes (groupSize t) n s)) (patternsOf t (chunkCodes (groupSize t) left (drop at s))) (chosen (t .width) o32₀ o64₀) (chosen (t .width) o32 o64) done
+    × (length c32 ≡ length c32₀) × (length c64 ≡ length c64₀) × (length o32 ≡ length o32₀) × (length o64 ≡ length o64₀)
 
 abbrev μ-loop : tie.MeasureT-loop
-μ-loop t s n c32₀ c64₀ o32 o64 size left₀ at₀ done₀ c32 c64 left at done = left
+μ-loop t s n c32₀ c64₀ o32₀ o64₀ size left₀ at₀ done₀ c32 c64 o32 o64 left at done = left
 
 abbrev start : tie.At-loop Inv-loop μ-loop → tie.Start Inv-loop μ-loop
 start l = l .before .before .before .before .before .before .before
@@ -63,10 +64,10 @@ whole c = let l = c .before .before in going-whole (groupSize (t l)) (size-some 
 
 -- where the count was made, and the loop, behind a turn
 abbrev counted : tie.After-group-length Inv-loop μ-loop → tie.After-group-count Inv-loop μ-loop
-counted c = c .before .before .before .before .before .before .before .before .before .before
+counted c = c .before .before .before .before .before .before .before .before .before .before .before .before .before .before .before .before
 
 abbrev turn : tie.After-group-length Inv-loop μ-loop → tie.At-loop Inv-loop μ-loop
-turn c = c .before .before .before .before .before .before .before .before .before .before .before .before
+turn c = c .before .before .before .before .before .before .before .before .before .before .before .before .before .before .before .before .before .before
 
 -- its bytes, as their number is measured
 bytes-are : (c : tie.After-group-length Inv-loop μ-loop) → c .group-length .result ≡ groupLength (counted c .group-count .result) (drop (turn c .loop .at) (bytes (turn c)))
@@ -89,7 +90,9 @@ loop-holds c =
     let b = s .pre .0 .2 in (
       zero-add (v .n),
       starts-going (groupSize (v .t)) (size-some (v .t)) (v .t .width) (limitOf (v .t)) (v .s .now) (v .n) (b .bytes) (b .rest) (b .split) (b .good),
-      nothing-yet _ _ (rw (length-chunk-codes (groupSize (v .t)) (size-some (v .t)) (v .n) (v .s .now)) (s .pre .1 .0)),
+      nothing-yet _ _ (rw (length-restored (groupSize (v .t)) (size-some (v .t)) (v .t) (v .n) (v .s .now)) (s .pre .1 .1)),
+      refl,
+      refl,
       refl,
       refl,
     )
@@ -97,35 +100,39 @@ loop-holds c =
 group-count-requires : tie.Need-group-count-requires Inv-loop μ-loop
 group-count-requires c κs = search needs
 
-sub-put-codes : tie.Need-sub-put-codes Inv-loop μ-loop
-sub-put-codes c = inside (c .before .before)
+sub-put-values : tie.Need-sub-put-values Inv-loop μ-loop
+sub-put-values c = inside (c .before .before)
 
-part-put-codes-start : tie.Need-part-put-codes-start Inv-loop μ-loop
-part-put-codes-start c = inside (c .before .before)
+part-put-values-start : tie.Need-part-put-values-start Inv-loop μ-loop
+part-put-values-start c = inside (c .before .before)
 
-part-put-codes-end : tie.Need-part-put-codes-end Inv-loop μ-loop
-part-put-codes-end c = search needs
+part-put-values-end : tie.Need-part-put-values-end Inv-loop μ-loop
+part-put-values-end c = search needs
 
-put-codes-requires : tie.Need-put-codes-requires Inv-loop μ-loop
-put-codes-requires c κs =
-    let e = c .before .before .before in
+put-values-requires : tie.Need-put-values-requires Inv-loop μ-loop
+put-values-requires c κs =
+    let e = c .before .before .before .before .before in
     let l = e .before .before in
     let p = start l .pre in (
       (p .0 .0, count-most e, rw (part-is (bytes l) (l .loop .at)) (wide e), rw (part-is (bytes l) (l .loop .at)) (whole e)),
-      (omega (arith, l .loop .inv .0, p .0 .1), omega (arith, p .1 .0, l .loop .inv .0, e .group-count .ensures, same-room _ _ _ _ _ (l .loop .inv .2))),
+      (
+        omega (arith, l .loop .inv .0, p .0 .1),
+        omega (arith, count-most e, p .1 .0, chosen-long (t l .width) (start l .args .c32 .now) (start l .args .c64 .now) (l .loop .c32) (l .loop .c64) (l .loop .inv .3) (l .loop .inv .4)),
+        omega (arith, p .1 .1, l .loop .inv .0, e .group-count .ensures, same-room _ _ _ _ _ (l .loop .inv .2)),
+      ),
     )
 
 sub-group-length : tie.Need-sub-group-length Inv-loop μ-loop
-sub-group-length c = inside (c .before .before .before .before .before .before .before .before .before .before)
+sub-group-length c = inside (c .before .before .before .before .before .before .before .before .before .before .before .before .before .before .before .before)
 
 part-group-length-start : tie.Need-part-group-length-start Inv-loop μ-loop
-part-group-length-start c = inside (c .before .before .before .before .before .before .before .before .before .before)
+part-group-length-start c = inside (c .before .before .before .before .before .before .before .before .before .before .before .before .before .before .before .before)
 
 part-group-length-end : tie.Need-part-group-length-end Inv-loop μ-loop
 part-group-length-end c = search needs
 
 group-length-requires : tie.Need-group-length-requires Inv-loop μ-loop
-group-length-requires c κs = let e = c .before .before .before .before .before .before .before .before .before in let l = e .before .before in (count-most e, rw (part-is (bytes l) (l .loop .at)) (whole e))
+group-length-requires c κs = let e = c .before .before .before .before .before .before .before .before .before .before .before .before .before .before .before in let l = e .before .before in (count-most e, rw (part-is (bytes l) (l .loop .at)) (whole e))
 
 add-at : tie.Need-add-at Inv-loop μ-loop
 add-at c = let l = turn c in omega (arith, going-inside (groupSize (t l)) (size-some (t l)) (t l .width) (limitOf (t l)) (bytes l) _ _ (on c), start l .good)
@@ -146,45 +153,44 @@ loop-again c =
     let v = start l .args in
     let n = e .group-count .result in
     let k = c .group-length .result in
-    let call = c .before .before .before .before .before .before .put-codes in (
+    let call = c .before .before .before .before .before .before .before .before .before .before .put-values in (
       omega (arith, l .loop .inv .0, e .group-count .ensures),
       on c,
-      one-landed _ _ _ _ _ (l .loop .inv .2) (groupCodes n (drop (l .loop .at) (bytes l))) (chunkCodes (groupSize (t l)) (l .loop .left - n) (drop (l .loop .at + k) (bytes l))) _ n
-          (codes-next (groupSize (t l)) (size-some (t l)) (bytes l) (l .loop .left) (l .loop .at) n k (e .before .loop-test .taken) (count-is e) (bytes-are c))
-          (sym (length-codes n (drop (l .loop .at) (bytes l))))
-          (call .ensures ∙ ap (λ (u : List ℕ). landed (l .loop .done) (groupCodes n u) (chosen (v .t .width) (l .loop .c32) (l .loop .c64))) (part-is (bytes l) (l .loop .at))),
+      one-landed _ _ _ _ _ (l .loop .inv .2) (patternsOf (t l) (groupCodes n (drop (l .loop .at) (bytes l))))
+          (patternsOf (t l) (chunkCodes (groupSize (t l)) (l .loop .left - n) (drop (l .loop .at + k) (bytes l)))) _ n
+          (ap (patternsOf (t l)) (codes-next (groupSize (t l)) (size-some (t l)) (bytes l) (l .loop .left) (l .loop .at) n k (e .before .loop-test .taken) (count-is e) (bytes-are c))
+          ∙ patterns-append (t l) (groupCodes n (drop (l .loop .at) (bytes l))) _)
+          (sym (length-patterns (t l) (groupCodes n (drop (l .loop .at) (bytes l))) ∙ length-codes n (drop (l .loop .at) (bytes l))))
+          (call .ensures
+          ∙ ap (λ (u : List ℕ). landed (l .loop .done) (patternsOf (t l) (groupCodes n u)) (chosen (v .t .width) (l .loop .o32) (l .loop .o64))) (part-is (bytes l) (l .loop .at))),
       call .kept .1 .1 .1 .0 ∙ l .loop .inv .3,
       call .kept .1 .1 .1 .1 .0 ∙ l .loop .inv .4,
+      call .kept .1 .1 .1 .1 .1 .0 ∙ l .loop .inv .5,
+      call .kept .1 .1 .1 .1 .1 .1 .0 ∙ l .loop .inv .6,
     )
 
-put-patterns-requires : tie.Need-put-patterns-requires Inv-loop μ-loop
-put-patterns-requires c κs =
-    let l = c .before .before .before .before .before in
-    let p = start l .pre in
-    (p .0 .0, omega (arith, p .1 .0, same-room _ _ _ _ _ (l .loop .inv .2)), p .1 .1)
-
 same-length : tie.Need-same-length Inv-loop μ-loop
-same-length c = c .before .before .before .before .before .before .before .before .before .before .loop .inv .3
+same-length c = c .before .loop .inv .3
 
 same-length-2 : tie.Need-same-length-2 Inv-loop μ-loop
-same-length-2 c = c .before .before .before .before .before .before .before .before .before .before .loop .inv .4
+same-length-2 c = c .before .loop .inv .4
 
 same-length-3 : tie.Need-same-length-3 Inv-loop μ-loop
-same-length-3 c = search needs
+same-length-3 c = c .before .loop .inv .5
 
 same-length-4 : tie.Need-same-length-4 Inv-loop μ-loop
-same-length-4 c = search needs
+same-length-4 c = c .before .loop .inv .6
 
 returns : tie.Need-returns Inv-loop μ-loop
 returns c =
-    let l = c .before .before .before .before .before .before .before .before .before .before in
+    let l = c .before in
     let v = start l .args in
     let size = groupSize (v .t) in
-    let none : l .loop .left ≡ 0 = omega (arith, c .before .before .before .before .before .before .before .before .before .loop-test .left) in
-    let rest = ap (λ (n : ℕ). chunkCodes size n (drop (l .loop .at) (bytes l))) none ∙ codes-none size (size-some (v .t)) (drop (l .loop .at) (bytes l)) in
-    c .before .before .before .before .put-patterns .ensures
-    ∙ ap (λ (cs : List ℕ). patternsOf (v .t) cs ++ drop (v .n) (chosen (v .t .width) (v .o32 .now) (v .o64 .now)))
-    (ap (take (v .n)) (all-there _ _ _ (l .loop .done) (rw rest at (l .loop .inv .2))) ∙ take-at (chunkCodes size (v .n) (bytes l)) _ (v .n) (length-chunk-codes size (size-some (v .t)) (v .n) (bytes l)))
+    let none : l .loop .left ≡ 0 = omega (arith, c .loop-test .left) in
+    let rest = ap (λ (n : ℕ). patternsOf (v .t) (chunkCodes size n (drop (l .loop .at) (bytes l)))) none
+    ∙ ap (patternsOf (v .t)) (codes-none size (size-some (v .t)) (drop (l .loop .at) (bytes l))) ∙ patterns-none (v .t) in
+    all-there _ _ _ (l .loop .done) (rw rest at (l .loop .inv .2))
+    ∙ ap (λ (n : ℕ). patternsOf (v .t) (chunkCodes size (v .n) (bytes l)) ++ drop n (chosen (v .t .width) (v .o32 .now) (v .o64 .now))) (let q : l .loop .done ≡ v .n = omega (arith, l .loop .inv .0) in q)
 
 pub restored-spec : {M : Type 1} → statement M
 restored-spec =
@@ -195,10 +201,10 @@ restored-spec =
     group-size-requires
     loop-holds
     group-count-requires
-    sub-put-codes
-    part-put-codes-start
-    part-put-codes-end
-    put-codes-requires
+    sub-put-values
+    part-put-values-start
+    part-put-values-end
+    put-values-requires
     sub-group-length
     part-group-length-start
     part-group-length-end
@@ -208,7 +214,6 @@ restored-spec =
     add-done
     loop-less
     loop-again
-    put-patterns-requires
     same-length
     same-length-2
     same-length-3

@@ -109,8 +109,8 @@ returns-5 c =
     bad-answer
     (λ g. c .if5 .taken (sym (padding-is b) ∙ unpadded-zero (a .n) (byte-read b .wide .result) (a .s .now) (width-is (byte-read b)) (g .unpadded)))
 
-reached-requires : tie.Need-reached-requires
-reached-requires c κs =
+smallest-requires : tie.Need-smallest-requires
+smallest-requires c κs =
     let f = c .before .before .before .before .before .before .before .before .before .before in (
       f .pre .0,
       omega arith,
@@ -124,7 +124,7 @@ returns-6 c =
     let b = c .before .before .before in
     let a = entry (byte-read b) .args in
     bad-answer
-    (λ g. false≢true (sym (not-true _ (c .if6 .taken)) ∙ c .before .reached .ensures
+    (λ g. false≢true (sym (not-true _ (c .if6 .taken)) ∙ c .before .smallest .ensures
     ∙ eq-eqb (byte-read b .wide .result) (widthOf (groupCodes (a .n) (a .s .now))) (width-is (byte-read b) ∙ g .smallest)))
 
 limit-kept-requires : tie.Need-limit-kept-requires
@@ -158,7 +158,7 @@ returns-8 c =
     (record {
       wide = omega (arith, is, b .before .before .before .before .if2 .left);
       whole = whole (b .before .before .before);
-      smallest = sym is ∙ eqb-true w (widthOf cs) (sym (c .before .before .before .reached .ensures) ∙ not-false _ (c .before .before .if6 .left));
+      smallest = sym is ∙ eqb-true w (widthOf cs) (sym (c .before .before .before .smallest .ensures) ∙ not-false _ (c .before .before .if6 .left));
       unpadded = zero-unpadded (a .n) w (a .s .now) is (padding-is b ∙ c .before .before .before .before .if5 .left);
       limited = within-limited (a .limit) cs (sym (c .before .limit-kept .ensures) ∙ not-false _ (c .if7 .left));
     })
@@ -183,7 +183,7 @@ checked-spec =
     sub-if5
     shr-if5
     returns-5
-    reached-requires
+    smallest-requires
     returns-6
     limit-kept-requires
     returns-7

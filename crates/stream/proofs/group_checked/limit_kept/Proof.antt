@@ -1,12 +1,10 @@
--- `allowed` meets its contract: w bits hold no u above the limit, or the codes are looked at.
+-- `stream::group_checked::limit_kept` meets its contract: w bits hold no u above the limit, or the codes are looked at.
 -- Assumes nothing.
 use mathlib.Core.Path.{sym, ap, _∙_, subst⁻¹}
 use mathlib.Core.List.{List}
 use Prim.Native.Nat.{ℕ, _-_, _^_}
-use native.Mathlib.Nat.{mul-le-mul}
-use native.Mathlib.Omega.{arith}
 use lib.Pow.{pow-pos}
-use Rattle.stream.specs.Bytes.{Below}
+use Rattle.blocks.specs.Bytes.{Below}
 use Rattle.stream.specs.Group.{within, groupCodes}
 use Rattle.stream.proofs.Law.Group.RoundTrip.{codes-below}
 use Rattle.stream.proofs.Law.Group.Exact.{limited-within}
@@ -33,17 +31,19 @@ returns c =
     (narrow-limited (a .w) (a .limit) cs (f .pre .1) (subst⁻¹ (λ (w : ℕ). Below (2 ^ w) cs) (f .pre .3) (codes-below (a .n) (a .s .now)))
     (rw (high-one (a .w) (f .pre .1) (f .pre .2)) at (c .if1 .taken))))
 
-mul-if2 : tie.Need-mul-if2
-mul-if2 c = let f = c .before .before in omega (arith, mul-le-mul (f .pre .2) (f .pre .0))
+mul-if3 : tie.Need-mul-if3
+mul-if3 c = search needs
 
-add-if2 : tie.Need-add-if2
-add-if2 c = let f = c .before .before in omega (arith, mul-le-mul (f .pre .2) (f .pre .0))
+add-if3 : tie.Need-add-if3
+add-if3 c = search needs
 
-limited-in-place-requires : tie.Need-limited-in-place-requires
-limited-in-place-requires c κs = search needs
+block-limited-requires : tie.Need-block-limited-requires
+block-limited-requires c κs = search needs
 
 returns-2 : tie.Need-returns-2
-returns-2 c = search needs
+returns-2 c =
+    let a = c .before .before .before .before .before .args in
+    c .block-limited .ensures ∙ ap (λ (n : ℕ). within (a .limit) (groupCodes n (a .s .now))) (sym (c .before .before .if2 .taken))
 
 codes-of-requires : tie.Need-codes-of-requires
 codes-of-requires c κs = search needs
@@ -67,9 +67,9 @@ limit-kept-spec =
     shl-if1
     sub-if1-2
     returns
-    mul-if2
-    add-if2
-    limited-in-place-requires
+    mul-if3
+    add-if3
+    block-limited-requires
     returns-2
     codes-of-requires
     counted-requires

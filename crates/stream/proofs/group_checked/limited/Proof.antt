@@ -7,7 +7,7 @@ use native.Mathlib.Omega.{arith}
 use borrow.Author.Count.{below-none, below-more}
 use lib.ListN.{length, getD}
 use Rattle.stream.specs.Group.{within}
-use Rattle.stream.proofs.Law.Plain.Digits.{everywhere}
+use Rattle.blocks.proofs.Law.Digits.{everywhere}
 use Rattle.stream.proofs.Law.Group.Exact.{within-limited, limited-within}
 use Rattle.stream.proofs.Law.Group.Checking.{untrue}
 use Rattle.stream.proofs.group_checked.limited.Statement.{statement}

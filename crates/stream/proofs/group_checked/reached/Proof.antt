@@ -3,7 +3,7 @@
 use mathlib.Core.Path.{_≡_, sym, ap, _∙_, subst⁻¹}
 use mathlib.Core.List.{List}
 use Prim.Native.Nat.{ℕ, _+_, _-_, _*_, _/_, _%_, _^_, _≤_, _<_}
-use native.Mathlib.Nat.{add-zero, add-assoc, mul-zero, mul-suc, mul-le-mul, mul-le-mul-left, mod-lt, zero-lt-suc}
+use native.Mathlib.Nat.{add-zero, add-assoc, mul-zero, mul-suc, mul-le-mul, mul-le-mul-left, mod-lt, div-eq-of-lt, le-of-eq, zero-lt-suc}
 use native.Mathlib.Numerals.{add-one}
 use native.Mathlib.Omega.{arith}
 use borrow.Author.Count.{below-none, below-more}
@@ -11,11 +11,11 @@ use borrow.Author.Tests.{eq-eqb, ne-eqb, eqb-true, eqb-false}
 use borrow.Author.Needs.{needs}
 use lib.ListN.{getD}
 use lib.Pow.{pow-pos}
-use Rattle.stream.specs.Bytes.{Below}
+use Rattle.blocks.specs.Bytes.{Below}
 use Rattle.stream.specs.Group.{bytesFor, widthOf, groupLength, groupCodes}
-use Rattle.stream.proofs.Law.Plain.Digits.{everywhere}
+use Rattle.blocks.proofs.Law.Digits.{everywhere}
 use Rattle.stream.proofs.Law.Group.RoundTrip.{length-codes, codes-below}
-use Rattle.stream.proofs.Law.Group.Checking.{tall, flat, top-bit, high-set, high-unset}
+use Rattle.stream.proofs.Law.Group.Checking.{tall, flat, top-bit, high-unset}
 use Rattle.stream.proofs.group_checked.reached.Statement.{statement}
 use Rattle.stream.proofs.group_checked.reached.Tie as tie
 
@@ -77,9 +77,13 @@ returns c =
     let f = entry (c .before .before) in
     let cs : List ℕ = codes (c .before .before) in
     sym (eq-eqb (f .args .w) (widthOf cs)
-    (tall (f .args .w) cs (c .before .before .before .before .before .loop .i) (f .pre .1)
+    (tall (f .args .w) cs (f .pre .1)
     (subst⁻¹ (λ (w : ℕ). Below (2 ^ w) cs) (f .pre .3) (codes-below (f .args .n) (f .args .s .now)))
-    (high-set _ (f .args .w - 1) (top (c .before .before) ∙ eqb-true _ 1 (sym (c .before .full-width .ensures) ∙ c .if1 .taken)))))
+    (λ low. omega (
+      arith,
+      top (c .before .before) ∙ eqb-true _ 1 (sym (c .before .full-width .ensures) ∙ c .if1 .taken),
+      div-eq-of-lt (low (c .before .before .before .before .before .loop .i)),
+    ))))
 
 add-bit-2 : tie.Need-add-bit-2 Inv-loop μ-loop
 add-bit-2 c =
@@ -100,7 +104,7 @@ loop-again c =
       ap (λ (n : ℕ). n + w) (l .inv .1) ∙ add-assoc (7 + w) (w * l .i) w
           ∙ ap (λ (n : ℕ). 7 + w + n) (sym (ap (λ (n : ℕ). w * n) (add-one (l .i)) ∙ mul-suc w (l .i))),
       below-more (λ (k : ℕ). getD (codes (c .before .before)) k 0 < 2 ^ (w - 1)) (l .i) (l .inv .2)
-          (high-unset _ (w - 1) (c .before .before .wide .result / 2 ^ (l .bit % 8)) (top (c .before .before))
+          (high-unset _ (w - 1) (c .before .before .wide .result / 2 ^ (l .bit % 8)) (le-of-eq (top (c .before .before)))
           (eqb-false _ 1 (sym (c .before .full-width .ensures) ∙ c .if1 .left))),
     )
 

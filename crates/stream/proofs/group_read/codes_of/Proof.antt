@@ -4,7 +4,7 @@ use mathlib.Core.Path.{_≡_, refl, sym, ap, ap₂, _∙_}
 use Prim.Native.Nat.{ℕ, _*_, _/_, _^_, _≤_}
 use native.Mathlib.Nat.{mul-le-mul}
 use native.Mathlib.Omega.{arith}
-use Rattle.stream.specs.Bytes.{number, digits}
+use Rattle.blocks.specs.Bytes.{number, digits}
 use Rattle.stream.specs.Group.{givenWidth, groupLength, groupCodes}
 use Rattle.stream.proofs.Law.Group.Reading.{codes-from, no-bits, take-replicate}
 use borrow.Author.Needs.{needs}

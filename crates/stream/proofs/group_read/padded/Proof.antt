@@ -6,8 +6,8 @@ use Prim.Native.Nat.{ℕ, _-_, _≤_}
 use native.Mathlib.Omega.{arith}
 use lib.ListN.{length, take, set, getD, replicate}
 use lib.Seq.{take-length}
-use Rattle.stream.specs.Bytes.{number}
-use Rattle.stream.proofs.Law.Plain.Digits.{byte, number-padded}
+use Rattle.blocks.specs.Bytes.{number}
+use Rattle.blocks.proofs.Law.Digits.{byte, number-padded}
 use Rattle.stream.proofs.Law.Group.Reading.{one-copied}
 use Rattle.stream.proofs.group_read.padded.Statement.{statement}
 use Rattle.stream.proofs.group_read.padded.Tie as tie

@@ -5,7 +5,7 @@ use mathlib.Core.List.{List, _++_}
 use Prim.Native.Nat.{ℕ, _+_, _/_}
 use native.Mathlib.Omega.{arith}
 use lib.ListN.{length, take, drop}
-use Rattle.stream.specs.Bytes.{digits}
+use Rattle.blocks.specs.Bytes.{digits}
 use Rattle.stream.specs.Group.{bytesFor, packed}
 use Rattle.stream.proofs.Law.Group.RoundTrip.{bytes-none, packed-none}
 use Rattle.stream.proofs.Law.Group.Writing.{end-is, finished}

@@ -6,7 +6,7 @@ use Prim.Native.Nat.{ℕ, _+_, _-_, _/_, _%_, _^_, _≤_}
 use native.Mathlib.Nat.{div-one}
 use native.Mathlib.Omega.{arith}
 use lib.ListN.{length, take, drop, set, length-set}
-use Rattle.stream.specs.Bytes.{digits}
+use Rattle.blocks.specs.Bytes.{digits}
 use Rattle.stream.proofs.Law.Group.Writing.{none-stored, one-store, div-next}
 use Rattle.stream.proofs.group_written.tail.Statement.{statement}
 use Rattle.stream.proofs.group_written.tail.Tie as tie

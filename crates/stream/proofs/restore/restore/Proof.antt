@@ -10,7 +10,7 @@ use Rattle.stream.specs.Operations.{chunkRows}
 use Rattle.stream.specs.Relied.{Readable}
 use Rattle.stream.specs.declared.answers.Step.the-variants.{Pass}
 use Rattle.stream.proofs.Law.Lent.Chosen.{chosen-long}
-use Rattle.stream.proofs.Law.Lent.Landing.{Restored, begun, asked-whole, turned-landed, ended, count-small}
+use Rattle.stream.proofs.Law.Lent.Landing.{Restored, begun, asked-whole, turned-landed, ended}
 use Rattle.stream.proofs.restore.restore.Statement.{statement}
 use Rattle.stream.proofs.restore.restore.Tie as tie
 
@@ -49,7 +49,7 @@ restore-chunk-requires c κs =
       w .1,
       w .2,
       w .3,
-      omega (arith, count-small (a .h) (l .loop .j), s .pre .3, chosen-long (a .h .width) (a .c32 .now) (a .c64 .now) (l .loop .c32) (l .loop .c64) (l .loop .inv .3) (l .loop .inv .4)),
+      omega (arith, s .pre .3, chosen-long (a .h .width) (a .c32 .now) (a .c64 .now) (l .loop .c32) (l .loop .c64) (l .loop .inv .3) (l .loop .inv .4)),
     )
 
 add-j : tie.Need-add-j Inv-loop μ-loop

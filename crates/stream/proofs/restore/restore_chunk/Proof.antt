@@ -90,7 +90,7 @@ restored-requires c κs =
     let w = width-is q in (
       (q .before .before .before .before .setting-in .ensures .1, n .ensures .1, chunk-begun (a .h) (a .bytes .now) _ (a .j) (q .before .before .chunk-on .ensures) (t q) (n .result) (good q)),
       (
-        omega (arith, s .pre .4, n .ensures .0, ap (λ (x : ℕ). length (chosen x (a .c32 .now) (a .c64 .now))) w),
+        omega (arith, s .pre .4, ap (λ (x : ℕ). length (chosen x (a .c32 .now) (a .c64 .now))) w),
         rw (n .ensures .0) (lent-fits (t q .width) (1024 * a .j) (countOf (a .h) (a .j)) _ _ (a .o32 .now) (a .o64 .now) (q .before .least .ensures) (q .least2 .ensures)
             (omega (arith, s .pre .3, ap (λ (x : ℕ). length (chosen x (a .o32 .now) (a .o64 .now))) w))),
       ),

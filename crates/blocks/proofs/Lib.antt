@@ -1,0 +1,2 @@
+-- The laws of the definitions in specs/, apart from the functions' own proofs.
+pub mod Law
