@@ -182,44 +182,45 @@ fn runs(c: &[u64], w: usize, out: &mut [u8])
     run(&c[24..32], w, &mut out[3 * w..]);
 }
 
-fn packed64_wide(c: &[u64], w: usize, out: &mut [u8])
-    requires { ⌜ (33 ≤ w) × (w ≤ 64) × (length (now c) ≡ 32) × Below (2 ^ w) (now c) × (4 * w ≤ length (now out)) ⌝ }
-    ensures { λ _. ⌜ now (out .exit) ≡ digits 256 (4 * w) (number (2 ^ w) (now (c .entry))) ++ drop (4 * w) (now (out .entry)) ⌝ }
+// The codes are handed on by value: a compiler then sees that nobody else holds them, and copies nothing.
+fn packed64_wide(c: [u64; 32], w: usize, out: &mut [u8])
+    requires { ⌜ (33 ≤ w) × (w ≤ 64) × Below (2 ^ w) c × (4 * w ≤ length (now out)) ⌝ }
+    ensures { λ _. ⌜ now (out .exit) ≡ digits 256 (4 * w) (number (2 ^ w) c) ++ drop (4 * w) (now (out .entry)) ⌝ }
 {
     match w {
-        33 => runs(c, 33, out),
-        34 => runs(c, 34, out),
-        35 => runs(c, 35, out),
-        36 => runs(c, 36, out),
-        37 => runs(c, 37, out),
-        38 => runs(c, 38, out),
-        39 => runs(c, 39, out),
-        40 => runs(c, 40, out),
-        41 => runs(c, 41, out),
-        42 => runs(c, 42, out),
-        43 => runs(c, 43, out),
-        44 => runs(c, 44, out),
-        45 => runs(c, 45, out),
-        46 => runs(c, 46, out),
-        47 => runs(c, 47, out),
-        48 => runs(c, 48, out),
-        49 => runs(c, 49, out),
-        50 => runs(c, 50, out),
-        51 => runs(c, 51, out),
-        52 => runs(c, 52, out),
-        53 => runs(c, 53, out),
-        54 => runs(c, 54, out),
-        55 => runs(c, 55, out),
-        56 => runs(c, 56, out),
-        57 => runs(c, 57, out),
-        58 => runs(c, 58, out),
-        59 => runs(c, 59, out),
-        60 => runs(c, 60, out),
-        61 => runs(c, 61, out),
-        62 => runs(c, 62, out),
-        63 => runs(c, 63, out),
-        64 => runs(c, 64, out),
-        _ => runs(c, w, out),
+        33 => runs(&c, 33, out),
+        34 => runs(&c, 34, out),
+        35 => runs(&c, 35, out),
+        36 => runs(&c, 36, out),
+        37 => runs(&c, 37, out),
+        38 => runs(&c, 38, out),
+        39 => runs(&c, 39, out),
+        40 => runs(&c, 40, out),
+        41 => runs(&c, 41, out),
+        42 => runs(&c, 42, out),
+        43 => runs(&c, 43, out),
+        44 => runs(&c, 44, out),
+        45 => runs(&c, 45, out),
+        46 => runs(&c, 46, out),
+        47 => runs(&c, 47, out),
+        48 => runs(&c, 48, out),
+        49 => runs(&c, 49, out),
+        50 => runs(&c, 50, out),
+        51 => runs(&c, 51, out),
+        52 => runs(&c, 52, out),
+        53 => runs(&c, 53, out),
+        54 => runs(&c, 54, out),
+        55 => runs(&c, 55, out),
+        56 => runs(&c, 56, out),
+        57 => runs(&c, 57, out),
+        58 => runs(&c, 58, out),
+        59 => runs(&c, 59, out),
+        60 => runs(&c, 60, out),
+        61 => runs(&c, 61, out),
+        62 => runs(&c, 62, out),
+        63 => runs(&c, 63, out),
+        64 => runs(&c, 64, out),
+        _ => runs(&c, w, out),
     }
 }
 
@@ -237,17 +238,17 @@ fn narrowed(c: &[u64]) -> [u32; 32]
     narrow
 }
 
-fn packed64_narrow(c: &[u64], w: usize, out: &mut [u8])
-    requires { ⌜ (1 ≤ w) × (w ≤ 32) × (length (now c) ≡ 32) × Below (2 ^ w) (now c) × (4 * w ≤ length (now out)) ⌝ }
-    ensures { λ _. ⌜ now (out .exit) ≡ digits 256 (4 * w) (number (2 ^ w) (now (c .entry))) ++ drop (4 * w) (now (out .entry)) ⌝ }
+fn packed64_narrow(c: [u64; 32], w: usize, out: &mut [u8])
+    requires { ⌜ (1 ≤ w) × (w ≤ 32) × Below (2 ^ w) c × (4 * w ≤ length (now out)) ⌝ }
+    ensures { λ _. ⌜ now (out .exit) ≡ digits 256 (4 * w) (number (2 ^ w) c) ++ drop (4 * w) (now (out .entry)) ⌝ }
 {
-    let narrow = narrowed(c);
+    let narrow = narrowed(&c);
     block32::packed32(&narrow, w, out);
 }
 
-pub fn packed64(c: &[u64], w: usize, out: &mut [u8])
-    requires { ⌜ (1 ≤ w) × (w ≤ 64) × (length (now c) ≡ 32) × Below (2 ^ w) (now c) × (4 * w ≤ length (now out)) ⌝ }
-    ensures { λ _. ⌜ now (out .exit) ≡ digits 256 (4 * w) (number (2 ^ w) (now (c .entry))) ++ drop (4 * w) (now (out .entry)) ⌝ }
+pub fn packed64(c: [u64; 32], w: usize, out: &mut [u8])
+    requires { ⌜ (1 ≤ w) × (w ≤ 64) × Below (2 ^ w) c × (4 * w ≤ length (now out)) ⌝ }
+    ensures { λ _. ⌜ now (out .exit) ≡ digits 256 (4 * w) (number (2 ^ w) c) ++ drop (4 * w) (now (out .entry)) ⌝ }
 {
     if w <= 32 {
         packed64_narrow(c, w, out);

@@ -100,9 +100,9 @@ pub(crate) fn written(g: Group, out: &mut [u8]) -> usize
 }
 
 // The bytes of 32 codes, which are a block of 4w whole bytes. Codes of no bits are passed over.
-fn put_block(codes: &[u64], w: usize, out: &mut [u8])
-    requires { ⌜ (length (now codes) ≡ 32) × (w ≤ 64) × Below (2 ^ w) (now codes) × (4 * w ≤ length (now out)) ⌝ }
-    ensures { λ _. ⌜ now (out .exit) ≡ packed w (now (codes .entry)) ++ drop (4 * w) (now (out .entry)) ⌝ }
+fn put_block(codes: [u64; 32], w: usize, out: &mut [u8])
+    requires { ⌜ (w ≤ 64) × Below (2 ^ w) codes × (4 * w ≤ length (now out)) ⌝ }
+    ensures { λ _. ⌜ now (out .exit) ≡ packed w codes ++ drop (4 * w) (now (out .entry)) ⌝ }
 {
     if 0 < w {
         block64::packed64(codes, w, out);
@@ -127,7 +127,7 @@ pub(crate) fn full(g: Group, out: &mut [u8]) -> usize
     let codes = g.codes;
     let w = group::width(&codes);
     out[0] = w as u8;
-    put_block(&codes, w, &mut out[1..]);
+    put_block(codes, w, &mut out[1..]);
     1 + 4 * w
 }
 

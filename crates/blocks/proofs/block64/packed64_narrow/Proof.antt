@@ -1,5 +1,5 @@
 -- `blocks::block64::packed64_narrow` meets its contract: what `packed32` puts of the same codes.
-use mathlib.Core.Path.{sym, ap, subst, _∙_}
+use mathlib.Core.Path.{_≡_, sym, ap, subst, _∙_}
 use mathlib.Core.List.{List, _++_}
 use Prim.Native.Nat.{ℕ, _*_, _^_, _<_}
 use native.Mathlib.Nat.{lt-of-lt-of-le}
@@ -10,8 +10,14 @@ use borrow.Author.Needs.{needs}
 use Rattle.blocks.proofs.block64.packed64_narrow.Statement.{statement}
 use Rattle.blocks.proofs.block64.packed64_narrow.Tie as tie
 
+long : (c : tie.Start) → length (c .args .t1) ≡ 32
+long c = search needs
+
+slice-aggregate-narrowed : tie.Need-slice-aggregate-narrowed
+slice-aggregate-narrowed c = search needs
+
 narrowed-requires : tie.Need-narrowed-requires
-narrowed-requires c κs = let p = c .before .before .pre in (p .2, λ i. lt-of-lt-of-le (p .3 i) (pow-mono (p .1)))
+narrowed-requires c κs = let s = c .before .before in (long s, λ i. lt-of-lt-of-le (s .pre .2 i) (pow-mono (s .pre .1)))
 
 slice-aggregate-packed32 : tie.Need-slice-aggregate-packed32
 slice-aggregate-packed32 c = search needs
@@ -21,7 +27,7 @@ packed32-requires c κs =
     let f = c .before .before .before .before .before in
     let p = f .pre in
     let same = c .before .before .narrowed .ensures in
-    (p .0, p .1, ap length same ∙ p .2, λ i. subst (λ (xs : List ℕ). getD xs i 0 < 2 ^ f .args .w) (sym same) (p .3 i), p .4)
+    (p .0, p .1, ap length same ∙ long f, λ i. subst (λ (xs : List ℕ). getD xs i 0 < 2 ^ f .args .w) (sym same) (p .2 i), p .3)
 
 same-length : tie.Need-same-length
 same-length c = search needs
@@ -35,4 +41,4 @@ returns c =
 pub packed64-narrow-spec : {M : Type 1} → statement M
 packed64-narrow-spec =
     tie.close
-    (tie.spec narrowed-requires slice-aggregate-packed32 packed32-requires same-length returns)
+    (tie.spec slice-aggregate-narrowed narrowed-requires slice-aggregate-packed32 packed32-requires same-length returns)

@@ -39,22 +39,18 @@ cast-out c = search needs
 slice-write-out : tie.Need-slice-write-out
 slice-write-out c = omega (arith, room c)
 
-slice-aggregate-put-block : tie.Need-slice-aggregate-put-block
-slice-aggregate-put-block c = search needs
-
 sub-put-block : tie.Need-sub-put-block
-sub-put-block c = rw length-set (omega (arith, room (c .before)))
+sub-put-block c = rw length-set (omega (arith, room c))
 
 part-put-block-start : tie.Need-part-put-block-start
-part-put-block-start c = simp length-set (omega (arith, room (c .before)))
+part-put-block-start c = simp length-set (omega (arith, room c))
 
 part-put-block-end : tie.Need-part-put-block-end
 part-put-block-end c = search needs
 
 put-block-requires : tie.Need-put-block-requires
 put-block-requires c κs =
-    let q = c .before .before in (
-      long q,
+    let q = c .before in (
       q .width .ensures .1,
       rw (q .width .ensures .0) (width-holds (codes q)),
       rw (behind-first (entry q .args .out .now) (q .width .result), length-drop) (omega (arith, room q)),
@@ -68,14 +64,14 @@ add-result c = search needs
 
 same-length : tie.Need-same-length
 same-length c =
-    let q = c .before .before .before .before .before in
+    let q = c .before .before .before .before in
     let out = entry q .args .out .now in
     let w = q .width .result in
     same-len-mid 1 (length (set out 0 w) - 1) (set out 0 w) (c .before .before .put-block .last .1 .1 .0) (c .before .before .put-block .kept .1 .1 .0) ∙ length-set out 0 w
 
 returns : tie.Need-returns
 returns c =
-    let q = c .before .before .before .before .before in
+    let q = c .before .before .before .before in
     let n = entry q .args .g .count in
     let w = q .width .result in
     let b = c .before .before .put-block in (
@@ -91,7 +87,6 @@ full-spec =
     width-requires
     cast-out
     slice-write-out
-    slice-aggregate-put-block
     sub-put-block
     part-put-block-start
     part-put-block-end

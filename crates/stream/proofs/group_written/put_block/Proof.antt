@@ -19,16 +19,16 @@ same-length c = search needs
 
 returns : tie.Need-returns
 returns c =
-    let s = c .before .before .before .before .before .before .before in
+    let s = c .before .before .before .before .before .before in
     let a = s .args in
-    c .before .before .packed64 .ensures ∙ ap (λ (r : List ℕ). r ++ drop (4 * a .w) (a .out .now)) (packed-whole 4 (a .codes .now) (s .pre .0) (a .w))
+    c .before .before .packed64 .ensures ∙ ap (λ (r : List ℕ). r ++ drop (4 * a .w) (a .out .now)) (packed-whole 4 (a .codes) (search needs) (a .w))
 
 returns-2 : tie.Need-returns-2
 returns-2 c =
-    let a = c .before .before .before .args in
+    let a = c .before .before .args in
     let none : a .w ≡ 0 = omega (arith, c .if1 .left) in
     sym
-    (ap (λ (w : ℕ). packed w (a .codes .now) ++ drop (4 * w) (a .out .now)) none ∙ ap (λ (r : List ℕ). r ++ a .out .now) (packed-none (a .codes .now)))
+    (ap (λ (w : ℕ). packed w (a .codes) ++ drop (4 * w) (a .out .now)) none ∙ ap (λ (r : List ℕ). r ++ a .out .now) (packed-none (a .codes)))
 
 pub put-block-spec : {M : Type 1} → statement M
 put-block-spec = tie.close (tie.spec packed64-requires same-length returns returns-2)
