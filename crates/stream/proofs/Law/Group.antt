@@ -4,7 +4,7 @@
 --   LowestFirst: the same bytes bit by bit, as document 01 puts it
 --   Whole: groups of whole bytes
 --   Width: the bit length of the largest code
---   Reading: a code at a bit place
+--   Reading: where the codes stand in the bytes
 --   Checking: the rules of refusal 10, without taking the codes out
 pub mod RoundTrip
 pub mod Exact

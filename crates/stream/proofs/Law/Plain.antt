@@ -1,5 +1,5 @@
 -- Numbers, truth values and lists: laws that know nothing of the format.
---   Truth: the connectives of the tests, and the case split of two numbers
+--   Truth: the connectives of the tests
 --   Joined: lists joined one after the other
 --   Mapped: a list filled from the front, element by element
 --   Appended: a list written piece by piece into a longer one

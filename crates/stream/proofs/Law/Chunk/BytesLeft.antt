@@ -14,7 +14,7 @@ use Rattle.stream.specs.Group.{groupBytes}
 use Rattle.stream.specs.Setting.{fractionBits, codeAt, codesOf}
 use Rattle.stream.specs.Chunk.{groupsIn, chunkBytes}
 use Rattle.stream.specs.declared.setting.Setting.{Setting}
-use Rattle.stream.proofs.Law.Plain.Truth.{le-or-lt}
+use Rattle.blocks.proofs.Law.Truth.{le-or-lt}
 use Rattle.stream.proofs.Law.Chunk.Groups.{chunk-step, chunk-none, chunk-most}
 use Rattle.stream.proofs.Law.Setting.Codes.{codes-under}
 

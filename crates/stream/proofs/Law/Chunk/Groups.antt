@@ -17,7 +17,7 @@ use Rattle.stream.specs.Group.{bytesFor, groupBytes, groupLength, groupC
 use Rattle.stream.specs.declared.chunk.ChunkAnswer.the-variants.{Good, Bad}
 use Rattle.stream.specs.Chunk.{groupsIn, groupsBytes, chunkBytes, firstFault, chunkAnswer, groupsCodes, chunkCodes}
 use Rattle.stream.specs.Theorem.{Limited, Starts}
-use Rattle.stream.proofs.Law.Plain.Truth.{le-or-lt}
+use Rattle.blocks.proofs.Law.Truth.{le-or-lt}
 use Rattle.blocks.proofs.Law.Digits.{below-append, below-take, below-drop}
 use Rattle.stream.proofs.Law.Group.RoundTrip.{read-length, read-codes, length-codes, length-group-most}
 use Rattle.stream.proofs.Law.Group.Exact.{true-good, read-written, starts-accepted, accepted-starts}

@@ -6,7 +6,7 @@ use mathlib.Core.List.{List, _++_}
 use Prim.Native.Nat.{ℕ, zero, suc, _+_, _-_, _^_, _≤_, _<_, min}
 use native.Mathlib.Omega.{arith}
 use lib.ListN.{length, take, drop, length-drop, length-append, List·getD-append, take-append-drop}
-use lib.Seq.{take-append-le, drop-append-le, drop-drop}
+use lib.Seq.{take-append-le, drop-append-le}
 use Rattle.blocks.specs.Bytes.{number, digits}
 use Rattle.stream.specs.Group.{bytesFor, givenWidth, groupLength, groupNumber, groupCodes, goodGroup}
 use Rattle.stream.specs.Chunk.{groupsIn, firstFault, chunkAnswer, chunkCodes}
@@ -17,7 +17,7 @@ use Rattle.stream.specs.Stream.{chunkOf}
 use Rattle.stream.specs.declared.header.Header.{Header}
 use Rattle.stream.specs.declared.chunk.ChunkAnswer.the-variants.{Good, Bad}
 use Rattle.stream.specs.declared.setting.Setting.{Setting}
-use Rattle.stream.proofs.Law.Plain.Truth.{le-or-lt}
+use Rattle.blocks.proofs.Law.Truth.{le-or-lt}
 use Rattle.stream.proofs.Law.Setting.Allowed.{size-some}
 use Rattle.stream.proofs.Law.Group.Exact.{true-good}
 use Rattle.stream.proofs.Law.Chunk.Groups.{codes-none, codes-step, fault-step, never-good}
@@ -77,15 +77,6 @@ module _ (size : ℕ) (some : 0 < size) (W U : ℕ) where
   pub chunk-alike : (n : ℕ) (p r : List ℕ) → chunkAnswer W U size n p ≡ Good → chunkCodes size n (p ++ r) ≡ chunkCodes size n p
   unfolding chunkAnswer
   chunk-alike n p r e = codes-alike n n 0 p r (omega arith) e
-
--- the codes of the next group stand first among those that are left
-pub codes-next : (size : ℕ) (some : 0 < size) (s : List ℕ) (left at count k : ℕ) → 0 < left → count ≡ min size left → k ≡ groupLength count (drop at s)
-    → chunkCodes size left (drop at s) ≡ groupCodes count (drop at s) ++ chunkCodes size (left - count) (drop (at + k) s)
-codes-next size some s left at count k h is l =
-    codes-step size some left (drop at s) h
-    ∙ ap₂ (λ (a b : List ℕ). a ++ b) (ap (λ (n : ℕ). groupCodes n (drop at s)) (sym is))
-    (ap₂ (chunkCodes size) (let q : left - size ≡ left - count = omega arith in q)
-    (ap (λ (n : ℕ). drop (groupLength n (drop at s)) (drop at s)) (sym is) ∙ ap (λ (n : ℕ). drop n (drop at s)) (sym l) ∙ drop-drop k at s))
 
 -- where a walk that ends well stands, in bytes that begin with a good chunk's
 pub record Going (size : ℕ) (some : 0 < size) (W U : ℕ) (s : List ℕ) (left at : ℕ) : Type 0 where

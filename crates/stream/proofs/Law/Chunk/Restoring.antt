@@ -2,7 +2,7 @@
 -- setting and the group size.
 use mathlib.Core.Path.{_≡_, refl, sym, ap, ap₂, _∙_}
 use mathlib.Core.Bool.{Bool, true, false}
-use mathlib.Core.List.{List, [], _∷_, _++_, map-append}
+use mathlib.Core.List.{List, [], _∷_, _++_, map, map-append}
 use Prim.Native.Nat.{ℕ, zero, suc, _+_, _-_, _^_, _≤_, _<_, min}
 use native.Mathlib.Nat.{lt-of-lt-of-le, le-trans, le-of-suc-le-suc, not-suc-le-zero}
 use native.Mathlib.Omega.{arith}
@@ -28,10 +28,6 @@ pub patterns-none : (t : Setting) → patternsOf t [] ≡ []
 unfolding patternsOf
 patterns-none t = refl
 
-pub patterns-append : (t : Setting) (a b : List ℕ) → patternsOf t (a ++ b) ≡ patternsOf t a ++ patternsOf t b
-unfolding patternsOf
-patterns-append t a b = map-append (patternAt t) a b
-
 -- an array whose first n elements are n codes is long enough
 pub long-enough : (n : ℕ) (xs ys : List ℕ) → take n xs ≡ ys → length ys ≡ n → n ≤ length xs
 long-enough n xs ys e l = let q : min n (length xs) ≡ n = sym (length-take n xs) ∙ ap length e ∙ l in omega arith
@@ -42,6 +38,20 @@ unfolding patternsOf
 pattern-at t [] i h = absurd (not-suc-le-zero h)
 pattern-at t (c ∷ cs) zero h = refl
 pattern-at t (c ∷ cs) (suc i) h = pattern-at t cs i (le-of-suc-le-suc h)
+
+-- the codes of the next group stand first among those that are left
+module _ (size : ℕ) (some : 0 < size) (s : List ℕ) (left at count k : ℕ) (h : 0 < left) (is : count ≡ min size left) (l : k ≡ groupLength count (drop at s)) where
+  codes-next : chunkCodes size left (drop at s) ≡ groupCodes count (drop at s) ++ chunkCodes size (left - count) (drop (at + k) s)
+  codes-next =
+      codes-step size some left (drop at s) h
+      ∙ ap₂ (λ (a b : List ℕ). a ++ b) (ap (λ (n : ℕ). groupCodes n (drop at s)) (sym is))
+      (ap₂ (chunkCodes size) (let q : left - size ≡ left - count = omega arith in q)
+      (ap (λ (n : ℕ). drop (groupLength n (drop at s)) (drop at s)) (sym is) ∙ ap (λ (n : ℕ). drop n (drop at s)) (sym l) ∙ drop-drop k at s))
+
+  pub patterns-next : (t : Setting)
+      → patternsOf t (chunkCodes size left (drop at s)) ≡ patternsOf t (groupCodes count (drop at s)) ++ patternsOf t (chunkCodes size (left - count) (drop (at + k) s))
+  unfolding patternsOf
+  patterns-next t = ap (map (patternAt t)) codes-next ∙ map-append (patternAt t) (groupCodes count (drop at s)) (chunkCodes size (left - count) (drop (at + k) s))
 
 module _ (size : ℕ) (some : 0 < size) (W U : ℕ) (s : List ℕ) where
   -- where a walk that ends well stands: `left` values in the bytes from `at` on
@@ -83,20 +93,6 @@ module _ (size : ℕ) (some : 0 < size) (W U : ℕ) (s : List ℕ) where
       good = sym (found-good size some W U s left at (o .index) count k h is next-is-good l) ∙ o .good;
     }
 
-    -- its codes stand first among those that are left
-    pub next-codes : (k : ℕ) → k ≡ groupLength count (drop at s)
-        → chunkCodes size left (drop at s) ≡ groupCodes count (drop at s) ++ chunkCodes size (left - count) (drop (at + k) s)
-    next-codes k l =
-        codes-step size some left (drop at s) h
-        ∙ ap₂ (λ (a b : List ℕ). a ++ b) (ap (λ (n : ℕ). groupCodes n (drop at s)) (sym is))
-        (ap₂ (chunkCodes size) (let q : left - size ≡ left - count = omega arith in q)
-        (ap (λ (n : ℕ). drop (groupLength n (drop at s)) (drop at s)) (sym is) ∙ ap (λ (n : ℕ). drop n (drop at s)) (sym l) ∙ drop-drop k at s))
-
-    pub next-patterns : (t : Setting) (k : ℕ) → k ≡ groupLength count (drop at s)
-        → patternsOf t (chunkCodes size left (drop at s))
-        ≡ patternsOf t (groupCodes count (drop at s)) ++ patternsOf t (chunkCodes size (left - count) (drop (at + k) s))
-    next-patterns t k l = ap (patternsOf t) (next-codes k l) ∙ patterns-append t (groupCodes count (drop at s)) (chunkCodes size (left - count) (drop (at + k) s))
-
   -- an index behind the next group, and one within it
   module _ (left at count : ℕ) (o : Onward left at) (h : 0 < left) (is : count ≡ min size left) (t : Setting) (k : ℕ) (l : k ≡ groupLength count (drop at s)) where
     length-next : length (patternsOf t (groupCodes count (drop at s))) ≡ count
@@ -107,14 +103,14 @@ module _ (size : ℕ) (some : 0 < size) (W U : ℕ) (s : List ℕ) where
     behind-next i b =
         let first = patternsOf t (groupCodes count (drop at s)) in
         let more = patternsOf t (chunkCodes size (left - count) (drop (at + k) s)) in
-        ap₂ (λ (ps : List ℕ) (n : ℕ). getD ps n 0) (next-patterns left at count o h is t k l) (let q : i ≡ length first + (i - count) = omega (arith, length-next) in q)
+        ap₂ (λ (ps : List ℕ) (n : ℕ). getD ps n 0) (patterns-next size some s left at count k h is l t) (let q : i ≡ length first + (i - count) = omega (arith, length-next) in q)
         ∙ getD-append-add first more (i - count) 0
 
     pub within-next : (i : ℕ) → i < count
         → getD (patternsOf t (chunkCodes size left (drop at s))) i 0 ≡ patternAt t (getD (groupCodes count (drop at s)) i 0)
     within-next i b =
         let first = patternsOf t (groupCodes count (drop at s)) in
-        ap (λ (ps : List ℕ). getD ps i 0) (next-patterns left at count o h is t k l)
+        ap (λ (ps : List ℕ). getD ps i 0) (patterns-next size some s left at count k h is l t)
         ∙ List·getD-append first (patternsOf t (chunkCodes size (left - count) (drop (at + k) s))) 0 i (rw length-next b)
         ∙ pattern-at t (groupCodes count (drop at s)) i (rw (length-codes count (drop at s)) b)
 

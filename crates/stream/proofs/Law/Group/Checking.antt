@@ -18,7 +18,7 @@ use Rattle.stream.specs.declared.group.GroupAnswer.the-variants as answe
 use Rattle.stream.specs.Group.{bytesFor, widthOf, givenWidth, groupLength, groupNumber, groupCodes, goodGroup}
 use Rattle.stream.specs.Theorem.{Limited}
 use Rattle.blocks.proofs.Law.Digits.{byte, number-at, number-part, digit-at}
-use Rattle.stream.proofs.Law.Plain.Truth.{le-or-lt}
+use Rattle.blocks.proofs.Law.Truth.{le-or-lt}
 use Rattle.stream.proofs.Law.Group.RoundTrip.{bytes-none, bytes-tight, width-holds, width-least, codes-below}
 use Rattle.stream.proofs.Law.Group.Exact.{Good, good-true, true-good}
 use Rattle.stream.proofs.Law.Group.Reading.{codes-from}

@@ -1,20 +1,19 @@
--- Reading a group's codes by words: what loads, codes at a bit and zeros behind the bytes give.
+-- Reading a group's codes: where they stand in the number that the bytes spell, and zeros behind the bytes.
 -- Assumes nothing.
-use mathlib.Core.Path.{_≡_, refl, sym, ap, ap₂, _∙_, subst₂}
+use mathlib.Core.Path.{_≡_, refl, sym, ap, ap₂, _∙_}
 use mathlib.Core.List.{List, [], _∷_, _++_}
 use Prim.Native.Nat.{ℕ, zero, suc, _+_, _-_, _*_, _/_, _%_, _^_, _≤_, _<_}
-use native.Mathlib.Nat.{zero-lt-suc, add-zero, mul-comm, mod-lt, mod-one, div-div-eq-div-mul, sub-add-cancel, add-sub-of-le, not-suc-le-zero, le-of-suc-le-suc, le-of-lt}
+use native.Mathlib.Nat.{mod-one, sub-add-cancel, not-suc-le-zero, le-of-suc-le-suc, le-of-lt}
 use native.Mathlib.Numerals.{add-one}
 use native.Mathlib.Omega.{arith}
-use lib.Bits.{bitAnd}
-use lib.ListN.{length, take, drop, set, getD, replicate, length-drop}
-use lib.Pow.{pow-pos, pow-add, shr-shr, shr-lt, mod-mod-pow}
-use lib.Seq.{take-add, take-suc, take-suc-set, drop-cons, drop-drop, length-take-le, set-at, append-snoc}
+use lib.ListN.{length, take, drop, set, getD, replicate}
+use lib.Pow.{pow-pos, shr-shr, mod-mod-pow}
+use lib.Seq.{take-suc, take-suc-set, length-take-le, set-at, append-snoc}
 use Rattle.blocks.specs.Bytes.{Below, number, digits}
 use Rattle.stream.specs.Group.{bytesFor, givenWidth, groupNumber, groupCodes}
-use Rattle.blocks.proofs.Law.Digits.{byte, number-append, number-part, number-at, digits-mod, digits-snoc, digit-at}
+use Rattle.blocks.proofs.Law.Digits.{byte, number-part, digits-mod, digits-snoc}
 use Rattle.stream.proofs.Law.Group.RoundTrip.{bytes-hold}
-use Rattle.blocks.proofs.Law.Words.{pow-pow, bit-place, field-in-word, field-past-word, masked, join-low}
+use Rattle.blocks.proofs.Law.Words.{pow-pow}
 
 -- ---- the codes one after the other, from the first bit behind the width byte on
 
@@ -31,15 +30,6 @@ codes-from n s bytes =
     ∙ ap₂ (λ (p q : ℕ). M % p % q) (pow-pow 2 8 (bytesFor w n) ∙ ap (λ (x : ℕ). 2 ^ x) (sym (sub-add-cancel (bytes-hold w n)))) (pow-pow 2 w n)
     ∙ mod-mod-pow M k (w * n) ∙ ap (λ (p : ℕ). M % p) (sym (pow-pow 2 w n)))
     ∙ digits-mod (2 ^ w) (pow-pos w) n M
-
--- the code at an index, by its first bit
-pub code-at-bit : (n : ℕ) (s : List ℕ) → Below 256 s → (i : ℕ) → i < n
-    → getD (groupCodes n s) i 0 ≡ number 256 s / 2 ^ (8 + givenWidth s * i) % 2 ^ givenWidth s
-code-at-bit n s bytes i h =
-    let w : ℕ = givenWidth s in
-    ap (λ (l : List ℕ). getD l i 0) (codes-from n s bytes)
-    ∙ digit-at (2 ^ w) (pow-pos w) n (number 256 s / 256) i h
-    ∙ ap (λ (x : ℕ). x % 2 ^ w) (ap (λ (p : ℕ). number 256 s / 256 / p) (pow-pow 2 w i) ∙ shr-shr (number 256 s) 8 (w * i))
 
 pub one-code : (s codes : List ℕ) (w i : ℕ) → i < length codes → take i codes ≡ digits (2 ^ w) i (number 256 s / 256)
     → take (i + 1) (set codes i (number 256 s / 2 ^ (8 + w * i) % 2 ^ w)) ≡ digits (2 ^ w) (i + 1) (number 256 s / 256)

@@ -4,11 +4,11 @@ use mathlib.Core.Path.{_≡_, refl, sym, ap, ap₂, _∙_, subst}
 use mathlib.Core.List.{List, [], _∷_, _++_, append-assoc, append-nil}
 use Prim.Native.Nat.{ℕ, suc, _+_, _-_, _*_, _/_, _%_, _^_, _≤_, _<_}
 use native.Mathlib.Nat.{add-zero, mul-comm, mul-assoc, mul-suc, mul-zero, zero-lt-suc, mul-le-mul-left, mod-lt, div-lt-iff-lt-mul, div-div-eq-div-mul, add-mul-div-left, add-mul-mod-self-left}
-use native.Mathlib.Numerals.{towards-suc, add-one}
+use native.Mathlib.Numerals.{add-one}
 use native.Mathlib.Omega.{arith}
 use lib.ListN.{length, take, drop, set, getD, length-append, take-append-drop}
 use lib.Pow.{pow-pos, pow-add, shl-exact, shr-shr}
-use lib.Seq.{sets, sets-eq, set-at, take-at, drop-at, drop-drop, drop-cons, append-snoc, length-take-le}
+use lib.Seq.{set-at, take-at, drop-at, drop-drop, drop-cons, append-snoc, length-take-le}
 use Rattle.blocks.specs.Bytes.{Below, number, digits}
 use Rattle.stream.specs.Group.{bytesFor, packed}
 use Rattle.stream.specs.Partway.{Partway}

@@ -1,17 +1,16 @@
 -- The list of the stream's width, of those that are lent.
-use mathlib.Core.Path.{_≡_, refl, sym, subst, ap, ap₂}
+use mathlib.Core.Path.{_≡_, refl, sym, subst, ap}
 use mathlib.Core.Logic.{⊎-elim}
 use mathlib.Core.Bool.{Bool, true, false, cond}
-use mathlib.Core.List.{List, _++_}
+use mathlib.Core.List.{List}
 use Prim.Native.Nat.{ℕ, _^_}
 use lib.Dec.{eqb}
-use lib.ListN.{length, take, drop}
+use lib.ListN.{length}
 use borrow.Author.Tests.{eq-eqb, ne-eqb}
 use Rattle.blocks.specs.Bytes.{Below}
-use Rattle.stream.specs.Setting.{knownWidth, patternsOf}
+use Rattle.stream.specs.Setting.{knownWidth}
 use Rattle.stream.specs.Lent.{chosen}
 use Rattle.stream.specs.Writing.{piece}
-use Rattle.stream.specs.declared.setting.Setting.{Setting}
 use Rattle.stream.proofs.Law.Setting.Allowed.{width-cases}
 
 module _ (W : ℕ) (a b : List ℕ) where
@@ -47,11 +46,3 @@ chosen-long W a b x y e f = go (eqb W 32)
     go : (z : Bool) → length (cond z x y) ≡ length (cond z a b)
     go true = e
     go false = f
-
--- the patterns of n codes over what the output held, where both are lent as one list for each width
-module _ (t : Setting) (a b x y : List ℕ) (n : ℕ) where
-  pub patterns-32 : t .width ≡ 32 → patternsOf t (take n a) ++ drop n x ≡ patternsOf t (take n (chosen (t .width) a b)) ++ drop n (chosen (t .width) x y)
-  patterns-32 e = ap₂ (λ (k l : List ℕ). patternsOf t (take n k) ++ drop n l) (sym (at-32 (t .width) a b e)) (sym (at-32 (t .width) x y e))
-
-  pub patterns-64 : (t .width ≡ 32 → ⊥) → patternsOf t (take n b) ++ drop n y ≡ patternsOf t (take n (chosen (t .width) a b)) ++ drop n (chosen (t .width) x y)
-  patterns-64 e = ap₂ (λ (k l : List ℕ). patternsOf t (take n k) ++ drop n l) (sym (at-other (t .width) a b e)) (sym (at-other (t .width) x y e))

@@ -10,7 +10,7 @@ use borrow.Author.Tests.{lt-ltb, le-ltb}
 use lib.ListN.{length, getD, take, drop, set, length-append, length-take, length-drop, take-append-drop}
 use lib.Seq.{take-at, take-suc, drop-at, drop-drop, set-split, append-snoc}
 use Rattle.stream.specs.Listing.{digit, decimalIn, decimal, labelled, Appends}
-use Rattle.stream.proofs.Law.Plain.Truth.{le-or-lt}
+use Rattle.blocks.proofs.Law.Truth.{le-or-lt}
 
 -- ---- decimal
 

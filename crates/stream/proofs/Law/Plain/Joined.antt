@@ -10,7 +10,7 @@ use lib.ListN.{length, take, drop, getD, length-append, List·getD-append}
 use lib.Seq.{take-at, drop-at, getD-at}
 use Rattle.blocks.specs.Bytes.{Below}
 use Rattle.stream.specs.Stream.{joined}
-use Rattle.stream.proofs.Law.Plain.Truth.{le-or-lt}
+use Rattle.blocks.proofs.Law.Truth.{le-or-lt}
 use Rattle.blocks.proofs.Law.Digits.{below-append}
 
 module _ (f : ℕ → List ℕ) where

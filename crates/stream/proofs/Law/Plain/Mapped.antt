@@ -8,7 +8,7 @@ use native.Mathlib.Omega.{arith}
 use lib.ListN.{length, take, drop, getD, set, replicate, length-map, length-append, length-drop, length-replicate, drop-of-length-le}
 use lib.Seq.{take-suc, take-suc-set, drop-cons, set-at, length-take-le, take-add, take-take, take-all, drop-at}
 use Rattle.blocks.specs.Bytes.{Below}
-use Rattle.stream.proofs.Law.Plain.Truth.{le-or-lt}
+use Rattle.blocks.proofs.Law.Truth.{le-or-lt}
 
 -- one element more of a list that is filled by f from the elements of xs
 pub one-mapped : (f : ℕ → ℕ) (xs ys : List ℕ) (i : ℕ) → i < length xs → i < length ys → take i ys ≡ map f (take i xs)

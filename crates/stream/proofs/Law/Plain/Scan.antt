@@ -11,7 +11,8 @@ use Rattle.stream.specs.Tables.{every}
 use Rattle.stream.specs.Rows.{Row, rowsFrom, first}
 use Rattle.stream.specs.declared.answers.Step.the-variants.{Pass, Stop}
 use Rattle.stream.proofs.Law.Rows.First.{passed, stopped, passed-both}
-use Rattle.stream.proofs.Law.Plain.Truth.{le-or-lt, and-left, and-right}
+use Rattle.blocks.proofs.Law.Truth.{le-or-lt}
+use Rattle.stream.proofs.Law.Plain.Truth.{and-left, and-right}
 
 module _ {A : Type 0} (S : ℕ → ℕ → A) where
   -- the step at i, and then the rest

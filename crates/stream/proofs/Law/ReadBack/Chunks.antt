@@ -26,7 +26,7 @@ use Rattle.stream.specs.Theorem.{Limited}
 use Rattle.stream.specs.declared.chunk.ChunkAnswer.the-variants.{Good}
 use Rattle.stream.specs.declared.header.Header.{Header}
 use Rattle.stream.specs.declared.setting.Setting.{Setting}
-use Rattle.stream.proofs.Law.Plain.Truth.{le-or-lt}
+use Rattle.blocks.proofs.Law.Truth.{le-or-lt}
 use Rattle.stream.proofs.Law.Group.RoundTrip.{length-group}
 use Rattle.stream.proofs.Law.Chunk.Groups.{chunk-step, written-is-good, written-is-read}
 use Rattle.stream.proofs.Law.Setting.Codes.{bin-in, codes-under}

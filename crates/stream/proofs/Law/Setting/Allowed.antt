@@ -23,7 +23,8 @@ use Rattle.stream.specs.Relied.{Allowed, Settled}
 use Rattle.stream.specs.Packing.{Packable}
 use Rattle.stream.specs.declared.header.Header.{Header}
 use Rattle.stream.specs.declared.setting.Setting.{Setting}
-use Rattle.stream.proofs.Law.Plain.Truth.{le-or-lt, and-left, and-right, either}
+use Rattle.blocks.proofs.Law.Truth.{le-or-lt}
+use Rattle.stream.proofs.Law.Plain.Truth.{and-left, and-right, either}
 
 -- ---- widths
 

@@ -15,7 +15,7 @@ use Rattle.numbers.proofs.Theorems.{the-k-of-a-bin-is-allowed, the-bin-of-its-k
 use Rattle.stream.specs.Setting.{fractionBits, isZero, allowedSetting, binFor, settingOf, kBits}
 use Rattle.stream.specs.Relied.{Allowed}
 use Rattle.stream.specs.declared.setting.Setting.{Setting}
-use Rattle.stream.proofs.Law.Plain.Truth.{le-or-lt}
+use Rattle.blocks.proofs.Law.Truth.{le-or-lt}
 use Rattle.stream.proofs.Law.Setting.Allowed.{width-cases, width-format}
 
 -- a small number in two's complement, read back

@@ -12,7 +12,7 @@ use Rattle.stream.specs.Header.{settingIn}
 use Rattle.stream.specs.Stream.{joined, countOf, chunkOf, chunkValues, valuesIn, valueIn}
 use Rattle.stream.specs.Relied.{Layout}
 use Rattle.stream.specs.declared.header.Header.{Header}
-use Rattle.stream.proofs.Law.Plain.Truth.{le-or-lt}
+use Rattle.blocks.proofs.Law.Truth.{le-or-lt}
 use Rattle.stream.proofs.Law.Setting.Allowed.{size-some}
 use Rattle.stream.proofs.Law.Chunk.Restoring.{length-restored}
 

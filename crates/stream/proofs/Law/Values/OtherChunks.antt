@@ -18,7 +18,7 @@ use Rattle.stream.specs.Stream.{countOf, chunkOf, chunkState, chunkValue
 use Rattle.stream.specs.Operations.{openingRows, tableRows, faultRow, chunkRow, ownRows, probeRows}
 use Rattle.stream.specs.Relied.{Layout}
 use Rattle.stream.specs.Theorem.{atChunk, Apart, InChunk}
-use Rattle.stream.proofs.Law.Plain.Truth.{le-or-lt}
+use Rattle.blocks.proofs.Law.Truth.{le-or-lt}
 use Rattle.stream.proofs.Law.Tables.Starts.{rising, ends-before, placed}
 
 -- bytes of a front, read from the front

@@ -11,7 +11,7 @@ use lib.IntN.{ℤ}
 use lib.Pow.{pow-pos}
 use lib.Ieee.{Float, nan, inf, fin, Format, prec, hid, ones, top, fits, isNan, nanBits, ofBits, toBits}
 use lib.Ieee.Bits.{ofBits-toBits, toBits-ofBits, nanBits-is, nanBits-above}
-use Rattle.stream.proofs.Law.Plain.Truth.{le-or-lt}
+use Rattle.blocks.proofs.Law.Truth.{le-or-lt}
 
 -- a pattern is its ordinal, or its ordinal and the sign
 sign-apart : (p t : ℕ) → p < 2 * t → ((p < t) × (p % t ≡ p)) ⊎ ((t ≤ p) × (p % t ≡ p - t))

@@ -17,7 +17,7 @@ use Rattle.stream.specs.Stream.{joined}
 use Rattle.stream.specs.Writing.{piece, pieceBytes, dataOf, startsOf, headerNumbers, endOf}
 use Rattle.stream.specs.Packing.{mostBytes}
 use Rattle.stream.specs.declared.setting.Setting.{Setting}
-use Rattle.stream.proofs.Law.Plain.Truth.{le-or-lt}
+use Rattle.blocks.proofs.Law.Truth.{le-or-lt}
 use Rattle.blocks.proofs.Law.Digits.{below-take, below-drop}
 use Rattle.stream.proofs.Law.Setting.Allowed.{Dividing, dividing, size-some}
 use Rattle.stream.proofs.Law.Chunk.BytesLeft.{take-there, drop-there, bytes-small, groups-few}

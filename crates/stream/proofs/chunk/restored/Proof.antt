@@ -1,9 +1,9 @@
 -- `stream::chunk::restored` meets its contract. The invariant: the patterns put so far, and those that the bytes left give, are all of them.
 use Prim.Native.Nat.{ℕ, _-_, _+_, _≤_, _<_, min}
 use Rattle.stream.proofs.Law.Plain.Appended.{Appended, nothing-yet, same-room, one-landed, all-there}
-use Rattle.stream.proofs.Law.Chunk.LongerBytes.{Going, starts-going, going-inside, going-wide, going-whole, goes, codes-next}
+use Rattle.stream.proofs.Law.Chunk.LongerBytes.{Going, starts-going, going-inside, going-wide, going-whole, goes}
 use Rattle.stream.proofs.Law.Chunk.Groups.{codes-none}
-use Rattle.stream.proofs.Law.Chunk.Restoring.{length-patterns, length-restored, patterns-none, patterns-append}
+use Rattle.stream.proofs.Law.Chunk.Restoring.{length-patterns, length-restored, patterns-none, patterns-next}
 use Rattle.stream.proofs.Law.Group.RoundTrip.{length-codes}
 use Rattle.stream.proofs.Law.Lent.Chosen.{chosen-long}
 use Rattle.stream.proofs.Law.Setting.Allowed.{size-some}
@@ -158,8 +158,7 @@ loop-again c =
       on c,
       one-landed _ _ _ _ _ (l .loop .inv .2) (patternsOf (t l) (groupCodes n (drop (l .loop .at) (bytes l))))
           (patternsOf (t l) (chunkCodes (groupSize (t l)) (l .loop .left - n) (drop (l .loop .at + k) (bytes l)))) _ n
-          (ap (patternsOf (t l)) (codes-next (groupSize (t l)) (size-some (t l)) (bytes l) (l .loop .left) (l .loop .at) n k (e .before .loop-test .taken) (count-is e) (bytes-are c))
-          ∙ patterns-append (t l) (groupCodes n (drop (l .loop .at) (bytes l))) _)
+          (patterns-next (groupSize (t l)) (size-some (t l)) (bytes l) (l .loop .left) (l .loop .at) n k (e .before .loop-test .taken) (count-is e) (bytes-are c) (t l))
           (sym (length-patterns (t l) (groupCodes n (drop (l .loop .at) (bytes l))) ∙ length-codes n (drop (l .loop .at) (bytes l))))
           (call .ensures
           ∙ ap (λ (u : List ℕ). landed (l .loop .done) (patternsOf (t l) (groupCodes n u)) (chosen (v .t .width) (l .loop .o32) (l .loop .o64))) (part-is (bytes l) (l .loop .at))),

@@ -1,6 +1,5 @@
 -- `stream::chunks::groups_at` meets its contract: there are no more groups than values.
-use mathlib.Core.Path.{_≡_, ap, ap₂, subst, sym, _∙_}
-use Prim.Native.Nat.{ℕ, _≤_}
+use mathlib.Core.Path.{ap, ap₂, _∙_}
 use native.Mathlib.Omega.{arith}
 use borrow.Author.Needs.{needs}
 use Rattle.stream.specs.Setting.{groupSize}

@@ -1,16 +1,14 @@
 -- `stream::lent::put_codes64` meets its contract: a full group's block, or the codes of a group.
-use mathlib.Core.Path.{_≡_, sym, ap, ap₂, _∙_}
+use mathlib.Core.Path.{sym, ap, ap₂, _∙_}
 use mathlib.Core.List.{List, _++_}
-use Prim.Native.Nat.{ℕ, _*_, _/_, _^_}
-use native.Mathlib.Nat.{lt-of-lt-of-le}
+use Prim.Native.Nat.{ℕ, _/_, _^_}
 use native.Mathlib.Omega.{arith}
 use lib.ListN.{drop}
-use lib.Pow.{pow-mono}
 use borrow.Author.Needs.{needs}
 use Rattle.blocks.specs.Bytes.{number, digits}
 use Rattle.stream.specs.Group.{givenWidth, groupLength}
 use Rattle.stream.proofs.Law.Group.Reading.{codes-from}
-use Rattle.stream.proofs.Law.Group.RoundTrip.{codes-below, length-codes}
+use Rattle.stream.proofs.Law.Group.RoundTrip.{length-codes}
 use Rattle.stream.proofs.Law.Chunk.Restoring.{long-enough}
 use Rattle.stream.proofs.lent.put_codes64.Statement.{statement}
 use Rattle.stream.proofs.lent.put_codes64.Tie as tie
