@@ -3,7 +3,7 @@
 //! program runs, so that nothing needs to be installed to build it.
 
 use second::bench::codec::{Setting, Value};
-use second::bench::fields::SIDE;
+use second::bench::fields::{SIDE, VALUES};
 use second::bench::others::Other;
 use second::bench::timing::Who;
 use std::ffi::{c_char, c_double, c_int, c_long, c_void, CStr};
@@ -129,6 +129,7 @@ type Pointer = *mut c_void;
 /// The functions of zfp that are used.
 #[derive(Clone, Copy)]
 struct Zfp {
+    field_1d: unsafe extern "C" fn(Pointer, c_int, usize) -> Pointer,
     field_2d: unsafe extern "C" fn(Pointer, c_int, usize, usize) -> Pointer,
     field_free: unsafe extern "C" fn(Pointer),
     stream_open: unsafe extern "C" fn(Pointer) -> Pointer,
@@ -147,6 +148,7 @@ impl Zfp {
         let library = Shared::open(c"libzfp.so.1")?;
         unsafe {
             Some(Zfp {
+                field_1d: library.function(c"zfp_field_1d")?,
                 field_2d: library.function(c"zfp_field_2d")?,
                 field_free: library.function(c"zfp_field_free")?,
                 stream_open: library.function(c"zfp_stream_open")?,
@@ -162,7 +164,8 @@ impl Zfp {
         }
     }
 
-    /// Compresses or decompresses a grid.
+    /// Compresses or decompresses a field: as many values as a model's field
+    /// has are taken for its grid, others, whose shape is not told, for a row.
     ///
     /// # Safety
     /// The bytes and the values must be as many as told, and writable where
@@ -175,7 +178,10 @@ impl Zfp {
         bytes: (*mut u8, usize),
     ) -> usize {
         let kind = if P::W == 32 { 3 } else { 4 };
-        let field = (self.field_2d)(values.0.cast(), kind, SIDE, values.1 / SIDE);
+        let field = match values.1 {
+            VALUES => (self.field_2d)(values.0.cast(), kind, SIDE, SIDE),
+            n => (self.field_1d)(values.0.cast(), kind, n),
+        };
         let bits = (self.bits_open)(bytes.0.cast(), bytes.1);
         let stream = (self.stream_open)(bits);
         match setting.mode {
@@ -198,7 +204,8 @@ fn zfp<P: Value>() -> Option<Other<P>> {
     Some(Other {
         who: Who::Zfp,
         modes: &[0, 1],
-        room: |bytes| 2 * bytes,
+        // The last block of a row may be filled up.
+        room: |bytes| 2 * bytes + 1024,
         pack: Box::new(move |setting, values, output| {
             let from = (values.as_ptr().cast_mut(), values.len());
             let to = (output.as_mut_ptr(), output.len());

@@ -4,10 +4,11 @@
 //! * [`numbers`]: the lossless code, the tolerance code and bound.
 //! * [`stream`]: pack, length, unpack, check and probe, as simply as possible.
 //! * [`listing`]: the text the listing program prints.
-//! * [`plain`]: pack, length, check, unpack and probe once more, written for
+//! * [`plain`]: pack, length, check, unpack and probe once more, tuned for
 //!   speed. It shares nothing with the others but the types of this page.
+//!   `plain.c` is the same in C, for the program `bench` alone.
 //! * [`compare`]: puts many calls to the reference and to another library.
-//! * [`bench`]: measures another library beside the plain version.
+//! * [`bench`]: measures another library beside the tuned version.
 
 #![forbid(unsafe_code)]
 

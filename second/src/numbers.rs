@@ -150,7 +150,7 @@ fn folded(x: i128) -> u128 {
 
 /// The inverse of `folded`: even codes are 2x, odd ones -2x-1.
 fn unfolded(code: u128) -> i128 {
-    if code % 2 == 0 {
+    if code & 1 == 0 {
         (code / 2) as i128
     } else {
         -(code.div_ceil(2) as i128)

@@ -1,13 +1,12 @@
-//! The same format once more, written for speed: the baselines of benchmarks.
+//! The same format once more, tuned for speed: the bar of the benchmark.
 //!
 //! Ordinary safe Rust. Values are coded 32 at a time in a fixed array, by loops
-//! that the compiler turns into steps of several lanes. Nothing is allocated.
-//! The inner loops come in two styles: [`Plain`] puts and takes codes by one
-//! loop for every width byte and divides by E with shifts, as the proved library
-//! does; [`Tuned`] has a function for each width byte, in which every shift is
-//! known, and divides by exact products of floats. The rules, constants and checks are written here again rather
-//! than borrowed from the reference, so that comparing the two says something
-//! about both.
+//! that the compiler turns into steps of several lanes. Codes are put and taken
+//! by a function for each width byte, in which every shift is known, and the
+//! tolerance code divides by exact products of floats. Nothing is allocated.
+//! The rules, constants and checks are written here again rather than borrowed
+//! from the reference, so that comparing the two says something about both.
+//! `plain.c` is the same in C.
 
 use crate::{Answer, Refusal};
 use std::ops::BitOr;
@@ -64,67 +63,6 @@ pub trait Lane: Copy + Default + Ord + BitOr<Output = Self> + 'static {
     /// By exact products of floats.
     fn tolerance_code(self, bin: Self::Bin) -> Self;
     fn tolerance_pattern(self, bin: Self::Bin) -> Self;
-    /// By shifts.
-    fn shifted_code(self, bin: Self::Bin) -> Self;
-    fn shifted_pattern(self, bin: Self::Bin) -> Self;
-}
-
-/// How the inner loops are written.
-pub trait Style {
-    fn put<P: Lane>(w: u32, codes: &[P; GROUP], bytes: &mut [u8]);
-    fn take<P: Lane>(w: u32, window: &[u8; WINDOW], codes: &mut [P; GROUP]);
-    fn tolerance_code<P: Lane>(pattern: P, bin: P::Bin) -> P;
-    fn tolerance_pattern<P: Lane>(code: P, bin: P::Bin) -> P;
-}
-
-/// One loop for every width, and shifts.
-pub struct Plain;
-
-impl Style for Plain {
-    #[inline(always)]
-    fn put<P: Lane>(w: u32, codes: &[P; GROUP], bytes: &mut [u8]) {
-        put_in_a_loop(w as usize, codes, bytes);
-    }
-
-    #[inline(always)]
-    fn take<P: Lane>(w: u32, window: &[u8; WINDOW], codes: &mut [P; GROUP]) {
-        take_in_a_loop(w as usize, window, codes);
-    }
-
-    #[inline(always)]
-    fn tolerance_code<P: Lane>(pattern: P, bin: P::Bin) -> P {
-        pattern.shifted_code(bin)
-    }
-
-    #[inline(always)]
-    fn tolerance_pattern<P: Lane>(code: P, bin: P::Bin) -> P {
-        code.shifted_pattern(bin)
-    }
-}
-
-/// A function for each width, and products.
-pub struct Tuned;
-
-impl Style for Tuned {
-    #[inline(always)]
-    fn put<P: Lane>(w: u32, codes: &[P; GROUP], bytes: &mut [u8]) {
-        P::PUT[w as usize](codes, bytes);
-    }
-
-    #[inline(always)]
-    fn take<P: Lane>(w: u32, window: &[u8; WINDOW], codes: &mut [P; GROUP]) {
-        P::TAKE[w as usize](window, codes);
-    }
-
-    #[inline(always)]
-    fn tolerance_code<P: Lane>(pattern: P, bin: P::Bin) -> P {
-        pattern.tolerance_code(bin)
-    }
-
-    #[inline(always)]
-    fn tolerance_pattern<P: Lane>(code: P, bin: P::Bin) -> P {
-        code.tolerance_pattern(bin)
-    }
 }
 
 pub type Put<P> = fn(&[P; GROUP], &mut [u8]);
@@ -238,42 +176,6 @@ macro_rules! lane {
                 let ordinal = if u < (1 << $m) { near } else { far };
                 ordinal | sign
             }
-
-            #[inline(always)]
-            fn shifted_code(self, bin: Self::Bin) -> Self {
-                let ordinal = self << 1 >> 1;
-                let sign = self >> ($word::BITS - 1);
-                if ordinal >= bin.threshold {
-                    return ((ordinal - bin.lift) << 1) | sign;
-                }
-                // The magnitude is significand · 2^(field - 1) units, or the
-                // ordinal itself where the field is 0.
-                let field = (ordinal >> $m).max(1);
-                let significand = ordinal - ((field - 1) << $m);
-                let shift = (bin.threshold >> $m) - field;
-                if shift > $m + 1 {
-                    return sign;
-                }
-                (((2 * significand + (1 << shift)) >> (shift + 1)) << 1) | sign
-            }
-
-            #[inline(always)]
-            fn shifted_pattern(self, bin: Self::Bin) -> Self {
-                let u = self >> 1;
-                let sign = self << ($word::BITS - 1);
-                if u >= (1 << $m) {
-                    return u.wrapping_add(bin.lift) | sign;
-                }
-                if u == 0 {
-                    return sign;
-                }
-                // u moves up as far as the fraction has room; the rest of d
-                // goes to the field.
-                let d = (bin.threshold >> $m) - 1;
-                let room = (u.leading_zeros() - ($word::BITS - 1 - $m)) as $word;
-                let up = d.min(room);
-                (((d - up) << $m) + (u << up)) | sign
-            }
         }
     };
 }
@@ -354,19 +256,13 @@ fn admit<P: Lane>(level: u32, mode: u32, k: i32, n: usize) -> Result<(), Refusal
 }
 
 /// Writes the packed stream to the front of the output.
-pub fn pack<S: Style, P: Lane>(
-    level: u32,
-    mode: u32,
-    k: i32,
-    values: &[P],
-    output: &mut [u8],
-) -> Answer {
+pub fn pack<P: Lane>(level: u32, mode: u32, k: i32, values: &[P], output: &mut [u8]) -> Answer {
     admit::<P>(level, mode, k, values.len())?;
     let end = if mode == 0 {
-        pack_data::<S, P>(values, output, P::lossless_code)?
+        pack_data(values, output, P::lossless_code)?
     } else {
         let bin = P::bin(k);
-        pack_data::<S, P>(values, output, |pattern| S::tolerance_code(pattern, bin))?
+        pack_data(values, output, |pattern| pattern.tolerance_code(bin))?
     };
     let n = values.len() as u32;
     let c = n.div_ceil(CHUNK as u32);
@@ -379,13 +275,13 @@ pub fn pack<S: Style, P: Lane>(
 }
 
 /// The bytes pack would use.
-pub fn length<S: Style, P: Lane>(level: u32, mode: u32, k: i32, values: &[P]) -> Answer {
+pub fn length<P: Lane>(level: u32, mode: u32, k: i32, values: &[P]) -> Answer {
     admit::<P>(level, mode, k, values.len())?;
     let length = if mode == 0 {
         measured(values, P::lossless_code)
     } else {
         let bin = P::bin(k);
-        measured(values, |pattern| S::tolerance_code(pattern, bin))
+        measured(values, |pattern| pattern.tolerance_code(bin))
     };
     Ok(length as u64)
 }
@@ -440,7 +336,7 @@ fn most_bytes<P: Lane>(n: usize) -> usize {
 
 /// Writes chunk table and data and answers where the data ends, or refuses
 /// with 4. An output that is long enough for anything needs no measuring.
-fn pack_data<S: Style, P: Lane>(
+fn pack_data<P: Lane>(
     values: &[P],
     output: &mut [u8],
     code: impl Fn(P) -> P + Copy,
@@ -464,10 +360,10 @@ fn pack_data<S: Style, P: Lane>(
             data[at] = w as u8;
             let packed = &mut data[at + 1..at + 1 + length];
             if group.len() == GROUP {
-                S::put(w, &codes, packed);
+                P::PUT[w as usize](&codes, packed);
             } else {
                 let mut whole = [0; 8 * GROUP];
-                S::put(w, &codes, &mut whole);
+                P::PUT[w as usize](&codes, &mut whole);
                 packed.copy_from_slice(&whole[..length]);
             }
             at += 1 + length;
@@ -476,30 +372,8 @@ fn pack_data<S: Style, P: Lane>(
     Ok(data_place + at)
 }
 
-/// Puts 32 codes of w bits into the 4w bytes they fill, through an
-/// accumulator.
-#[inline(always)]
-fn put_in_a_loop<P: Lane>(w: usize, codes: &[P; GROUP], bytes: &mut [u8]) {
-    let bytes = &mut bytes[..GROUP / 8 * w];
-    let mut accumulator = 0;
-    let mut filled = 0;
-    let mut at = 0;
-    for code in codes.map(P::wide) {
-        accumulator |= code << filled;
-        filled += w;
-        if filled >= 64 {
-            bytes[at..at + 8].copy_from_slice(&accumulator.to_le_bytes());
-            at += 8;
-            filled -= 64;
-            accumulator = if filled == 0 { 0 } else { code >> (w - filled) };
-        }
-    }
-    if filled > 0 {
-        bytes[at..].copy_from_slice(&(accumulator as u32).to_le_bytes());
-    }
-}
-
-/// The same, step by step. W is known to the compiler, and with it every shift.
+/// Puts 32 codes of W bits into the 4W bytes they fill, through an accumulator.
+/// W is known to the compiler, and with it every shift.
 fn put_codes<P: Lane, const W: usize>(codes: &[P; GROUP], bytes: &mut [u8]) {
     let bytes = &mut bytes[..GROUP / 8 * W];
     let mut accumulator = 0;
@@ -630,15 +504,15 @@ fn side_table_holds(stream: &[u8], header: &Header) -> bool {
 }
 
 /// Refusal 10: all chunks, without restoring a value.
-fn check_chunks<S: Style, P: Lane>(stream: &[u8], header: &Header) -> Result<(), Refusal> {
+fn check_chunks<P: Lane>(stream: &[u8], header: &Header) -> Result<(), Refusal> {
     let most = P::largest_code(header.mode, header.k);
     for chunk in 0..header.c {
-        check_chunk::<S, P>(stream, header, chunk, most)?;
+        check_chunk(stream, header, chunk, most)?;
     }
     Ok(())
 }
 
-fn check_chunk<S: Style, P: Lane>(
+fn check_chunk<P: Lane>(
     stream: &[u8],
     header: &Header,
     chunk: usize,
@@ -651,7 +525,7 @@ fn check_chunk<S: Style, P: Lane>(
         header.data_end
     };
     let count = (header.n - chunk * CHUNK).min(CHUNK);
-    if chunk_holds::<S, P>(&stream[start..], end - start, count, most) {
+    if chunk_holds(&stream[start..], end - start, count, most) {
         Ok(())
     } else {
         Err(Refusal::with_detail(10, chunk as u64))
@@ -659,7 +533,7 @@ fn check_chunk<S: Style, P: Lane>(
 }
 
 /// Whether a chunk of this length begins the bytes.
-fn chunk_holds<S: Style, P: Lane>(bytes: &[u8], length: usize, count: usize, most: P) -> bool {
+fn chunk_holds<P: Lane>(bytes: &[u8], length: usize, count: usize, most: P) -> bool {
     let mut at = 0;
     let mut left = count;
     while left > 0 {
@@ -669,7 +543,7 @@ fn chunk_holds<S: Style, P: Lane>(bytes: &[u8], length: usize, count: usize, mos
         let w = bytes[at] as u32;
         let group = left.min(GROUP);
         let end = at + 1 + bytes_of(group, w);
-        if w > P::W || end > length || !group_holds::<S, P>(&bytes[at + 1..], group, w, most) {
+        if w > P::W || end > length || !group_holds(&bytes[at + 1..], group, w, most) {
             return false;
         }
         at = end;
@@ -680,7 +554,7 @@ fn chunk_holds<S: Style, P: Lane>(bytes: &[u8], length: usize, count: usize, mos
 
 /// The smallest width, zero padding and the largest code of the group whose
 /// codes begin the bytes.
-fn group_holds<S: Style, P: Lane>(bytes: &[u8], count: usize, w: u32, most: P) -> bool {
+fn group_holds<P: Lane>(bytes: &[u8], count: usize, w: u32, most: P) -> bool {
     if w == 0 {
         return true;
     }
@@ -691,8 +565,8 @@ fn group_holds<S: Style, P: Lane>(bytes: &[u8], count: usize, w: u32, most: P) -
     if !(1..=count).any(|code| bit_at(code * step - 1)) {
         return false;
     }
-    let used = count * step;
-    if used % 8 != 0 && bytes[used / 8] >> (used % 8) != 0 {
+    let (full_bytes, bits_left) = (count * step / 8, count * step % 8);
+    if bits_left > 0 && bytes[full_bytes] >> bits_left != 0 {
         return false;
     }
     // Only at the bit length of the largest code do the codes themselves
@@ -701,25 +575,25 @@ fn group_holds<S: Style, P: Lane>(bytes: &[u8], count: usize, w: u32, most: P) -
     if w != longest || most.wide() == u64::MAX >> (64 - P::W) {
         return w <= longest;
     }
-    let codes: [P; GROUP] = taken::<S, P>(bytes, w);
+    let codes: [P; GROUP] = taken(bytes, w);
     codes[..count].iter().fold(true, |all_fit, &code| all_fit & (code <= most))
 }
 
 /// Checks a whole stream of either width and answers n.
-pub fn check<S: Style>(level: u32, stream: &[u8]) -> Answer {
+pub fn check(level: u32, stream: &[u8]) -> Answer {
     let header = read_header(level, stream)?;
     check_tables(stream, &header)?;
     if header.width == u32::W {
-        check_chunks::<S, u32>(stream, &header)?;
+        check_chunks::<u32>(stream, &header)?;
     } else {
-        check_chunks::<S, u64>(stream, &header)?;
+        check_chunks::<u64>(stream, &header)?;
     }
     Ok(header.n as u64)
 }
 
 /// Writes the n values to the front of the output and answers n. All is
 /// checked before the first value is written.
-pub fn unpack<S: Style, P: Lane>(level: u32, stream: &[u8], output: &mut [P]) -> Answer {
+pub fn unpack<P: Lane>(level: u32, stream: &[u8], output: &mut [P]) -> Answer {
     let header = read_header(level, stream)?;
     if header.width != P::W {
         return Err(Refusal::bare(14));
@@ -728,20 +602,20 @@ pub fn unpack<S: Style, P: Lane>(level: u32, stream: &[u8], output: &mut [P]) ->
         return Err(Refusal::with_detail(4, header.n as u64));
     }
     check_tables(stream, &header)?;
-    check_chunks::<S, P>(stream, &header)?;
+    check_chunks::<P>(stream, &header)?;
     let data = &stream[header.data_place..header.data_end];
     let output = &mut output[..header.n];
     if header.mode == 0 {
-        unpack_data::<S, P>(data, output, P::lossless_pattern);
+        unpack_data(data, output, P::lossless_pattern);
     } else {
         let bin = P::bin(header.k);
-        unpack_data::<S, P>(data, output, |code| S::tolerance_pattern(code, bin));
+        unpack_data(data, output, |code| code.tolerance_pattern(bin));
     }
     Ok(header.n as u64)
 }
 
 /// The pattern at an index. Of the chunks only its own is read.
-pub fn probe<S: Style, P: Lane>(level: u32, stream: &[u8], index: u64) -> Result<P, Refusal> {
+pub fn probe<P: Lane>(level: u32, stream: &[u8], index: u64) -> Result<P, Refusal> {
     let header = read_header(level, stream)?;
     if header.width != P::W {
         return Err(Refusal::bare(14));
@@ -751,28 +625,28 @@ pub fn probe<S: Style, P: Lane>(level: u32, stream: &[u8], index: u64) -> Result
     }
     check_tables(stream, &header)?;
     let (chunk, index) = (index as usize / CHUNK, index as usize % CHUNK);
-    check_chunk::<S, P>(stream, &header, chunk, P::largest_code(header.mode, header.k))?;
+    check_chunk(stream, &header, chunk, P::largest_code(header.mode, header.k))?;
     let start = header.data_place + chunk_start(stream, chunk);
-    let code = code_at::<S, P>(&stream[start..], index);
+    let code = code_at::<P>(&stream[start..], index);
     Ok(if header.mode == 0 {
         code.lossless_pattern()
     } else {
-        S::tolerance_pattern(code, P::bin(header.k))
+        code.tolerance_pattern(P::bin(header.k))
     })
 }
 
 /// The code at an index of the checked chunk that begins the bytes: the groups
 /// before its own are full, and are stepped over.
-fn code_at<S: Style, P: Lane>(mut chunk: &[u8], index: usize) -> P {
+fn code_at<P: Lane>(mut chunk: &[u8], index: usize) -> P {
     for _ in 0..index / GROUP {
         chunk = &chunk[1 + bytes_of(GROUP, chunk[0] as u32)..];
     }
-    taken::<S, P>(&chunk[1..], chunk[0] as u32)[index % GROUP]
+    taken(&chunk[1..], chunk[0] as u32)[index % GROUP]
 }
 
 /// Restores all groups of checked data. Chunks need no attention: they hold
 /// whole groups and follow each other without a gap.
-fn unpack_data<S: Style, P: Lane>(data: &[u8], output: &mut [P], restored: impl Fn(P) -> P + Copy) {
+fn unpack_data<P: Lane>(data: &[u8], output: &mut [P], restored: impl Fn(P) -> P + Copy) {
     let mut at = 0;
     for group in output.chunks_mut(GROUP) {
         let w = data[at] as u32;
@@ -782,7 +656,7 @@ fn unpack_data<S: Style, P: Lane>(data: &[u8], output: &mut [P], restored: impl 
             group.fill(restored(P::default()));
             continue;
         }
-        let codes = taken::<S, P>(packed, w);
+        let codes = taken(packed, w);
         match <&mut [P; GROUP]>::try_from(&mut *group) {
             Ok(full) => restore_into(full, &codes, restored),
             Err(_) => restore_into(group, &codes, restored),
@@ -805,11 +679,11 @@ const WINDOW: usize = 8 * GROUP + 8;
 
 /// 32 codes of w bits. All but a stream's last groups are read where they lie.
 #[inline(always)]
-fn taken<S: Style, P: Lane>(packed: &[u8], w: u32) -> [P; GROUP] {
+fn taken<P: Lane>(packed: &[u8], w: u32) -> [P; GROUP] {
     let mut codes = [P::default(); GROUP];
     match packed.first_chunk() {
-        Some(window) => S::take(w, window, &mut codes),
-        None => S::take(w, &windowed(packed), &mut codes),
+        Some(window) => P::TAKE[w as usize](window, &mut codes),
+        None => P::TAKE[w as usize](&windowed(packed), &mut codes),
     }
     codes
 }
@@ -822,25 +696,9 @@ fn windowed(packed: &[u8]) -> [u8; WINDOW] {
     window
 }
 
-/// Takes 32 codes of w bits, each with the eight or nine bytes that hold it.
-#[inline(always)]
-fn take_in_a_loop<P: Lane>(w: usize, window: &[u8; WINDOW], codes: &mut [P; GROUP]) {
-    let mask = if w == 0 { 0 } else { u64::MAX >> (64 - w) };
-    for (index, taken) in codes.iter_mut().enumerate() {
-        let (place, shift) = (index * w / 8, index * w % 8);
-        let mut eight = [0; 8];
-        eight.copy_from_slice(&window[place..place + 8]);
-        let mut code = u64::from_le_bytes(eight) >> shift;
-        if shift + w > 64 {
-            code |= (window[place + 8] as u64) << (64 - shift);
-        }
-        *taken = P::narrow(code & mask);
-    }
-}
-
-/// The same, step by step; W is known to the compiler, and with it every
-/// place and shift. Past a short group's count they are made of whatever
-/// follows it, and nobody looks at them.
+/// Takes 32 codes of W bits, each with the eight or nine bytes that hold it; W
+/// is known to the compiler, and with it every place and shift. Past a short
+/// group's count they are made of whatever follows it, and nobody looks at them.
 fn take_codes<P: Lane, const W: usize>(window: &[u8; WINDOW], codes: &mut [P; GROUP]) {
     let mask = if W == 0 { 0 } else { u64::MAX >> (64 - W) };
     macro_rules! take {

@@ -17,15 +17,15 @@ fn rotated64(p: u64) -> u64
     p % 0x8000_0000_0000_0000 * 2 + p / 0x8000_0000_0000_0000
 }
 
-// The exponent step without a branch, which noise would mispredict: `low` is 1 at the exponents 1 to 128, which are those that stay in the
-// lower half when a unit is taken off. They lose that unit and end in the upper half; all others end in the lower half.
+// The exponent step without a branch, which noise would mispredict. `low` is 1 at the exponents 1 to 128, which are those that lie in the lower
+// half when a unit is taken off: they lose that unit, and 2^(W-1) modulo 2^W. Of the others, those above lose 2^(W-1) as their highest bit.
 fn stepped32(r: u32) -> u32
     ensures { λ s. ⌜ s ≡ stepped 32 23 r ⌝ }
 {
     let less = num::wrapping_sub_u32(r, 0x0100_0000);
     let low = 1 - less / 0x8000_0000;
     let d = num::wrapping_sub_u32(r, low * 0x0100_0000);
-    d % 0x8000_0000 + low * 0x8000_0000
+    num::wrapping_sub_u32(d % 0x8000_0000, low * 0x8000_0000)
 }
 
 fn stepped64(r: u64) -> u64
@@ -34,7 +34,7 @@ fn stepped64(r: u64) -> u64
     let less = num::wrapping_sub_u64(r, 0x0020_0000_0000_0000);
     let low = 1 - less / 0x8000_0000_0000_0000;
     let d = num::wrapping_sub_u64(r, low * 0x0020_0000_0000_0000);
-    d % 0x8000_0000_0000_0000 + low * 0x8000_0000_0000_0000
+    num::wrapping_sub_u64(d % 0x8000_0000_0000_0000, low * 0x8000_0000_0000_0000)
 }
 
 // The lossless code of a binary32 pattern.

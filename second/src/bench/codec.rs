@@ -3,8 +3,11 @@
 
 use super::fields::Cell;
 use super::timing::Who;
+use crate::compare::operations::Operations;
 use crate::compare::outcome::answered;
-use crate::plain::{self, Plain, Style, Tuned};
+use crate::plain;
+use std::ops::Range;
+use std::slice::from_mut;
 
 /// All settings are allowed at the highest level.
 pub const LEVEL: u32 = 10;
@@ -34,33 +37,61 @@ pub trait Value: Cell + plain::Lane {}
 impl Value for u32 {}
 impl Value for u64 {}
 
-pub fn plain_codec<P: Value>() -> Codec<P> {
-    codec_of::<Plain, P>(Who::Plain)
+/// An implementation's operations with whole outputs lent.
+pub fn codec_of<L: Operations<P>, P>(who: Who) -> Codec<P> {
+    Codec {
+        who,
+        pack: |setting, values, output| {
+            let room = 0..output.len();
+            L::pack(LEVEL, setting.mode, setting.k, values, output, room)
+        },
+        length: |setting, values| L::length(LEVEL, setting.mode, setting.k, values),
+        check: |stream| L::check(LEVEL, stream),
+        unpack: |stream, output| {
+            let room = 0..output.len();
+            L::unpack(LEVEL, stream, output, room)
+        },
+        probe: |stream, index, pattern| L::probe(LEVEL, stream, index, from_mut(pattern), 0..1),
+    }
+}
+
+/// The tuned version, [`plain`].
+pub struct Tuned;
+
+impl<P: Value> Operations<P> for Tuned {
+    fn pack(
+        level: u32,
+        mode: u32,
+        k: i32,
+        values: &[P],
+        buffer: &mut [u8],
+        room: Range<usize>,
+    ) -> u64 {
+        answered(plain::pack(level, mode, k, values, &mut buffer[room]))
+    }
+
+    fn length(level: u32, mode: u32, k: i32, values: &[P]) -> u64 {
+        answered(plain::length(level, mode, k, values))
+    }
+
+    fn check(level: u32, stream: &[u8]) -> u64 {
+        answered(plain::check(level, stream))
+    }
+
+    fn unpack(level: u32, stream: &[u8], buffer: &mut [P], room: Range<usize>) -> u64 {
+        answered(plain::unpack(level, stream, &mut buffer[room]))
+    }
+
+    fn probe(level: u32, stream: &[u8], index: u64, buffer: &mut [P], room: Range<usize>) -> u64 {
+        answered(plain::probe::<P>(level, stream, index).map(|pattern| {
+            buffer[room.start] = pattern;
+            pattern.kind()
+        }))
+    }
 }
 
 pub fn tuned_codec<P: Value>() -> Codec<P> {
     codec_of::<Tuned, P>(Who::Tuned)
-}
-
-fn codec_of<S: Style, P: Value>(who: Who) -> Codec<P> {
-    Codec {
-        who,
-        pack: |setting, values, output| {
-            answered(plain::pack::<S, P>(LEVEL, setting.mode, setting.k, values, output))
-        },
-        length: |setting, values| {
-            answered(plain::length::<S, P>(LEVEL, setting.mode, setting.k, values))
-        },
-        check: |stream| answered(plain::check::<S>(LEVEL, stream)),
-        unpack: |stream, output| answered(plain::unpack::<S, P>(LEVEL, stream, output)),
-        probe: |stream, index, pattern| {
-            let probed = plain::probe::<S, P>(LEVEL, stream, index);
-            answered(probed.map(|found| {
-                *pattern = found;
-                found.kind()
-            }))
-        },
-    }
 }
 
 /// The length no packed stream of n values exceeds.

@@ -1,11 +1,15 @@
 //! The benchmark's fields: 1,024 by 1,024 cells of a model harbour, the same
-//! at every run. A value is made in binary64; width 32 rounds it.
+//! at every run, and whatever a file holds. A model's value is made in
+//! binary64; width 32 rounds it.
 
 use crate::compare::random::XorShift;
+use std::fs::File;
+use std::io::Read;
+use std::path::Path;
 
 /// Cells along each side of the grid.
 pub const SIDE: usize = 1024;
-/// Values of a field: the most a stream holds.
+/// Values of a model's field: the most a stream holds.
 pub const VALUES: usize = SIDE * SIDE;
 
 #[derive(Clone, Copy, Debug, PartialEq, Eq)]
@@ -28,6 +32,10 @@ impl Field {
         }
     }
 
+    pub fn sample<P: Cell>(self) -> Sample<P> {
+        Sample { name: self.name().to_string(), values: self.values() }
+    }
+
     /// The cells row by row.
     pub fn values<P: Cell>(self) -> Vec<P> {
         let mut rng = XorShift::seeded(1, self as u64);
@@ -44,6 +52,41 @@ impl Field {
             Field::HalfDry => P::of_float(current(cell, rng)),
         }
     }
+}
+
+/// Values to be packed, and what the tables call them.
+pub struct Sample<P> {
+    pub name: String,
+    pub values: Vec<P>,
+}
+
+impl<P: Cell> Sample<P> {
+    /// The raw little-endian values of a file, no more of them than a stream
+    /// holds; or what is wrong with the file, and what to do.
+    pub fn of_file(path: &Path) -> Result<Sample<P>, String> {
+        let (shown, size) = (path.display(), size_of::<P>());
+        let mut bytes = Vec::new();
+        File::open(path)
+            .and_then(|file| file.take((VALUES * size) as u64).read_to_end(&mut bytes))
+            .map_err(|error| format!("{shown}: {error}: name a file that can be read"))?;
+        if bytes.is_empty() {
+            return Err(format!("{shown} is empty: name a file of one value or more"));
+        }
+        if bytes.len() % size != 0 {
+            return Err(format!(
+                "{shown}: {} bytes are no whole number of values of {size} bytes: give the width \
+                 that the file has (32 or 64), and a file of raw values alone, without a header",
+                bytes.len()
+            ));
+        }
+        Ok(Sample { name: name_of(path), values: bytes.chunks(size).map(P::of_bytes).collect() })
+    }
+}
+
+/// The file's name, without what has a meaning in CSV, Markdown or SVG.
+fn name_of(path: &Path) -> String {
+    let name = path.file_name().unwrap_or_default().to_string_lossy();
+    name.replace(|letter: char| !(letter.is_alphanumeric() || "._-+".contains(letter)), "_")
 }
 
 /// The half-dry field with every kind of special value on the dry land:
@@ -85,6 +128,8 @@ fn dry(cell: usize) -> bool {
 
 /// A pattern of one width.
 pub trait Cell: Copy {
+    /// From as many little-endian bytes as the width has.
+    fn of_bytes(bytes: &[u8]) -> Self;
     fn of_float(value: f64) -> Self;
     fn float(self) -> f64;
     /// Sign, exponent and fraction at random, but never infinite or
@@ -107,6 +152,10 @@ pub trait Cell: Copy {
 macro_rules! cell {
     ($word:ident, $float:ident) => {
         impl Cell for $word {
+            fn of_bytes(bytes: &[u8]) -> $word {
+                $word::from_le_bytes(bytes.try_into().expect("the bytes of one value"))
+            }
+
             fn of_float(value: f64) -> $word {
                 (value as $float).to_bits()
             }

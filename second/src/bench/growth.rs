@@ -2,7 +2,7 @@
 //! lists of one length, and all of them are packed or unpacked, so that every
 //! length works on the same values and as much memory.
 
-use super::codec::{most_bytes, plain_codec, Codec, Setting, Value};
+use super::codec::{most_bytes, tuned_codec, Codec, Setting, Value};
 use super::fields::{Field, VALUES};
 use super::timing::{timed, Contender, Operation, Space, Timing, Watch};
 use std::ops::Range;
@@ -26,17 +26,17 @@ struct Lists<'a, P> {
 }
 
 pub fn measure<P: Value>(setting: Setting, ours: &Codec<P>, watch: Watch) -> Growth {
-    let plain = plain_codec();
+    let tuned = tuned_codec();
     let values: Vec<P> = Field::Smooth.values();
     let lists: Vec<_> =
-        LENGTHS.iter().map(|&length| lists_of(setting, length, &values, &plain)).collect();
+        LENGTHS.iter().map(|&length| lists_of(setting, length, &values, &tuned)).collect();
     let room = LENGTHS.iter().map(|&length| VALUES / length * most_bytes::<P>(length)).max();
     let mut space = Space { bytes: vec![1; room.unwrap_or(0)], values: vec![P::default(); VALUES] };
     let mut contenders = Vec::new();
     for lists in &lists {
         verify(lists, ours, &mut space.bytes);
         contenders.extend(contenders_of(lists, ours));
-        contenders.extend(contenders_of(lists, &plain));
+        contenders.extend(contenders_of(lists, &tuned));
     }
     let timings = timed(&contenders, &mut space, watch);
     let by_length = timings.chunks(contenders.len() / LENGTHS.len()).map(<[_]>::to_vec).collect();
@@ -47,12 +47,12 @@ fn lists_of<'a, P: Value>(
     setting: Setting,
     length: usize,
     values: &'a [P],
-    plain: &Codec<P>,
+    tuned: &Codec<P>,
 ) -> Lists<'a, P> {
     let mut lists = Lists { setting, length, values, streams: Vec::new(), places: Vec::new() };
     let mut packed = vec![0; most_bytes::<P>(length)];
     for list in values.chunks(length) {
-        let used = (plain.pack)(setting, list, &mut packed) as usize;
+        let used = (tuned.pack)(setting, list, &mut packed) as usize;
         let start = lists.streams.len();
         lists.streams.extend(&packed[..used]);
         lists.places.push(start..start + used);

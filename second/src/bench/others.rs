@@ -1,11 +1,10 @@
 //! Compressors of other formats, and what they keep of special values.
 
 use super::codec::{Setting, Value};
-use super::fields::{special_values, VALUES};
+use super::fields::special_values;
 use super::timing::Who;
 
-/// A compressor of grids of 1,024 cells a row. Answers are lengths in bytes,
-/// 0 where it fails.
+/// A compressor. Answers are lengths in bytes, 0 where it fails.
 pub struct Other<P> {
     pub who: Who,
     pub modes: &'static [u32],
@@ -26,8 +25,8 @@ impl<P: Value> Other<P> {
         packed
     }
 
-    pub fn restored(&self, setting: Setting, packed: &[u8]) -> Vec<P> {
-        let mut restored = vec![P::default(); VALUES];
+    pub fn restored(&self, setting: Setting, packed: &[u8], n: usize) -> Vec<P> {
+        let mut restored = vec![P::default(); n];
         let length = (self.unpack)(setting, packed, &mut restored);
         assert!(length > 0, "{} did not unpack", self.who.name());
         restored
@@ -58,7 +57,8 @@ pub fn lost_by<P: Value>(other: &Other<P>, setting: Setting) -> (Lost, Lost) {
     let values = special_values::<P>();
     let count = |kind: u64| values.iter().filter(|value| value.kind() == kind).count();
     let all = Lost { not_a_numbers: count(2), infinities: count(1), finite: count(0) };
-    (lost(setting, &values, &other.restored(setting, &other.packed(setting, &values))), all)
+    let packed = other.packed(setting, &values);
+    (lost(setting, &values, &other.restored(setting, &packed, values.len())), all)
 }
 
 pub fn lost<P: Value>(setting: Setting, values: &[P], restored: &[P]) -> Lost {

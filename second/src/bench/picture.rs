@@ -1,5 +1,6 @@
 //! Speed against size as a picture, from the lines of results.csv.
 
+use super::fields::FIELDS;
 use super::report::CSV_HEADER;
 use super::timing::{Operation, Who};
 use std::fmt::Write;
@@ -10,7 +11,7 @@ struct Point {
     operation: Operation,
     width: u32,
     mode: u32,
-    field: char,
+    field: String,
     /// Packed bytes by raw bytes.
     share: f64,
     megabytes_a_second: f64,
@@ -42,7 +43,7 @@ fn point(line: &str) -> Option<Point> {
         operation: Operation::ALL.iter().copied().find(|o| o.name() == operation)?,
         width: width.parse().ok()?,
         mode: mode.parse().ok()?,
-        field: field.chars().next()?,
+        field: field.to_string(),
         share: packed / raw,
         megabytes_a_second: raw / 1e6 / median,
     })
@@ -102,13 +103,14 @@ fn opening(svg: &mut String) {
         ),
     );
     text(svg, 75.0, 34.0, "font-size=\"20\" font-weight=\"bold\"", "Speed against size");
-    let about = "Fields of 1,048,576 values, medians. Upward is faster, leftward is smaller.";
+    let about = "Fields of up to 1,048,576 values, medians. Upward is faster, leftward is smaller.";
     text(svg, 75.0, 56.0, "fill=\"#555\"", about);
 }
 
 impl Panel {
     fn x(&self, share: f64) -> f64 {
-        self.left + PANEL_WIDTH * (share - LEAST_SHARE) / (LARGEST_SHARE - LEAST_SHARE)
+        let place = (share - LEAST_SHARE) / (LARGEST_SHARE - LEAST_SHARE);
+        self.left + PANEL_WIDTH * place.clamp(0.0, 1.0)
     }
 
     fn y(&self, speed: f64) -> f64 {
@@ -128,10 +130,11 @@ impl Panel {
                 mark(svg, who, point.width == 64, x, y);
             }
         }
+        let files = files_of(points);
         for point in points.iter().filter(here).filter(|point| point.who == Who::Ours) {
             let (x, y) = (self.x(point.share), self.y(point.megabytes_a_second));
             let attributes = format!("text-anchor=\"middle\" font-size=\"12\" {HALO}");
-            text(svg, x, y + 16.0, &attributes, &point.field.to_string());
+            text(svg, x, y + 16.0, &attributes, &label(&point.field, &files));
         }
     }
 
@@ -200,8 +203,8 @@ fn line(svg: &mut String, from: (f64, f64), to: (f64, f64), attributes: &str) {
 fn colour(who: Who) -> &'static str {
     match who {
         Who::Ours => "#0072b2",
-        Who::Plain => "#e69f00",
         Who::Tuned => "#56b4e9",
+        Who::PlainC => "#e69f00",
         Who::Lz4 => "#009e73",
         Who::Zstd => "#cc79a7",
         Who::Zfp => "#d55e00",
@@ -212,8 +215,8 @@ fn colour(who: Who) -> &'static str {
 /// A shape for each compressor, filled for width 64.
 fn mark(svg: &mut String, who: Who, filled: bool, x: f64, y: f64) {
     let corners: &[(f64, f64)] = match who {
-        Who::Plain => &[(-5.5, 0.0), (0.0, -5.5), (5.5, 0.0), (0.0, 5.5)],
         Who::Tuned => &[(-5.5, -5.5), (5.5, 0.0), (-5.5, 5.5)],
+        Who::PlainC => &[(-5.5, 0.0), (0.0, -5.5), (5.5, 0.0), (0.0, 5.5)],
         Who::Lz4 => &[(-5.5, 4.5), (0.0, -5.5), (5.5, 4.5)],
         Who::Zstd => &[(-4.5, -4.5), (4.5, -4.5), (4.5, 4.5), (-4.5, 4.5)],
         Who::Zfp => &[(-5.5, -4.5), (5.5, -4.5), (0.0, 5.5)],
@@ -245,7 +248,31 @@ fn legend(svg: &mut String, points: &[Point]) {
         text(svg, x + 27.0, y + 4.5, "", who.name());
         x += 150.0;
     }
-    let key = "Hollow: width 32; filled: width 64. Below Gwizdorad's marks the field: s smooth, \
-               c calm, n noisy, h half-dry.";
-    text(svg, 75.0, HEIGHT - 20.0, "fill=\"#555\"", key);
+    let files = files_of(points);
+    let names = FIELDS.iter().map(|field| field.name()).chain(files.iter().copied());
+    let names: Vec<String> = names.map(|name| format!("{} {name}", label(name, &files))).collect();
+    let key = format!(
+        "Hollow: width 32; filled: width 64. Below Gwizdorad's marks the field: {}.",
+        names.join(", ")
+    );
+    text(svg, 75.0, HEIGHT - 20.0, "fill=\"#555\"", &key);
+}
+
+/// The fields that are no model's, each once.
+fn files_of(points: &[Point]) -> Vec<&str> {
+    let mut files = Vec::new();
+    for name in points.iter().map(|point| point.field.as_str()) {
+        if !files.contains(&name) && FIELDS.iter().all(|field| field.name() != name) {
+            files.push(name);
+        }
+    }
+    files
+}
+
+/// What stands below a mark: a model field's first letter, or a file's number.
+fn label(name: &str, files: &[&str]) -> String {
+    match files.iter().position(|&file| file == name) {
+        Some(index) => (index + 1).to_string(),
+        None => name.chars().take(1).collect(),
+    }
 }

@@ -8,7 +8,7 @@ use super::rows::{Row, PROBES};
 use super::timing::{Operation, Timing, Who};
 use std::fmt::Write;
 
-const BOTH: [Who; 2] = [Who::Ours, Who::Plain];
+const GROWING: [Who; 2] = [Who::Ours, Who::Tuned];
 const OTHERS: [Who; 3] = [Who::Lz4, Who::Zstd, Who::Zfp];
 const TIMED: [Operation; 6] = [
     Operation::Pack,
@@ -49,14 +49,14 @@ pub fn csv(rows: &[Row]) -> String {
     let mut text = format!("{CSV_HEADER}\n");
     for row in rows {
         for timing in &row.timings {
-            let raw = raw_bytes(row.width);
+            let raw = raw_bytes(row);
             let packed = size_of(row, timing.who).unwrap_or(raw);
             // Probes are timed many at once.
             let runs = if timing.operation == Operation::Probe { PROBES as f64 } else { 1.0 };
             let (median, minimum) = (timing.median / runs, timing.minimum / runs);
             let (who, operation) = (timing.who.name(), timing.operation.name());
             let Row { width, mode, field, .. } = row;
-            let _ = write!(text, "{width},{mode},{},{who},{operation},", field.name());
+            let _ = write!(text, "{width},{mode},{field},{who},{operation},");
             add(&mut text, format_args!("{raw},{packed},{median:e},{minimum:e}"));
         }
     }
@@ -84,8 +84,8 @@ fn add(text: &mut String, line: std::fmt::Arguments) {
     let _ = writeln!(text, "{line}");
 }
 
-fn raw_bytes(width: u32) -> usize {
-    VALUES * width as usize / 8
+fn raw_bytes(row: &Row) -> usize {
+    row.n * row.width as usize / 8
 }
 
 fn per_value(seconds: f64) -> f64 {
@@ -101,16 +101,16 @@ fn timing_of(timings: &[Timing], who: Who, operation: Operation) -> Option<&Timi
 }
 
 fn megabytes_a_second(row: &Row, seconds: f64) -> f64 {
-    raw_bytes(row.width) as f64 / 1e6 / seconds
+    raw_bytes(row) as f64 / 1e6 / seconds
 }
 
 // ------------------------------------------------------------------ tables
 
 /// Each operation's speed, and as a share of a baseline's.
-pub fn beside(baseline: Who, rows: &[Row]) -> String {
+pub fn beside(baseline: Who, title: &str, rows: &[Row]) -> String {
     let mut text = format!(
-        "MB (10^6 raw bytes) a second, or ns a probe; in brackets the share of the speed of {}, by \
-         medians and by minima.\n\n\
+        "Beside {title}. MB (10^6 raw bytes) a second, or ns a probe; in brackets the share of the \
+         speed of {}, by medians and by minima.\n\n\
          | width | mode | field | size | pack | pack, exact room | length | check | unpack | probe \
          | memcpy |\n|---|---|---|---|---|---|---|---|---|---|---|\n",
         baseline.name()
@@ -121,8 +121,7 @@ pub fn beside(baseline: Who, rows: &[Row]) -> String {
         let copy = timing_of(&row.timings, Who::Memcpy, Operation::Copy);
         let copy = copy.map_or(0.0, |copy| megabytes_a_second(row, copy.median));
         let size = share(row, Who::Ours);
-        let Row { width, mode, field, .. } = row;
-        let (field, cells) = (field.name(), cells.join(" | "));
+        let (Row { width, mode, field, .. }, cells) = (row, cells.join(" | "));
         add(
             &mut text,
             format_args!("| {width} | {mode} | {field} | {size} | {cells} | {copy:.0} |"),
@@ -146,7 +145,7 @@ fn cell(row: &Row, baseline: Who, operation: Operation) -> String {
 
 fn share(row: &Row, who: Who) -> String {
     let size = size_of(row, who).unwrap_or(0);
-    format!("{:.1} %", 100.0 * size as f64 / raw_bytes(row.width) as f64)
+    format!("{:.1} %", 100.0 * size as f64 / raw_bytes(row) as f64)
 }
 
 /// Sizes and speeds beside the other compressors that were found.
@@ -163,8 +162,7 @@ pub fn beside_others(rows: &[Row]) -> String {
     add(&mut text, format_args!("|---|---|---|{}", "---|".repeat(names.len())));
     for row in rows {
         let cells: Vec<String> = columns.iter().map(|&who| size_and_speeds(row, who)).collect();
-        let Row { width, mode, field, .. } = row;
-        let (field, cells) = (field.name(), cells.join(" | "));
+        let (Row { width, mode, field, .. }, cells) = (row, cells.join(" | "));
         add(&mut text, format_args!("| {width} | {mode} | {field} | {cells} |"));
     }
     text + "\n"
@@ -242,7 +240,7 @@ pub fn growing(growths: &[Growth]) -> String {
     add(&mut text, format_args!(" factor |\n|---|---|---|---|{columns}---|"));
     for growth in growths {
         for operation in [Operation::Pack, Operation::Unpack] {
-            for who in BOTH {
+            for who in GROWING {
                 add(&mut text, format_args!("{}", growth_line(growth, who, operation)));
             }
         }

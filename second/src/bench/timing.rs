@@ -52,7 +52,8 @@ macro_rules! named {
 
 named!(
     /// Whose code is timed.
-    Who: Ours "Gwizdorad", Plain "plain Rust", Tuned "tuned Rust", Memcpy "memcpy", Lz4 "lz4", Zstd "zstd", Zfp "zfp"
+    Who: Ours "Gwizdorad", Tuned "tuned Rust", PlainC "plain C", Memcpy "memcpy", Lz4 "lz4",
+    Zstd "zstd", Zfp "zfp"
 );
 named!(
     /// What it does. Pack has room for anything, `PackExact` for its bytes.

@@ -9,11 +9,12 @@
 #[path = "../ffi.rs"]
 mod ffi;
 
-use ffi::Linked;
-use second::compare::call::{Call, Values};
+use ffi::{Library, NumberRules};
+use second::compare::call::Call;
+use second::compare::operations::by_operations;
 use second::compare::outcome::{lend, Element, Outcome};
 use second::compare::{run, Extent, Options};
-use second::numbers::{Width, WIDTH_32};
+use second::numbers::WIDTH_32;
 use std::process::ExitCode;
 
 const USAGE: &str = "usage: compare [--quick | --long] [--seed N] [--trace]";
@@ -47,43 +48,26 @@ fn options_of(mut arguments: impl Iterator<Item = String>) -> Option<Options> {
 
 /// What the linked library makes of a call.
 fn by_library(call: &Call) -> Outcome {
+    by_operations::<Library>(call).unwrap_or_else(|| by_number_rules(call))
+}
+
+fn by_number_rules(call: &Call) -> Outcome {
     match *call {
-        Call::Pack { level, mode, k, values, room } => lend(room, |buffer, room| match values {
-            Values::Singles(values) => Linked::pack(level, mode, k, values, buffer, room),
-            Values::Doubles(values) => Linked::pack(level, mode, k, values, buffer, room),
-        }),
-        Call::Length { level, mode, k, values } => Outcome::bare(match values {
-            Values::Singles(values) => Linked::length(level, mode, k, values),
-            Values::Doubles(values) => Linked::length(level, mode, k, values),
-        }),
-        Call::Check { level, stream } => Outcome::bare(ffi::check(level, stream)),
         Call::Bound { width, tolerance } => Outcome::bare(ffi::bound(width, tolerance)),
-        Call::Unpack { width, .. }
-        | Call::Probe { width, .. }
-        | Call::LosslessCode { width, .. }
+        Call::LosslessCode { width, .. }
         | Call::LosslessRestored { width, .. }
         | Call::ToleranceCode { width, .. }
-        | Call::ToleranceRestored { width, .. } => by_library_of_width(width, call),
+        | Call::ToleranceRestored { width, .. }
+            if width == WIDTH_32 =>
+        {
+            by_number_rules_of::<u32>(call)
+        }
+        _ => by_number_rules_of::<u64>(call),
     }
 }
 
-fn by_library_of_width(width: Width, call: &Call) -> Outcome {
-    if width == WIDTH_32 {
-        by_library_of::<u32>(call)
-    } else {
-        by_library_of::<u64>(call)
-    }
-}
-
-/// The calls in which the width stands in a name alone.
-fn by_library_of<P: Linked + Element + Into<u64>>(call: &Call) -> Outcome {
+fn by_number_rules_of<P: NumberRules + Element + Into<u64>>(call: &Call) -> Outcome {
     match *call {
-        Call::Unpack { level, stream, room, .. } => {
-            lend(room, |buffer, room| P::unpack(level, stream, buffer, room))
-        }
-        Call::Probe { level, stream, index, .. } => {
-            lend(1, |buffer, room| P::probe(level, stream, index, buffer, room))
-        }
         Call::LosslessCode { pattern, .. } => {
             Outcome::bare(P::lossless_code(P::cut(pattern)).into())
         }

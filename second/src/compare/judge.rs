@@ -133,6 +133,10 @@ impl<'a> Judge<'a> {
         self.failed += failed;
     }
 
+    pub fn nothing_failed(&self) -> bool {
+        self.failed == 0
+    }
+
     /// Prints how often each operation was answered with each number, and the
     /// totals as the last line. Answers whether nothing failed.
     pub fn finish(mut self) -> bool {

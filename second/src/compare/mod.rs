@@ -1,7 +1,8 @@
 //! The comparison harness: puts many calls to the reference and to another
 //! library, and compares answers and every element of the lent outputs.
 //!
-//! * [`call`]: one call with its whole input; [`outcome`]: what it leaves.
+//! * [`call`]: one call with its whole input; [`outcome`]: what it leaves;
+//!   [`operations`]: what an implementation offers, and makes of a call.
 //! * [`judge`]: compares and counts; `shrink`: shortens a differing input.
 //! * [`random`]: the seeded generator of patterns and lists.
 //! * `known`, `rules`, `lists`, `orders`, `damage`, `tables`, `groups`: the
@@ -12,6 +13,7 @@ pub mod call;
 pub mod judge;
 pub mod known;
 pub mod listings;
+pub mod operations;
 pub mod outcome;
 pub mod random;
 pub mod reference;
@@ -58,9 +60,9 @@ pub struct Options {
     pub trace: bool,
 }
 
-type Section = fn(&mut Judge, &mut XorShift, Extent);
+type Section = (&'static str, fn(&mut Judge, &mut XorShift, Extent));
 
-const SECTIONS: [(&str, Section); 21] = [
+const SECTIONS: [Section; 21] = [
     ("known values", known::known_values),
     ("lossless codes", rules::lossless_codes),
     ("tolerance codes", rules::tolerance_codes),
@@ -84,14 +86,34 @@ const SECTIONS: [(&str, Section); 21] = [
     ("random damage", damage::random_damage),
 ];
 
+const BRIEF_SECTIONS: [Section; 3] = [
+    ("lists for every k", lists::every_k),
+    ("random lists", lists::random_lists),
+    ("random damage", damage::random_damage),
+];
+
 /// Runs every section and writes what was compared; answers whether nothing
 /// failed.
 pub fn run(options: &Options, library: Library, out: &mut dyn Write) -> bool {
     let mut judge = Judge::new(library, out, options.seed, options.trace);
-    for (usage, (name, section)) in (1..).zip(SECTIONS) {
+    run_sections(&mut judge, options, &SECTIONS);
+    judge.finish()
+}
+
+/// Puts some ten thousand calls with random lists and damaged streams to an
+/// implementation of the operations, in a fraction of a second; writes how it
+/// differs from the reference, and answers whether it never does.
+pub fn run_briefly(library: Library, out: &mut dyn Write) -> bool {
+    let options = Options { seed: 1, extent: Extent::Quick, trace: false };
+    let mut judge = Judge::new(library, out, options.seed, options.trace);
+    run_sections(&mut judge, &options, &BRIEF_SECTIONS);
+    judge.nothing_failed()
+}
+
+fn run_sections(judge: &mut Judge, options: &Options, sections: &[Section]) {
+    for (usage, (name, section)) in (1..).zip(sections) {
         judge.begin(name);
-        section(&mut judge, &mut XorShift::seeded(options.seed, usage), options.extent);
+        section(judge, &mut XorShift::seeded(options.seed, usage), options.extent);
         judge.end();
     }
-    judge.finish()
 }

@@ -1,12 +1,13 @@
 //! The benchmark's parts that need no linked library.
 
 use second::bench::codec::{Setting, SETTINGS};
-use second::bench::fields::{special_values, Cell, Field, FIELDS, VALUES};
+use second::bench::fields::{special_values, Cell, Field, Sample, FIELDS, VALUES};
 use second::bench::others::{lost, Lost};
 use second::bench::picture::picture;
 use second::bench::report::CSV_HEADER;
 use second::bench::timing::{timed, Contender, Operation, Space, Watch, Who};
 use std::cell::Cell as Counter;
+use std::path::PathBuf;
 
 fn share_of(values: &[u32], holds: impl Fn(u32) -> bool) -> f64 {
     values.iter().filter(|&&value| holds(value)).count() as f64 / VALUES as f64
@@ -24,6 +25,42 @@ fn fields_are_repeatable_and_as_named() {
     assert_eq!(share_of(&Field::Noisy.values(), |value| value.kind() == 0), 1.0);
     let whole = |value: u32| value & 0xFF == 0;
     assert!(share_of(&Field::Smooth.values(), whole) < 0.01, "the last bits are noise");
+}
+
+/// A file of its own for each test, in the directory of the test programs.
+fn file_of(name: &str, bytes: &[u8]) -> PathBuf {
+    let path = PathBuf::from(env!("CARGO_TARGET_TMPDIR")).join(name);
+    std::fs::write(&path, bytes).unwrap();
+    path
+}
+
+#[test]
+fn a_file_of_raw_values_is_a_field() {
+    let path = file_of("raw, | values.f32", &[0, 0, 128, 63, 1, 0, 0, 128]);
+    let singles = Sample::<u32>::of_file(&path).unwrap();
+    assert_eq!(
+        (singles.name.as_str(), singles.values),
+        ("raw____values.f32", vec![0x3F80_0000, 0x8000_0001])
+    );
+    let doubles = Sample::<u64>::of_file(&path).unwrap();
+    assert_eq!(doubles.values, [0x8000_0001_3F80_0000]);
+}
+
+#[test]
+fn of_a_long_file_as_many_values_are_read_as_a_stream_holds() {
+    let path = file_of("long.f32", &vec![1; 4 * VALUES + 3]);
+    assert_eq!(Sample::<u32>::of_file(&path).unwrap().values, vec![0x0101_0101; VALUES]);
+}
+
+#[test]
+fn a_file_that_is_no_field_is_refused_with_what_to_do() {
+    let error_of = |path: &PathBuf| Sample::<u64>::of_file(path).err().unwrap();
+    let empty = error_of(&file_of("empty.f64", &[]));
+    assert!(empty.ends_with("empty.f64 is empty: name a file of one value or more"), "{empty}");
+    let ragged = error_of(&file_of("ragged.f64", &[0; 12]));
+    assert!(ragged.contains("12 bytes are no whole number of values of 8 bytes: give"), "{ragged}");
+    let absent = error_of(&PathBuf::from("no such file"));
+    assert!(absent.ends_with(": name a file that can be read"), "{absent}");
 }
 
 #[test]
@@ -55,7 +92,7 @@ fn every_contender_runs_once_a_round() {
     };
     let contenders = [
         Contender::new(Who::Ours, Operation::Pack, |_: &mut Space<u32>| count(&first)),
-        Contender::new(Who::Plain, Operation::Pack, |_: &mut Space<u32>| count(&second)),
+        Contender::new(Who::Tuned, Operation::Pack, |_: &mut Space<u32>| count(&second)),
     ];
     let mut space = Space { bytes: Vec::new(), values: Vec::new() };
     let timings = timed(&contenders, &mut space, Watch { rounds: 15, clock: || 1.5 });
@@ -67,9 +104,12 @@ fn every_contender_runs_once_a_round() {
 fn the_picture_is_drawn_from_results_alone() {
     let line = "32,0,smooth,Gwizdorad,pack,4194304,3600000,0.004,0.003";
     let copy = "32,0,smooth,memcpy,copy,4194304,4194304,0.0005,0.0004";
-    let svg = picture(&format!("{CSV_HEADER}\n{line}\n{copy}\n")).unwrap();
-    // One mark in a panel, and two in the legend.
-    assert_eq!(svg.matches("<circle").count(), 3);
+    let file = "32,0,sea.f32,Gwizdorad,pack,400,300,0.004,0.003";
+    let svg = picture(&format!("{CSV_HEADER}\n{line}\n{copy}\n{file}\n")).unwrap();
+    // Two marks in a panel, and two in the legend.
+    assert_eq!(svg.matches("<circle").count(), 4);
+    assert!(svg.contains("s smooth, c calm, n noisy, h half-dry, 1 sea.f32."), "{svg}");
+    assert!(svg.contains(">s</text>") && svg.contains(">1</text>"), "{svg}");
     assert!(svg.starts_with("<svg") && svg.ends_with("</svg>\n"));
     assert_eq!(picture("width,mode\n"), None);
     assert_eq!(picture(&format!("{CSV_HEADER}\n32,0,smooth\n")), None);

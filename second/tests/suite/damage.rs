@@ -2,7 +2,6 @@
 //! outputs stay untouched on refusal, and what is accepted is canonical.
 
 use crate::random::*;
-use second::plain::Tuned;
 use second::stream::{self, Probed};
 use second::{listing, plain, Answer, Refusal};
 use std::collections::BTreeMap;
@@ -25,7 +24,7 @@ fn unpacked_by_both<P: Bits>(level: u32, stream: &[u8], size: usize) -> (Answer,
     let mark = P::of_number(0x1357_9BDF);
     let (mut first, mut second) = (vec![mark; size], vec![mark; size]);
     let answer = stream::unpack(level, stream, &mut first);
-    assert_eq!(plain::unpack::<Tuned, _>(level, stream, &mut second), answer);
+    assert_eq!(plain::unpack(level, stream, &mut second), answer);
     assert!(first == second);
     let n = answer.unwrap_or(0) as usize;
     assert!(first[n..].iter().all(|&element| element == mark));
@@ -101,7 +100,7 @@ fn judge_width<P: Bits>(rng: &mut XorShift, level: u32, stream: &[u8], seen: &mu
 fn judge(rng: &mut XorShift, stream: &[u8], seen: &mut Seen) {
     let level = rng.one_of(&[10, 10, 10, 10, 9, 8, 7, 11]);
     let answer = stream::check(level, stream);
-    assert_eq!(plain::check::<Tuned>(level, stream), answer);
+    assert_eq!(plain::check(level, stream), answer);
     note(seen, answer);
     judge_width::<u32>(rng, level, stream, seen);
     judge_width::<u64>(rng, level, stream, seen);
@@ -121,7 +120,7 @@ fn some_stream(rng: &mut XorShift) -> Vec<u8> {
         let k = if mode == 0 { 0 } else { some_k(rng, P::WIDTH) };
         let values: Vec<P> = some_list(rng, k, n);
         let mut stream = vec![0; 30_000];
-        let length = plain::pack::<Tuned, _>(10, mode, k, &values, &mut stream).unwrap();
+        let length = plain::pack(10, mode, k, &values, &mut stream).unwrap();
         stream.truncate(length as usize);
         stream
     }
@@ -266,7 +265,7 @@ fn every_cut_is_refused() {
         for cut in 0..stream.len() {
             let answer = stream::check(10, &stream[..cut]);
             assert!(answer.is_err());
-            assert_eq!(plain::check::<Tuned>(10, &stream[..cut]), answer);
+            assert_eq!(plain::check(10, &stream[..cut]), answer);
             if round > 0 {
                 judge(rng, &stream[..cut], &mut seen);
             }
@@ -293,11 +292,11 @@ fn made_up_data() {
         for count in (0..n).step_by(32).map(|at| (n - at).min(32)) {
             let w = rng.below(width as u64 + 2) as u32; // one too wide at most
             data.push(w as u8);
-            let bits = count * w;
-            data.extend((0..bits.div_ceil(8)).map(|_| rng.next() as u8));
+            let (bytes, bits_left) = ((count * w).div_ceil(8), count * w % 8);
+            data.extend((0..bytes).map(|_| rng.next() as u8));
             // Mostly zero the padding, which random bytes seldom get right.
-            if bits % 8 != 0 && !rng.chance(6) {
-                *data.last_mut().unwrap() &= (1 << (bits % 8)) - 1;
+            if bits_left > 0 && !rng.chance(6) {
+                *data.last_mut().unwrap() &= (1 << bits_left) - 1;
             }
         }
         if rng.chance(12) {

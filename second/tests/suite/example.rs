@@ -1,7 +1,6 @@
 //! The 55-byte example, and the listing.
 
 use second::listing::listing;
-use second::plain::Tuned;
 use second::{plain, stream, Refusal};
 
 const VALUES: [u32; 3] = [0, 0x8000_0000, 1];
@@ -21,7 +20,7 @@ fn with_number(mut stream: Vec<u8>, place: usize, number: u32) -> Vec<u8> {
 
 #[test]
 fn packs_byte_for_byte() {
-    for pack in [stream::pack::<u32>, plain::pack::<Tuned, u32>] {
+    for pack in [stream::pack::<u32>, plain::pack::<u32>] {
         let mut output = [0xAA; 60];
         assert_eq!(pack(8, 0, 0, &VALUES, &mut output), Ok(55));
         assert_eq!(output[..55], example());
@@ -35,7 +34,7 @@ fn packs_byte_for_byte() {
 
 #[test]
 fn unpacks() {
-    for unpack in [stream::unpack::<u32>, plain::unpack::<Tuned, u32>] {
+    for unpack in [stream::unpack::<u32>, plain::unpack::<u32>] {
         let mut output = [7; 5];
         assert_eq!(unpack(8, &example(), &mut output), Ok(3));
         assert_eq!(output, [0, 0x8000_0000, 1, 7, 7]);
@@ -53,14 +52,14 @@ fn every_cut_and_every_addition_is_refused() {
         let number = if length < 48 { 5 } else { 8 };
         let cut = &whole[..length];
         assert_eq!(stream::check(10, cut), Err(Refusal::bare(number)));
-        assert_eq!(plain::check::<Tuned>(10, cut), Err(Refusal::bare(number)));
+        assert_eq!(plain::check(10, cut), Err(Refusal::bare(number)));
         assert_eq!(stream::unpack(10, cut, &mut [0u32; 3]), Err(Refusal::bare(number)));
         assert_eq!(listing(cut), format!("refused {number} detail 0\n"));
     }
     let mut longer = whole;
     longer.push(0);
     assert_eq!(stream::check(10, &longer), Err(Refusal::bare(9)));
-    assert_eq!(plain::check::<Tuned>(10, &longer), Err(Refusal::bare(9)));
+    assert_eq!(plain::check(10, &longer), Err(Refusal::bare(9)));
 }
 
 #[test]

@@ -1,82 +1,28 @@
-//! The comparison harness, tried on libraries made of the plain version and
-//! the reference. With a really linked one it is tried in `mock`.
+//! The comparison harness, tried on libraries made of the tuned version and
+//! the reference. With a really linked one it is tried in `mock`; plain C is
+//! put to it by the benchmark, which alone is linked with that.
 
+use second::bench::codec::Tuned;
 use second::compare::call::{Call, Values};
 use second::compare::judge::{Judge, Library};
-use second::compare::outcome::{answered, lend, lend_one, Lent, Outcome, MARGIN};
+use second::compare::operations::by_operations;
+use second::compare::outcome::{Lent, Outcome, MARGIN};
 use second::compare::random::XorShift;
 use second::compare::reference::by_reference;
 use second::compare::{run, Extent, Options};
-use second::numbers::{Width, WIDTH_32, WIDTH_64};
-use second::plain::{Plain, Style, Tuned};
-use second::{plain, Refusal};
-use std::cmp::Ordering;
+use second::numbers::WIDTH_64;
+use second::plain;
 
-/// The plain version where it has the operation, else the reference.
-fn by_plain<S: Style>(call: &Call) -> Outcome {
-    match *call {
-        Call::Pack { level, mode, k, values, room } => lend(room, |buffer, room| {
-            let output = &mut buffer[room];
-            answered(match values {
-                Values::Singles(values) => plain::pack::<S, _>(level, mode, k, values, output),
-                Values::Doubles(values) => plain::pack::<S, _>(level, mode, k, values, output),
-            })
-        }),
-        Call::Length { level, mode, k, values } => Outcome::bare(answered(match values {
-            Values::Singles(values) => plain::length::<S, _>(level, mode, k, values),
-            Values::Doubles(values) => plain::length::<S, _>(level, mode, k, values),
-        })),
-        Call::Check { level, stream } => Outcome::bare(answered(plain::check::<S>(level, stream))),
-        Call::Unpack { width, level, stream, room } if width == WIDTH_32 => {
-            lend(room, |buffer: &mut [u32], room| {
-                answered(plain::unpack::<S, _>(level, stream, &mut buffer[room]))
-            })
-        }
-        Call::Unpack { level, stream, room, .. } => lend(room, |buffer: &mut [u64], room| {
-            answered(plain::unpack::<S, _>(level, stream, &mut buffer[room]))
-        }),
-        Call::Probe { width, level, stream, index } => {
-            lend_one(width, probed_by_plain::<S>(width, level, stream, index))
-        }
-        _ => by_reference(call),
-    }
-}
-
-/// The kind (0 finite, 1 infinity, 2 not-a-number) and the pattern.
-fn probed_by_plain<S: Style>(
-    width: Width,
-    level: u32,
-    stream: &[u8],
-    index: u64,
-) -> Result<(u64, u64), Refusal> {
-    let pattern = if width == WIDTH_32 {
-        plain::probe::<S, u32>(level, stream, index)?.into()
-    } else {
-        plain::probe::<S, u64>(level, stream, index)?
-    };
-    let infinity = width.greatest_field() << width.fraction_bits();
-    let kind = match width.ordinal(pattern).cmp(&infinity) {
-        Ordering::Less => 0,
-        Ordering::Equal => 1,
-        Ordering::Greater => 2,
-    };
-    Ok((kind, pattern))
-}
-
-#[test]
-fn the_plain_version_passes_a_quick_run() {
-    passes_a_quick_run(&by_plain::<Plain>);
+/// The tuned version where it has the operation, else the reference.
+fn by_tuned(call: &Call) -> Outcome {
+    by_operations::<Tuned>(call).unwrap_or_else(|| by_reference(call))
 }
 
 #[test]
 fn the_tuned_version_passes_a_quick_run() {
-    passes_a_quick_run(&by_plain::<Tuned>);
-}
-
-fn passes_a_quick_run(library: Library) {
     let options = Options { seed: 2, extent: Extent::Quick, trace: false };
     let mut text = Vec::new();
-    let passed = run(&options, library, &mut text);
+    let passed = run(&options, &by_tuned, &mut text);
     let text = String::from_utf8(text).unwrap();
     assert!(passed, "{text}");
     let last = text.lines().last().unwrap();
@@ -137,7 +83,7 @@ fn a_differing_stream_is_packed_again_from_a_shorter_list() {
     let mut values: Vec<u64> = (1000..3000).collect();
     values[1700] = 9;
     let mut stream = vec![0; 20_000];
-    let length = plain::pack::<Tuned, _>(10, 0, 0, &values, &mut stream).unwrap() as usize;
+    let length = plain::pack(10, 0, 0, &values, &mut stream).unwrap() as usize;
     let stream = &stream[..length];
     let call = Call::Unpack { width: WIDTH_64, level: 10, stream, room: 2003 };
     let text = report_of(&loses_9, call);

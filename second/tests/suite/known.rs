@@ -1,8 +1,9 @@
 //! Every entry of "Known values" and of "Slips we have seen".
 
+#![allow(clippy::excessive_precision)] // 4194303.75 is a binary32 number as it stands
+
 use second::compare::known::LOSSLESS_32;
 use second::numbers::*;
-use second::plain::Tuned;
 use second::{plain, stream, Refusal};
 
 fn pattern(value: f32) -> u64 {
@@ -88,12 +89,12 @@ fn the_largest_magnitude_code_is_read_and_the_next_refused() {
         let refused = stream_of_code(2 * 905_969_664 + sign);
         let mut value = [7u32];
         assert_eq!(stream::check(9, &read), Ok(1));
-        assert_eq!(plain::check::<Tuned>(9, &read), Ok(1));
+        assert_eq!(plain::check(9, &read), Ok(1));
         assert_eq!(stream::unpack(9, &read, &mut value), Ok(1));
         assert_eq!(value, [0x7FFF_FFFF | sign << 31]);
         let ten = Refusal { number: 10, detail: 0 };
         assert_eq!(stream::check(9, &refused), Err(ten));
-        assert_eq!(plain::check::<Tuned>(9, &refused), Err(ten));
+        assert_eq!(plain::check(9, &refused), Err(ten));
         assert_eq!(stream::probe::<u32>(9, &refused, 0), stream::Probed::Refused(ten));
     }
 }
@@ -133,26 +134,26 @@ fn the_value_limit() {
     let most = vec![0u32; 1_048_576];
     let length = 48 + 4 * 1024 + 32 * 1024;
     assert_eq!(stream::length(8, 0, 0, &most), Ok(length));
-    assert_eq!(plain::length::<Tuned, _>(8, 0, 0, &most), Ok(length));
+    assert_eq!(plain::length(8, 0, 0, &most), Ok(length));
     let mut packed = vec![9; length as usize];
     assert_eq!(stream::pack(8, 0, 0, &most, &mut packed), Ok(length));
     assert_eq!(stream::check(8, &packed), Ok(1_048_576));
-    assert_eq!(plain::check::<Tuned>(8, &packed), Ok(1_048_576));
+    assert_eq!(plain::check(8, &packed), Ok(1_048_576));
 
     let more = vec![0u32; 1_048_577];
     let three = Err(Refusal::bare(3));
     assert_eq!(stream::length(8, 0, 0, &more), three);
     assert_eq!(stream::pack(8, 0, 0, &more, &mut packed), three);
-    assert_eq!(plain::length::<Tuned, _>(8, 0, 0, &more), three);
-    assert_eq!(plain::pack::<Tuned, _>(8, 0, 0, &more, &mut packed), three);
+    assert_eq!(plain::length(8, 0, 0, &more), three);
+    assert_eq!(plain::pack(8, 0, 0, &more, &mut packed), three);
 }
 
 #[test]
 fn lengths() {
     assert_eq!(stream::length::<u32>(8, 0, 0, &[]), Ok(48));
-    assert_eq!(plain::length::<Tuned, u32>(8, 0, 0, &[]), Ok(48));
+    assert_eq!(plain::length::<u32>(8, 0, 0, &[]), Ok(48));
     assert_eq!(stream::length(8, 0, 0, &[0u32; 1024]), Ok(84));
-    assert_eq!(plain::length::<Tuned, _>(8, 0, 0, &[0u32; 1024]), Ok(84));
+    assert_eq!(plain::length(8, 0, 0, &[0u32; 1024]), Ok(84));
     let mut packed = [0; 200];
     assert_eq!(stream::pack(8, 0, 0, &[0u32; 1025], &mut packed), Ok(48 + 8 + 33));
     assert_eq!(packed[28..32], [2, 0, 0, 0]);
@@ -168,11 +169,11 @@ fn slip_a_need_of_10_stops_level_9() {
     for level in [8, 9] {
         let seven = Refusal { number: 7, detail: 10 };
         assert_eq!(stream::check(level, packed), Err(seven));
-        assert_eq!(plain::check::<Tuned>(level, packed), Err(seven));
+        assert_eq!(plain::check(level, packed), Err(seven));
         assert_eq!(stream::unpack(level, packed, &mut [0u64]), Err(seven));
         assert_eq!(stream::probe::<u64>(level, packed, 0), stream::Probed::Refused(seven));
         assert_eq!(stream::length(level, 0, 0, &[1u64]), Err(Refusal::bare(2)));
-        assert_eq!(plain::length::<Tuned, _>(level, 0, 0, &[1u64]), Err(Refusal::bare(2)));
+        assert_eq!(plain::length(level, 0, 0, &[1u64]), Err(Refusal::bare(2)));
     }
     assert_eq!(stream::check(10, packed), Ok(1));
 }
@@ -228,6 +229,6 @@ fn slip_the_code_2_to_the_m_is_no_fault() {
     assert_eq!(stream::unpack(9, &packed[..length], &mut restored), Ok(1));
     assert_eq!(restored, [4_194_304f32.to_bits()]);
     restored = [0];
-    assert_eq!(plain::unpack::<Tuned, _>(9, &packed[..length], &mut restored), Ok(1));
+    assert_eq!(plain::unpack(9, &packed[..length], &mut restored), Ok(1));
     assert_eq!(restored, [4_194_304f32.to_bits()]);
 }

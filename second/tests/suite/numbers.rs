@@ -100,7 +100,7 @@ fn tolerance_codes_agree_with_plain() {
         for _ in 0..50 {
             let p = some_pattern(rng, WIDTH_64, k);
             assert_eq!(p.tolerance_code(bin), t.code(p));
-            let u = rng.next() % (t.largest_magnitude_code() + 1) >> rng.below(64);
+            let u = (rng.next() % (t.largest_magnitude_code() + 1)) >> rng.below(64);
             let code = 2 * u + rng.below(2);
             let pattern = t.restored(code).unwrap();
             assert_eq!(code.tolerance_pattern(bin), pattern);

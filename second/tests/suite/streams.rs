@@ -1,7 +1,6 @@
 //! Whole streams: round trips, levels, orders of refusals, untouched outputs.
 
 use crate::random::*;
-use second::plain::Tuned;
 use second::stream::{self, Probed};
 use second::{numbers, plain, Answer, Refusal};
 
@@ -21,7 +20,7 @@ fn need<P: Bits>(mode: u32) -> u32 {
 /// and answers the stream.
 fn packed_by_both<P: Bits>(level: u32, mode: u32, k: i32, values: &[P]) -> Vec<u8> {
     let length = stream::length(level, mode, k, values).unwrap() as usize;
-    assert_eq!(plain::length::<Tuned, _>(level, mode, k, values), Ok(length as u64));
+    assert_eq!(plain::length(level, mode, k, values), Ok(length as u64));
     let (n, c) = (values.len(), values.len().div_ceil(1024));
     let most = 48 + 4 * c + n.div_ceil(32) + n * P::WIDTH.bits() as usize / 8;
     assert!(length <= most);
@@ -31,7 +30,7 @@ fn packed_by_both<P: Bits>(level: u32, mode: u32, k: i32, values: &[P]) -> Vec<u
         let mut by_reference = vec![MARK; size];
         let mut by_plain = vec![MARK; size];
         let answer = stream::pack(level, mode, k, values, &mut by_reference);
-        assert_eq!(plain::pack::<Tuned, _>(level, mode, k, values, &mut by_plain), answer);
+        assert_eq!(plain::pack(level, mode, k, values, &mut by_plain), answer);
         assert!(by_reference == by_plain);
         if size < length {
             assert_eq!(answer, Err(Refusal { number: 4, detail: length as u32 }));
@@ -59,7 +58,7 @@ fn unpacks_to<P: Bits>(level: u32, stream: &[u8], values: &[P]) {
     let n = values.len();
     let mark = P::of_number(0x5A5A_5A5A);
     type Unpack<P> = fn(u32, &[u8], &mut [P]) -> Answer;
-    let both: [Unpack<P>; 2] = [stream::unpack::<P>, plain::unpack::<Tuned, P>];
+    let both: [Unpack<P>; 2] = [stream::unpack::<P>, plain::unpack::<P>];
     for unpack in both {
         for size in [n, n + 3] {
             let mut output = vec![mark; size];
@@ -75,7 +74,7 @@ fn unpacks_to<P: Bits>(level: u32, stream: &[u8], values: &[P]) {
         }
     }
     assert_eq!(stream::check(level, stream), Ok(n as u64));
-    assert_eq!(plain::check::<Tuned>(level, stream), Ok(n as u64));
+    assert_eq!(plain::check(level, stream), Ok(n as u64));
 }
 
 /// What probe must tell of a pattern, by the language's own floats.
@@ -146,10 +145,10 @@ fn the_largest_lists() {
         let length = stream::length(10, mode, k, &values).unwrap() as usize;
         let (mut first, mut second) = (vec![MARK; length], vec![MARK; length]);
         assert_eq!(stream::pack(10, mode, k, &values, &mut first), Ok(length as u64));
-        assert_eq!(plain::pack::<Tuned, _>(10, mode, k, &values, &mut second), Ok(length as u64));
+        assert_eq!(plain::pack(10, mode, k, &values, &mut second), Ok(length as u64));
         assert!(first == second);
         let mut output = vec![P::of_number(1); values.len()];
-        assert_eq!(plain::unpack::<Tuned, _>(10, &first, &mut output), Ok(1_048_576));
+        assert_eq!(plain::unpack(10, &first, &mut output), Ok(1_048_576));
         assert!(output == expected(mode, k, &values));
         output.fill(P::of_number(1));
         assert_eq!(stream::unpack(10, &first, &mut output), Ok(1_048_576));
@@ -176,6 +175,7 @@ fn pack_and_length_refuse_by_the_table() {
         (n > 1_048_576).then_some(3)
     }
     fn try_all<P: Bits>() {
+        #[allow(clippy::useless_vec)] // too long for the stack
         let many = vec![P::of_number(0); 1_048_577];
         let ks = [i32::MIN, -1076, -1075, -151, -150, -1, 0, 1, 103, 104, 970, 971, i32::MAX];
         for level in LEVELS {
@@ -188,15 +188,12 @@ fn pack_and_length_refuse_by_the_table() {
                         assert_eq!(packed.err(), refusal.map(Refusal::bare));
                         let length = stream::length(level, mode, k, values);
                         assert_eq!(length, packed);
-                        assert_eq!(plain::length::<Tuned, _>(level, mode, k, values), length);
+                        assert_eq!(plain::length(level, mode, k, values), length);
                         if refusal.is_some() {
                             assert_eq!(output, [MARK; 70]);
                         }
                         let mut again = [MARK; 70];
-                        assert_eq!(
-                            plain::pack::<Tuned, _>(level, mode, k, values, &mut again),
-                            packed
-                        );
+                        assert_eq!(plain::pack(level, mode, k, values, &mut again), packed);
                         assert_eq!(output, again);
                     }
                 }
@@ -235,11 +232,11 @@ fn readers_refuse_in_their_orders() {
             _ => 0,
         };
         let checked = stream::check(level, stream);
-        assert_eq!(plain::check::<Tuned>(level, stream), checked);
+        assert_eq!(plain::check(level, stream), checked);
         let unpacked = stream::unpack(level, stream, &mut vec![0u32; room]);
-        assert_eq!(plain::unpack::<Tuned, _>(level, stream, &mut vec![0u32; room]), unpacked);
+        assert_eq!(plain::unpack(level, stream, &mut vec![0u32; room]), unpacked);
         let other = stream::unpack(level, stream, &mut [0u64; 0]);
-        assert_eq!(plain::unpack::<Tuned, _>(level, stream, &mut [0u64; 0]), other);
+        assert_eq!(plain::unpack(level, stream, &mut [0u64; 0]), other);
         [
             number(checked),
             number(unpacked),
@@ -332,7 +329,7 @@ fn header_rules() {
                 _ => Err(Refusal::bare(8)),
             };
             let found = stream::check(10, &stream);
-            assert_eq!(plain::check::<Tuned>(10, &stream), found);
+            assert_eq!(plain::check(10, &stream), found);
             assert_eq!(found, answer, "number {place} set to {other}");
         }
     }
@@ -351,7 +348,7 @@ fn side_parts() {
         }
         stream.resize(stream.len() + bytes, 0xEE);
         let answer = stream::check(8, &stream);
-        assert_eq!(plain::check::<Tuned>(8, &stream), answer);
+        assert_eq!(plain::check(8, &stream), answer);
         answer.map_err(|refusal| (refusal.number, refusal.detail))
     };
     let nine = Err((9, 0));
@@ -380,7 +377,7 @@ fn side_parts() {
     none.push(0);
     none[44] = 49;
     assert_eq!(stream::check(8, &none), Err(Refusal::bare(9)));
-    assert_eq!(plain::check::<Tuned>(8, &none), Err(Refusal::bare(9)));
+    assert_eq!(plain::check(8, &none), Err(Refusal::bare(9)));
 }
 
 #[test]
@@ -394,7 +391,7 @@ fn chunk_table_rules() {
             place.copy_from_slice(&start.to_le_bytes());
         }
         let answer = stream::check(8, &stream);
-        assert_eq!(plain::check::<Tuned>(8, &stream), answer);
+        assert_eq!(plain::check(8, &stream), answer);
         answer.map_err(|refusal| (refusal.number, refusal.detail))
     };
     let nine = Err((9, 0));
@@ -413,5 +410,5 @@ fn chunk_table_rules() {
     let header = [1, 8, 8, 32, 0, 0, 1, 1, 48, 52, 0, 52, 0u32];
     let empty: Vec<u8> = header.iter().flat_map(|n| n.to_le_bytes()).collect();
     assert_eq!(stream::check(8, &empty), Err(Refusal::bare(9)));
-    assert_eq!(plain::check::<Tuned>(8, &empty), Err(Refusal::bare(9)));
+    assert_eq!(plain::check(8, &empty), Err(Refusal::bare(9)));
 }

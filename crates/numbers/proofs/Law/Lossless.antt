@@ -178,17 +178,34 @@ module _ (W m : ℕ) (room : m + 2 ≤ W) where
 
   -- ---- the steps without a branch: what is added or subtracted is a product with 0 or 1
 
-  -- `less` is r less a unit; where it is in the lower half, `d` is that too and ends in the upper half, and where not, `d` is r and ends in the lower
-  pub stepped-units : (r less d : ℕ) → less < 2 ^ W → (less + 2 ^ (m + 1)) % 2 ^ W ≡ r
-      → d < 2 ^ W → (d + (1 - less / 2 ^ (W - 1)) * 2 ^ (m + 1)) % 2 ^ W ≡ r
-      → d % 2 ^ (W - 1) + (1 - less / 2 ^ (W - 1)) * 2 ^ (W - 1) ≡ stepped W m r
-  stepped-units r less d l e k f = go (le-or-lt (2 ^ (W - 1)) less) (le-or-lt (2 ^ W) (less + 2 ^ (m + 1)))
-    where
-      half-once : 2 ^ (W - 1) ≤ less → less / 2 ^ (W - 1) ≡ 1
-      half-once g = div-eq-of-lt-le (2 ^ (W - 1)) (omega arith) (omega (arith, H-twice))
+  half-once : (n : ℕ) → n < 2 ^ W → 2 ^ (W - 1) ≤ n → n / 2 ^ (W - 1) ≡ 1
+  half-once n l g = div-eq-of-lt-le (2 ^ (W - 1)) (omega arith) (omega (arith, H-twice))
 
+  -- half of 2^W taken off a number of the lower half, or nothing
+  half-off : (less x y : ℕ) → less < 2 ^ W → x < 2 ^ W → y < 2 ^ (W - 1) → (x + (1 - less / 2 ^ (W - 1)) * 2 ^ (W - 1)) % 2 ^ W ≡ y
+      → x ≡ y + (1 - less / 2 ^ (W - 1)) * 2 ^ (W - 1)
+  half-off less x y l k h e = go (le-or-lt (2 ^ (W - 1)) less)
+    where
+      go : (2 ^ (W - 1) ≤ less) ⊎ (less < 2 ^ (W - 1)) → x ≡ y + (1 - less / 2 ^ (W - 1)) * 2 ^ (W - 1)
+      go (inl g) =
+          rw (half-once less l g, zero-mul (2 ^ (W - 1)), add-zero y)
+          (sym (mod-eq-of-lt k) ∙ rw (half-once less l g, zero-mul (2 ^ (W - 1)), add-zero x) at e)
+      go (inr g) =
+          rw (div-eq-of-lt g, one-mul (2 ^ (W - 1)))
+          (wraps-minus (2 ^ W) y (2 ^ (W - 1)) x k (omega (arith, H-twice)) (rw (div-eq-of-lt g, one-mul (2 ^ (W - 1))) at e)
+          ∙ minus-wraps (2 ^ W) y (2 ^ (W - 1)) h (omega (arith, H-twice))
+          ∙ (let q : y + (2 ^ W - 2 ^ (W - 1)) ≡ y + 2 ^ (W - 1) = omega (arith, H-twice) in q))
+
+  -- `less` is r less a unit; where it is in the lower half, `d` is that too and x is in the upper half, and where not, `d` is r and x in the lower
+  pub stepped-units : (r less d x : ℕ) → less < 2 ^ W → (less + 2 ^ (m + 1)) % 2 ^ W ≡ r
+      → d < 2 ^ W → (d + (1 - less / 2 ^ (W - 1)) * 2 ^ (m + 1)) % 2 ^ W ≡ r
+      → x < 2 ^ W → (x + (1 - less / 2 ^ (W - 1)) * 2 ^ (W - 1)) % 2 ^ W ≡ d % 2 ^ (W - 1)
+      → x ≡ stepped W m r
+  stepped-units r less d x l e k f b off =
+      half-off less x (d % 2 ^ (W - 1)) l b (mod-lt d (pow-pos (W - 1))) off ∙ go (le-or-lt (2 ^ (W - 1)) less) (le-or-lt (2 ^ W) (less + 2 ^ (m + 1)))
+    where
       keeps-unit : 2 ^ (W - 1) ≤ less → d ≡ r
-      keeps-unit g = sym (mod-eq-of-lt k) ∙ rw (half-once g, zero-mul (2 ^ (m + 1)), add-zero d) at f
+      keeps-unit g = sym (mod-eq-of-lt k) ∙ rw (half-once less l g, zero-mul (2 ^ (m + 1)), add-zero d) at f
 
       loses-unit : less < 2 ^ (W - 1) → d ≡ less
       loses-unit g =
@@ -199,11 +216,11 @@ module _ (W m : ℕ) (room : m + 2 ≤ W) where
           → d % 2 ^ (W - 1) + (1 - less / 2 ^ (W - 1)) * 2 ^ (W - 1) ≡ stepped W m r
       go (inl g) (inl x) =
           let q : r ≡ less + 2 ^ (m + 1) - 2 ^ W = sym e ∙ mod-once (less + 2 ^ (m + 1)) (2 ^ W) x (omega (arith, F≤H, H-twice)) in
-          rw (half-once g, zero-mul (2 ^ (W - 1)), add-zero (d % 2 ^ (W - 1)), keeps-unit g)
+          rw (half-once less l g, zero-mul (2 ^ (W - 1)), add-zero (d % 2 ^ (W - 1)), keeps-unit g)
           (mod-eq-of-lt (omega (arith, F≤H)) ∙ sym (stepped-zero r (omega arith)))
       go (inl g) (inr x) =
           let q : r ≡ less + 2 ^ (m + 1) = sym e ∙ mod-eq-of-lt x in
-          rw (half-once g, zero-mul (2 ^ (W - 1)), add-zero (d % 2 ^ (W - 1)), keeps-unit g)
+          rw (half-once less l g, zero-mul (2 ^ (W - 1)), add-zero (d % 2 ^ (W - 1)), keeps-unit g)
           (mod-once r (2 ^ (W - 1)) (omega arith) (omega (arith, H-twice)) ∙ sym (stepped-high r (omega arith) (omega arith)))
       go (inr g) x =
           let q : r ≡ less + 2 ^ (m + 1) = sym e ∙ mod-eq-of-lt (omega (arith, F≤H, H-twice)) in
@@ -239,15 +256,12 @@ module _ (W m : ℕ) (room : m + 2 ≤ W) where
       no-half : s < 2 ^ (W - 1) → s / 2 ^ (W - 1) * 2 ^ (m + 1) ≡ 0
       no-half g = ap (λ (q : ℕ). q * 2 ^ (m + 1)) (div-eq-of-lt g) ∙ zero-mul (2 ^ (m + 1))
 
-      half-once : 2 ^ (W - 1) ≤ s → s / 2 ^ (W - 1) ≡ 1
-      half-once g = div-eq-of-lt-le (2 ^ (W - 1)) (omega arith) (omega (arith, H-twice))
-
       go : (2 ^ (m + 1) ≤ s) ⊎ (s < 2 ^ (m + 1)) → (2 ^ (W - 1) ≤ s) ⊎ (s < 2 ^ (W - 1))
           → plus W (plus W s (s / 2 ^ (W - 1) * 2 ^ (m + 1))) (someUnit s * 2 ^ (W - 1)) ≡ unstepped W m s
       go (inr z) g =
           rw (no-half (omega (arith, F≤H)), plus-zero s h, some-zero s z, zero-mul (2 ^ (W - 1)), plus-zero s h) (sym (unstepped-zero s z))
       go (inl a) (inl g) =
-          rw (half-once g, some-one s a h, one-mul (2 ^ (m + 1)), one-mul (2 ^ (W - 1)), quotient-some s (2 ^ (m + 1)) (pow-pos (m + 1)) a, le-leb (2 ^ (W - 1)) s g)
+          rw (half-once s h g, some-one s a h, one-mul (2 ^ (m + 1)), one-mul (2 ^ (W - 1)), quotient-some s (2 ^ (m + 1)) (pow-pos (m + 1)) a, le-leb (2 ^ (W - 1)) s g)
       go (inl a) (inr g) =
           rw (no-half g, plus-zero s h, some-one s a h, one-mul (2 ^ (W - 1)), quotient-some s (2 ^ (m + 1)) (pow-pos (m + 1)) a, lt-leb (2 ^ (W - 1)) s g)
 

@@ -17,17 +17,18 @@ mul-wrapping-sub-u64 c = search needs
 wrapping-sub-u64-requires-2 : tie.Need-wrapping-sub-u64-requires-2
 wrapping-sub-u64-requires-2 c κs = search needs
 
-mul-result : tie.Need-mul-result
-mul-result c = search needs
+mul-wrapping-sub-u64-2 : tie.Need-mul-wrapping-sub-u64-2
+mul-wrapping-sub-u64-2 c = search needs
 
-add-result : tie.Need-add-result
-add-result c = search needs
+wrapping-sub-u64-requires-3 : tie.Need-wrapping-sub-u64-requires-3
+wrapping-sub-u64-requires-3 c κs = search needs
 
 returns : tie.Need-returns
 returns c =
-    let less = c .before .wrapping-sub-u64 in
-    let d = c .wrapping-sub-u642 in
-    stepped-units 64 52 (lit≤ tt) (c .before .before .args .r) (less .result) (d .result) (less .ok) (less .ensures) (d .ok) (d .ensures)
+    let less = c .before .before .wrapping-sub-u64 in
+    let d = c .before .wrapping-sub-u642 in
+    let x = c .wrapping-sub-u643 in
+    stepped-units 64 52 (lit≤ tt) (c .before .before .before .args .r) (less .result) (d .result) (x .result) (less .ok) (less .ensures) (d .ok) (d .ensures) (x .ok) (x .ensures)
 
 pub stepped64-spec : {M : Type 1} → statement M
 stepped64-spec =
@@ -37,6 +38,6 @@ stepped64-spec =
     sub-low
     mul-wrapping-sub-u64
     wrapping-sub-u64-requires-2
-    mul-result
-    add-result
+    mul-wrapping-sub-u64-2
+    wrapping-sub-u64-requires-3
     returns)

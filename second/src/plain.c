@@ -1,0 +1,606 @@
+/*
+ * The same format in C, written for speed: a baseline of the benchmark, beside the tuned version in plain.rs.
+ *
+ * The functions answer as those of the library do: a refusal number above 32 bits of detail, or 0 above 32 bits of
+ * answer. A refused call writes nothing. Nothing is allocated, and nothing outside what is lent is read or written.
+ * The part for one width stands once, in the second half of this file, which includes itself for each width.
+ * Written for gcc and clang on x86-64.
+ */
+#ifndef WIDTH
+
+#include <stddef.h>
+#include <stdint.h>
+#include <string.h>
+
+/* Numbers are copied between words and the stream, which is little-endian. */
+#if __BYTE_ORDER__ != __ORDER_LITTLE_ENDIAN__
+#error "plain.c is written for little-endian machines"
+#endif
+
+enum {
+    MOST_VALUES = 1048576,
+    CHUNK = 1024,
+    GROUP = 32,
+    HEADER = 48,
+    /* The bytes of the largest group, and 8 more so that 9 bytes can be read from any place where a code begins. */
+    WINDOW = 8 * GROUP + 8
+};
+
+/* What the widths differ in, and its names where WIDTH is one of them. */
+typedef uint32_t word32;
+typedef uint64_t word64;
+typedef float float32;
+typedef double float64;
+enum { M32 = 23, LEAST_K32 = -150, GREATEST_K32 = 103 };
+enum { M64 = 52, LEAST_K64 = -1075, GREATEST_K64 = 970 };
+#define JOIN_NOW(a, b) a##b
+#define JOIN(a, b) JOIN_NOW(a, b)
+#define NAME(name) JOIN(name, WIDTH)
+#define WORD NAME(word)
+#define FLOAT NAME(float)
+#define BIN struct NAME(bin)
+#define M NAME(M)
+#define LEAST_K NAME(LEAST_K)
+#define HIGHEST ((WORD)1 << (WIDTH - 1)) /* the highest bit of a word */
+#define UNIT ((WORD)1 << (M + 1))        /* one unit of the exponent field of a rotated pattern */
+
+/* Put into its caller, where a mode or a width byte is a constant. */
+#define INLINED static inline __attribute__((always_inline))
+
+/* A step for each code of a group, from 0 to 31, and an arm for each width byte of a width. */
+#define FOR_8(STEP, i) STEP(i) STEP(i + 1) STEP(i + 2) STEP(i + 3) STEP(i + 4) STEP(i + 5) STEP(i + 6) STEP(i + 7)
+#define FOR_32(STEP) FOR_8(STEP, 0) FOR_8(STEP, 8) FOR_8(STEP, 16) FOR_8(STEP, 24)
+#define FOR_EACH_BYTE32(ARM) FOR_32(ARM) ARM(32)
+#define FOR_EACH_BYTE64(ARM) FOR_EACH_BYTE32(ARM) FOR_8(ARM, 33) FOR_8(ARM, 41) FOR_8(ARM, 49) FOR_8(ARM, 57)
+
+/* Hands on a refusal, if it is one: 0 is none. */
+#define TRY(call)                 \
+    do {                          \
+        uint64_t refusal = call;  \
+        if (refusal != 0)         \
+            return refusal;       \
+    } while (0)
+
+INLINED uint64_t refused(uint64_t number, uint64_t detail) { return (number << 32) | detail; }
+INLINED uint64_t refused_if(int broken, uint64_t number) { return broken ? refused(number, 0) : 0; }
+INLINED size_t least(size_t a, size_t b) { return a < b ? a : b; }
+INLINED size_t chunks_of(size_t n) { return (n + CHUNK - 1) / CHUNK; }
+INLINED size_t groups_of(size_t n) { return (n + GROUP - 1) / GROUP; }
+INLINED size_t bytes_of(size_t count, unsigned w) { return (count * w + 7) / 8; }
+INLINED unsigned bit_length(uint64_t word) { return word == 0 ? 0 : 64 - (unsigned)__builtin_clzll(word); }
+
+INLINED uint32_t number_at(const uint8_t *bytes)
+{
+    uint32_t number;
+    memcpy(&number, bytes, sizeof number);
+    return number;
+}
+
+/* ---- Codes in bytes: where w is a constant, so are every place and shift */
+
+/* Puts a code at a bit and answers the word that is being filled; a full one is written. */
+INLINED uint64_t put_code(uint8_t *bytes, uint64_t filling, uint64_t code, unsigned bit, unsigned w)
+{
+    unsigned filled = bit % 64;
+    filling |= code << filled;
+    if (filled + w < 64)
+        return filling;
+    memcpy(bytes + bit / 64 * 8, &filling, 8);
+    return filled + w == 64 ? 0 : code >> (64 - filled);
+}
+
+/* The code at a bit, from the eight or nine bytes that hold it. */
+INLINED uint64_t take_code(const uint8_t *window, unsigned bit, unsigned w)
+{
+    uint64_t code;
+    unsigned shift = bit % 8;
+    memcpy(&code, window + bit / 8, 8);
+    code >>= shift;
+    if (shift + w > 64)
+        code |= (uint64_t)window[bit / 8 + 8] << (64 - shift);
+    return w == 0 ? 0 : code & (~(uint64_t)0 >> (64 - w));
+}
+
+/* w is smallest when some code has its highest bit set; in most groups one of the first few has. */
+static int width_is_smallest(const uint8_t *packed, size_t count, unsigned w)
+{
+    for (size_t highest = w - 1; highest < count * w; highest += w)
+        if (packed[highest / 8] >> highest % 8 & 1)
+            return 1;
+    return 0;
+}
+
+static int padding_is_zero(const uint8_t *packed, size_t bits)
+{
+    return bits % 8 == 0 || packed[bits / 8] >> bits % 8 == 0;
+}
+
+/* ---- Floats that count bins */
+
+#define SAME_BITS(name, from, to)          \
+    INLINED to name(from value)            \
+    {                                      \
+        to same;                           \
+        memcpy(&same, &value, sizeof same); \
+        return same;                       \
+    }
+SAME_BITS(float_of32, uint32_t, float)
+SAME_BITS(float_of64, uint64_t, double)
+SAME_BITS(pattern_of32, float, uint32_t)
+SAME_BITS(pattern_of64, double, uint64_t)
+
+/* From 2^52 to 2^53 a binary64 counts ones: adding 2^52 rounds to a whole number, which the lower bits then show. */
+#define TWO_TO_52 4503599627370496.0
+#define PATTERN_OF_TWO_TO_52 ((uint64_t)(1023 + 52) << 52)
+
+/* 2^exponent, for exponents of normal numbers. */
+static double power_of_two(int32_t exponent) { return float_of64((uint64_t)(exponent + 1023) << 52); }
+
+/*
+ * Below 2^23 and with at most 24 significant bits, rounded to the nearest whole number, halves up: 2^-26 lifts a half
+ * above the half, and nothing else past one.
+ */
+INLINED uint32_t half_up32(double bins) { return (uint32_t)pattern_of64(bins + 1.0 / (1 << 26) + TWO_TO_52); }
+
+/*
+ * Below 2^52, rounded likewise: halves that went down to an even number are found by what is left, which is then no
+ * longer below a half. (Its sign says so rather than a comparison, of which gcc makes no steps of several lanes.)
+ */
+INLINED uint64_t half_up64(double bins)
+{
+    double rounded = bins + TWO_TO_52, left = bins - (rounded - TWO_TO_52);
+    uint64_t below_half = pattern_of64(left - 0.5) >> 63;
+    return pattern_of64(rounded) - PATTERN_OF_TWO_TO_52 + 1 - below_half;
+}
+
+/* u as a float; exact below 2^m (others are not used). */
+INLINED float whole_as_float32(uint32_t u) { return (float)(int32_t)u; }
+INLINED double whole_as_float64(uint64_t u) { return float_of64(u | PATTERN_OF_TWO_TO_52) - TWO_TO_52; }
+
+/* ---- Settings, header and tables */
+
+/* The header's numbers, each at its place. */
+struct header {
+    uint32_t major, written, needed, width, mode;
+    int32_t k;
+    uint32_t n, c, table, data, sides, end;
+};
+
+struct stream {
+    const uint8_t *bytes;
+    size_t length;
+    struct header header;
+};
+
+static int level_known(uint32_t level) { return 8 <= level && level <= 10; }
+
+static uint32_t need(uint32_t width, uint32_t mode) { return width == 64 ? 10 : mode == 1 ? 9 : 8; }
+
+static int setting_allowed(uint32_t width, uint32_t mode, int32_t k)
+{
+    int32_t least_k = width == 32 ? LEAST_K32 : LEAST_K64;
+    int32_t greatest_k = width == 32 ? GREATEST_K32 : GREATEST_K64;
+    return mode == 0 ? k == 0 : mode == 1 && least_k <= k && k <= greatest_k;
+}
+
+/* Refusals 1 2 3 of pack and length, or 0. */
+static uint64_t admit(uint32_t level, uint32_t width, uint32_t mode, int32_t k, size_t n)
+{
+    TRY(refused_if(!level_known(level), 1));
+    TRY(refused_if(!setting_allowed(width, mode, k) || need(width, mode) > level, 2));
+    return refused_if(n > MOST_VALUES, 3);
+}
+
+static int header_holds(const struct header *h, size_t length)
+{
+    return (h->width == 32 || h->width == 64) && setting_allowed(h->width, h->mode, h->k)
+        && h->needed == need(h->width, h->mode) && h->written >= h->needed && h->n <= MOST_VALUES
+        && h->c == chunks_of(h->n) && h->table == HEADER && h->data == HEADER + 4 * h->c && h->sides <= 64
+        && h->data <= h->end && h->end <= length;
+}
+
+/* Refusals 1 5 6 7 8, or 0 and the stream. */
+static uint64_t open_stream(uint32_t level, const uint8_t *bytes, size_t length, struct stream *stream)
+{
+    struct header *header = &stream->header;
+    TRY(refused_if(!level_known(level), 1));
+    TRY(refused_if(length < HEADER, 5));
+    memcpy(header, bytes, HEADER);
+    TRY(refused_if(header->major != 1, 6));
+    TRY(header->needed > level ? refused(7, header->needed) : 0);
+    stream->bytes = bytes;
+    stream->length = length;
+    return refused_if(!header_holds(header, length), 8);
+}
+
+/* Where a chunk begins, or where the data ends for the number after the last. */
+static size_t chunk_place(const struct stream *stream, size_t chunk)
+{
+    const struct header *h = &stream->header;
+    return chunk < h->c ? (size_t)h->data + number_at(stream->bytes + HEADER + 4 * chunk) : h->end;
+}
+
+/* The first place is that of the data, and each is below the next: with no chunks, the data is empty. */
+static int chunk_table_holds(const struct stream *stream)
+{
+    if (chunk_place(stream, 0) != stream->header.data)
+        return 0;
+    for (size_t chunk = 0; chunk < stream->header.c; chunk++)
+        if (chunk_place(stream, chunk) >= chunk_place(stream, chunk + 1))
+            return 0;
+    return 1;
+}
+
+static int side_table_holds(const struct stream *stream)
+{
+    /* In 64 bits, 64 lengths add up without overflow. */
+    const uint8_t *entry = stream->bytes + stream->header.end;
+    uint64_t part = (uint64_t)stream->header.end + 12 * stream->header.sides, least_id = 0;
+    if (part > stream->length)
+        return 0;
+    for (uint32_t side = 0; side < stream->header.sides; side++, entry += 12) {
+        uint64_t id = number_at(entry);
+        if (id < least_id || number_at(entry + 4) != part)
+            return 0;
+        least_id = id + 1;
+        part += number_at(entry + 8);
+    }
+    return part == stream->length;
+}
+
+/* Refusal 9, or 0. */
+static uint64_t check_tables(const struct stream *stream)
+{
+    return refused_if(!chunk_table_holds(stream) || !side_table_holds(stream), 9);
+}
+
+/* ---- Both widths */
+
+#define WIDTH 32
+#include "plain.c"
+#undef WIDTH
+#define WIDTH 64
+#include "plain.c"
+#undef WIDTH
+
+/* Refusals 1 5 6 7 8 9 10, or n: a stream of either width. */
+uint64_t plain_check(uint32_t level, const uint8_t *bytes, size_t length)
+{
+    struct stream stream;
+    TRY(open_stream(level, bytes, length, &stream));
+    TRY(check_tables(&stream));
+    TRY(stream.header.width == 32 ? check_chunks32(&stream) : check_chunks64(&stream));
+    return stream.header.n;
+}
+
+#else /* ---- One width: included with WIDTH 32 and with WIDTH 64 */
+
+/* One of two words, by a mask of all ones or none: steps of several lanes have no branches. */
+INLINED WORD NAME(pick)(WORD mask, WORD first, WORD other) { return (first & mask) | (other & ~mask); }
+
+/* The mask of a < b, for words without the highest bit. */
+INLINED WORD NAME(below)(WORD a, WORD b) { return 0 - ((a - b) >> (WIDTH - 1)); }
+
+/* ---- The codes */
+
+/*
+ * For fields from 1 to the middle, x is less - 2^(W-1): it is negative, and its code is the complement of 2·less. For
+ * all others x is rotated, perhaps without its highest bit, and its code is 2·rotated. The highest bit of less, which
+ * wraps for field 0, tells the two apart.
+ */
+INLINED WORD NAME(lossless_code)(WORD pattern)
+{
+    WORD rotated = (pattern << 1) | (pattern >> (WIDTH - 1)), less = rotated - UNIT;
+    WORD negative = (less >> (WIDTH - 1)) - 1;
+    return ((rotated - (negative & UNIT)) << 1) ^ negative;
+}
+
+INLINED WORD NAME(lossless_pattern)(WORD code)
+{
+    WORD negative = 0 - (code & 1);
+    WORD x = (code ^ negative) >> 1;
+    /* Where x is not negative and has a field, its highest bit was taken off; where it was negative, a unit was. */
+    WORD rotated = NAME(pick)(negative, x + UNIT, x | (~(x - UNIT) & HIGHEST));
+    return (rotated >> 1) | (rotated << (WIDTH - 1));
+}
+
+/*
+ * What one k gives: the ordinal of T; what lies between an ordinal from T on and its magnitude code; E; and 1/E as two
+ * powers of two, since 1/E alone may be too large.
+ */
+BIN {
+    WORD threshold, lift;
+    FLOAT e;
+    double per_e[2];
+};
+
+/* Only for an allowed k: then d, with E = 2^d units of the smallest subnormal, is not negative. */
+static BIN NAME(bin_of)(int32_t k)
+{
+    WORD d = (WORD)(k - LEAST_K), threshold = (d + 1) << M;
+    /* 2^d units: a subnormal below bit m, else field d-m+1. */
+    WORD e = d < M ? (WORD)1 << d : (d - M + 1) << M;
+    int32_t half = (k + 1) / 2;
+    BIN bin = {threshold, threshold - ((WORD)1 << M), NAME(float_of)(e),
+               {power_of_two(-half), power_of_two(half - k - 1)}};
+    return bin;
+}
+
+INLINED WORD NAME(tolerance_code)(WORD pattern, BIN bin)
+{
+    WORD ordinal = pattern & ~HIGHEST;
+    /* Exact, but for magnitudes so far below E/2 that no rounding lifts them there. From T on it is not used. */
+    WORD near = NAME(half_up)((double)NAME(float_of)(ordinal) * bin.per_e[0] * bin.per_e[1]);
+    WORD u = NAME(pick)(NAME(below)(ordinal, bin.threshold), near, ordinal - bin.lift);
+    return (u << 1) | (pattern >> (WIDTH - 1));
+}
+
+INLINED WORD NAME(tolerance_pattern)(WORD code, BIN bin)
+{
+    WORD u = code >> 1;
+    /* Exact: u has at most m bits and u·E is below T, a normal number, and a whole number of the smallest unit. */
+    WORD near = NAME(pattern_of)(NAME(whole_as_float)(u) * bin.e);
+    return NAME(pick)(NAME(below)(u, (WORD)1 << M), near, u + bin.lift) | (code << (WIDTH - 1));
+}
+
+INLINED WORD NAME(code_of)(WORD pattern, uint32_t mode, BIN bin)
+{
+    return mode == 0 ? NAME(lossless_code)(pattern) : NAME(tolerance_code)(pattern, bin);
+}
+
+INLINED WORD NAME(restored)(WORD code, uint32_t mode, BIN bin)
+{
+    return mode == 0 ? NAME(lossless_pattern)(code) : NAME(tolerance_pattern)(code, bin);
+}
+
+/* ---- Groups: an arm for each width byte */
+
+/* 32 codes of w bits to the 4w bytes they fill. */
+INLINED void NAME(put_codes)(const WORD *codes, uint8_t *bytes, unsigned w)
+{
+    uint64_t filling = 0;
+#define STEP(i) filling = put_code(bytes, filling, codes[i], (i) * w, w);
+    FOR_32(STEP)
+#undef STEP
+    /* Of an odd w, half a word is left. */
+    if (w % 2 == 1)
+        memcpy(bytes + 4 * w - 4, &filling, 4);
+}
+
+static void NAME(put)(const WORD *codes, uint8_t *bytes, unsigned w)
+{
+#define ARM(byte) case byte: NAME(put_codes)(codes, bytes, byte); break;
+    switch (w) { NAME(FOR_EACH_BYTE)(ARM) }
+#undef ARM
+}
+
+INLINED void NAME(take_codes)(const uint8_t *window, WORD *codes, unsigned w)
+{
+#define STEP(i) codes[i] = (WORD)take_code(window, (i) * w, w);
+    FOR_32(STEP)
+#undef STEP
+}
+
+/*
+ * The 32 codes at a place of a stream. All but the last groups are read where they lie. Past a short group's count the
+ * codes are made of whatever follows, and nobody looks at them.
+ */
+static void NAME(take)(const struct stream *stream, size_t place, WORD *codes, unsigned w)
+{
+    uint8_t window[WINDOW];
+    const uint8_t *from = stream->bytes + place;
+    size_t length = stream->length - place;
+    if (length < WINDOW) {
+        memcpy(window, from, length);
+        memset(window + length, 0, WINDOW - length);
+        from = window;
+    }
+#define ARM(byte) case byte: NAME(take_codes)(from, codes, byte); break;
+    switch (w) { NAME(FOR_EACH_BYTE)(ARM) }
+#undef ARM
+}
+
+/*
+ * The codes of up to 32 values, and their width byte: the bit length of the largest is that of all or-ed together. A
+ * short group is filled up with pattern 0, whose code is 0 in both modes: that changes neither width nor bytes.
+ */
+INLINED unsigned NAME(code_group)(const WORD *values, size_t count, uint32_t mode, BIN bin, WORD *codes)
+{
+    WORD filled[GROUP], all = 0;
+    if (count < GROUP) {
+        memset(filled, 0, sizeof filled);
+        memcpy(filled, values, count * sizeof *values);
+        values = filled;
+    }
+    for (size_t i = 0; i < GROUP; i++) {
+        codes[i] = NAME(code_of)(values[i], mode, bin);
+        all |= codes[i];
+    }
+    return bit_length(all);
+}
+
+/* ---- Pack and length */
+
+/* A short group's codes fill 32 places first, and then as many bytes as are its own. */
+static void NAME(put_short)(const WORD *codes, size_t count, uint8_t *bytes, unsigned w)
+{
+    uint8_t whole[8 * GROUP];
+    NAME(put)(codes, whole, w);
+    memcpy(bytes, whole, bytes_of(count, w));
+}
+
+/* Writes chunk table and data, where there is an output, and answers where the data ends. */
+INLINED size_t NAME(pack_data)(const WORD *values, size_t n, uint32_t mode, BIN bin, uint8_t *out)
+{
+    size_t data = HEADER + 4 * chunks_of(n), at = data;
+    for (size_t first = 0; first < n; first += GROUP) {
+        WORD codes[GROUP];
+        size_t count = least(GROUP, n - first);
+        unsigned w = NAME(code_group)(values + first, count, mode, bin, codes);
+        if (out != NULL) {
+            uint32_t start = (uint32_t)(at - data);
+            if (first % CHUNK == 0)
+                memcpy(out + HEADER + first / CHUNK * 4, &start, sizeof start);
+            out[at] = (uint8_t)w;
+            if (count == GROUP)
+                NAME(put)(codes, out + at + 1, w);
+            else
+                NAME(put_short)(codes, count, out + at + 1, w);
+        }
+        at += 1 + bytes_of(count, w);
+    }
+    return at;
+}
+
+static size_t NAME(measured)(uint32_t mode, int32_t k, const WORD *values, size_t n)
+{
+    BIN bin = NAME(bin_of)(k);
+    return mode == 0 ? NAME(pack_data)(values, n, 0, bin, NULL) : NAME(pack_data)(values, n, 1, bin, NULL);
+}
+
+/* Refusals 1 2 3, or the bytes pack would use. */
+uint64_t NAME(plain_length)(uint32_t level, uint32_t mode, int32_t k, const WORD *values, size_t n)
+{
+    TRY(admit(level, WIDTH, mode, k, n));
+    return NAME(measured)(mode, k, values, n);
+}
+
+/* Refusals 1 2 3 4, or the bytes written. */
+uint64_t NAME(plain_pack)(uint32_t level, uint32_t mode, int32_t k, const WORD *values, size_t n, uint8_t *out,
+                          size_t room)
+{
+    TRY(admit(level, WIDTH, mode, k, n));
+    /* Room for anything needs no measuring. */
+    uint32_t c = (uint32_t)chunks_of(n);
+    if (room < HEADER + 4 * c + groups_of(n) + n * sizeof *values) {
+        size_t length = NAME(measured)(mode, k, values, n);
+        if (room < length)
+            return refused(4, length);
+    }
+    BIN bin = NAME(bin_of)(k);
+    size_t end = mode == 0 ? NAME(pack_data)(values, n, 0, bin, out) : NAME(pack_data)(values, n, 1, bin, out);
+    struct header header = {1, level, need(WIDTH, mode), WIDTH, mode, k, (uint32_t)n, c, HEADER, HEADER + 4 * c, 0,
+                            (uint32_t)end};
+    memcpy(out, &header, HEADER);
+    return end;
+}
+
+/* ---- Check, unpack and probe */
+
+/* The largest code a stream may hold: in mode 1 twice the largest u, plus the sign. */
+static WORD NAME(largest_code)(const struct header *header)
+{
+    return header->mode == 0 ? ~(WORD)0 : ~(WORD)0 - ((WORD)(header->k - LEAST_K) << (M + 1));
+}
+
+/* The smallest width, zero padding and the largest code of a group whose bytes are there. */
+static int NAME(group_holds)(const struct stream *stream, size_t place, size_t count, unsigned w, WORD most)
+{
+    const uint8_t *packed = stream->bytes + place;
+    if (w == 0)
+        return 1;
+    if (!width_is_smallest(packed, count, w) || !padding_is_zero(packed, count * w))
+        return 0;
+    /* Only at the bit length of the largest code do the codes decide: shorter ones all fit, of longer ones none. */
+    unsigned longest = bit_length(most);
+    if (w != longest || most == ~(WORD)0)
+        return w <= longest;
+    WORD codes[GROUP];
+    NAME(take)(stream, place, codes, w);
+    int all_fit = 1;
+    for (size_t i = 0; i < count; i++)
+        all_fit &= codes[i] <= most;
+    return all_fit;
+}
+
+/* Refusal 10 of one chunk, or 0. */
+static uint64_t NAME(check_chunk)(const struct stream *stream, size_t chunk)
+{
+    WORD most = NAME(largest_code)(&stream->header);
+    size_t at = chunk_place(stream, chunk), end = chunk_place(stream, chunk + 1);
+    size_t left = least(CHUNK, stream->header.n - chunk * CHUNK);
+    while (left > 0 && at < end) {
+        size_t count = least(GROUP, left);
+        unsigned w = stream->bytes[at++];
+        if (w > WIDTH || bytes_of(count, w) > end - at || !NAME(group_holds)(stream, at, count, w, most))
+            return refused(10, chunk);
+        at += bytes_of(count, w);
+        left -= count;
+    }
+    return left == 0 && at == end ? 0 : refused(10, chunk);
+}
+
+static uint64_t NAME(check_chunks)(const struct stream *stream)
+{
+    for (size_t chunk = 0; chunk < stream->header.c; chunk++)
+        TRY(NAME(check_chunk)(stream, chunk));
+    return 0;
+}
+
+/* Restores all groups of checked data. Chunks hold whole groups and follow each other without a gap. */
+INLINED void NAME(restore_data)(const struct stream *stream, uint32_t mode, BIN bin, WORD *restrict out)
+{
+    size_t n = stream->header.n, at = stream->header.data;
+    for (size_t first = 0; first < n; first += GROUP) {
+        size_t count = least(GROUP, n - first);
+        unsigned w = stream->bytes[at++];
+        if (w == 0 && count == GROUP) { /* code 0 restores pattern 0 in both modes */
+            memset(out + first, 0, GROUP * sizeof *out);
+            continue;
+        }
+        WORD codes[GROUP], values[GROUP], *to = count == GROUP ? out + first : values;
+        NAME(take)(stream, at, codes, w);
+        for (size_t i = 0; i < GROUP; i++)
+            to[i] = NAME(restored)(codes[i], mode, bin);
+        if (count < GROUP)
+            memcpy(out + first, values, count * sizeof *values);
+        at += bytes_of(count, w);
+    }
+}
+
+/* Refusals 1 5 6 7 8 14 4 9 10, or n. */
+uint64_t NAME(plain_unpack)(uint32_t level, const uint8_t *bytes, size_t length, WORD *out, size_t room)
+{
+    struct stream stream;
+    const struct header *header = &stream.header;
+    TRY(open_stream(level, bytes, length, &stream));
+    TRY(refused_if(header->width != WIDTH, 14));
+    TRY(room < header->n ? refused(4, header->n) : 0);
+    TRY(check_tables(&stream));
+    TRY(NAME(check_chunks)(&stream));
+    BIN bin = NAME(bin_of)(header->k);
+    if (header->mode == 0)
+        NAME(restore_data)(&stream, 0, bin, out);
+    else
+        NAME(restore_data)(&stream, 1, bin, out);
+    return header->n;
+}
+
+/* The code at an index of a checked chunk: the groups before its own are full, and are stepped over. */
+static WORD NAME(code_at)(const struct stream *stream, size_t chunk, size_t index)
+{
+    size_t at = chunk_place(stream, chunk);
+    for (; index >= GROUP; index -= GROUP)
+        at += 1 + bytes_of(GROUP, stream->bytes[at]);
+    WORD codes[GROUP];
+    NAME(take)(stream, at + 1, codes, stream->bytes[at]);
+    return codes[index];
+}
+
+/* Refusals 1 5 6 7 8 14 11 9 10, or the kind: 0 finite, 1 infinite, 2 not-a-number. Of the chunks its own is read. */
+uint64_t NAME(plain_probe)(uint32_t level, const uint8_t *bytes, size_t length, uint64_t index, WORD *pattern)
+{
+    struct stream stream;
+    const struct header *header = &stream.header;
+    TRY(open_stream(level, bytes, length, &stream));
+    TRY(refused_if(header->width != WIDTH, 14));
+    TRY(refused_if(index >= header->n, 11));
+    TRY(check_tables(&stream));
+    TRY(NAME(check_chunk)(&stream, index / CHUNK));
+    WORD code = NAME(code_at)(&stream, index / CHUNK, index % CHUNK);
+    *pattern = NAME(restored)(code, header->mode, NAME(bin_of)(header->k));
+    WORD ordinal = *pattern & ~HIGHEST, infinity = HIGHEST - ((WORD)1 << M);
+    return ordinal < infinity ? 0 : ordinal == infinity ? 1 : 2;
+}
+
+#endif
