@@ -25,7 +25,7 @@
  *
  * WHAT IS ANSWERED
  *
- * Every operation answers one 64-bit result: a refusal number above 32 bits of detail, or 0 above 32 bits of
+ * Every operation but the lossless codes answers one 64-bit result: a refusal number above 32 bits of detail, or 0 above 32 bits of
  * answer. Take it apart with gwz_refusal, then gwz_detail or gwz_answer (gwz_exponent after gwz_bound):
  *
  *     uint64_t result = gwz_pack32(GWZ_HIGHEST_LEVEL, GWZ_LOSSLESS, 0, values, n, stream, room);
@@ -65,7 +65,7 @@ enum gwz_refusal_number {
     GWZ_TOO_NEW = 7,              /* needed minor above the level; detail: the needed minor */
     GWZ_BROKEN_HEADER = 8,        /* another header rule broken, as when the bytes end before the data */
     GWZ_BROKEN_TABLE = 9,         /* chunk table or side table rule broken */
-    GWZ_BROKEN_CHUNK = 10,        /* a chunk breaks a rule; detail: the first such chunk, counted from 0 */
+    GWZ_BROKEN_CHUNK = 10,        /* a chunk breaks a rule; detail: the first such chunk (probe: the value's), counted from 0 */
     GWZ_NO_SUCH_INDEX = 11,       /* index not below the count of values */
     GWZ_NO_TOLERANCE = 12,        /* tolerance not a finite number above 0 */
     GWZ_TOLERANCE_TOO_SMALL = 13, /* no allowed k is small enough */
@@ -163,9 +163,9 @@ static inline const char *gwz_refusal_text(uint32_t number)
     case GWZ_BROKEN_HEADER:
         return "The header is broken or the bytes end too early: the file was cut or damaged, fetch it again.";
     case GWZ_BROKEN_TABLE:
-        return "The chunk table or the side table is broken: the file was cut or damaged, fetch it again.";
+        return "The chunk table or the side table is broken: the file was cut, damaged or added to, fetch it again.";
     case GWZ_BROKEN_CHUNK:
-        return "The chunk that the detail names is damaged: fetch the file again; other chunks can still be probed.";
+        return "The chunk that the detail names is damaged: fetch the file again (of a single code: it is too large for k).";
     case GWZ_NO_SUCH_INDEX:
         return "There is no value at this index: indices run from 0 to the count of values less 1.";
     case GWZ_NO_TOLERANCE:
@@ -216,7 +216,7 @@ uint64_t gwz_bound(uint32_t width, uint64_t tolerance);
 
 /*
  * Checks a whole stream of either width, and hands out no values. Answers the count of values. What passes here,
- * gwz_unpack reads. Refusals, in order: 1 5 6 7 8 9 10.
+ * gwz_unpack of its width reads, given room. Refusals, in order: 1 5 6 7 8 9 10.
  */
 uint64_t gwz_check(uint32_t level, const uint8_t *bytes, size_t len);
 

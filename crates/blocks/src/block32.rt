@@ -48,6 +48,8 @@ fn codes32(s: &[u8], w: usize, c: &mut [u32])
     eight32(s, 8 + 24 * w, w, c, 24);
 }
 
+// The codes of the block that starts at s[1]: the width byte s[0] is passed over, and the caller says w. Behind the block the bytes go on for
+// nine more, which the loads of the last codes may touch.
 pub fn opened32(s: &[u8], w: usize, c: &mut [u32])
     requires { ⌜ (1 ≤ w) × (w ≤ 32) × (4 * w + 10 ≤ length (now s)) × (32 ≤ length (now c)) ⌝ }
     ensures { λ _. ⌜ now (c .exit) ≡ digits (2 ^ w) 32 (number 256 (now (s .entry)) / 2 ^ 8) ++ drop 32 (now (c .entry)) ⌝ }
@@ -154,6 +156,7 @@ fn block32(c: &[u32], w: usize, out: &mut [u8])
     four32(c, w, 12, out);
 }
 
+// The 4w bytes of a block at the front of `out`. The width byte is the caller's.
 pub fn packed32(c: &[u32], w: usize, out: &mut [u8])
     requires { ⌜ (1 ≤ w) × (w ≤ 32) × (length (now c) ≡ 32) × Below (2 ^ w) (now c) × (4 * w ≤ length (now out)) ⌝ }
     ensures { λ _. ⌜ now (out .exit) ≡ digits 256 (4 * w) (number (2 ^ w) (now (c .entry))) ++ drop (4 * w) (now (out .entry)) ⌝ }

@@ -106,6 +106,7 @@ fn opened64_narrow(s: &[u8], w: usize, c: &mut [u64])
     widened(&narrow, c);
 }
 
+// The codes of the block that starts at s[1], as `block32::opened32` has them, of any width.
 pub fn opened64(s: &[u8], w: usize, c: &mut [u64])
     requires { ⌜ (1 ≤ w) × (w ≤ 64) × (4 * w + 10 ≤ length (now s)) × (32 ≤ length (now c)) ⌝ }
     ensures { λ _. ⌜ now (c .exit) ≡ digits (2 ^ w) 32 (number 256 (now (s .entry)) / 2 ^ 8) ++ drop 32 (now (c .entry)) ⌝ }
@@ -141,7 +142,8 @@ fn word64(c: &[u64], w: usize, bit: usize) -> u64
     (c[first] >> skip) + more64(c, first + 1, w - skip) + more64(c, first + 2, 2 * w - skip)
 }
 
-// Eight bytes more of the w that eight codes are, from `at` on; where fewer are left the last eight, of which some stand already.
+// If the bytes up to `at` stand, of the w that eight codes are, then eight more; where fewer are left the last eight are stored, of which some
+// stand already.
 fn put64(c: &[u64], w: usize, at: usize, out: &mut [u8])
     requires { ⌜ (33 ≤ w) × (w ≤ 64) × (at ≤ 56) × (length (now c) ≡ 8) × Below (2 ^ w) (now c) × (w ≤ length (now out)) ⌝ }
     ensures { λ _. ⌜ ((base : List ℕ) → Standing w at (number (2 ^ w) (now (c .entry))) base (now (out .entry)) → Standing w (at + 8) (number (2 ^ w) (now (c .entry))) base (now (out .exit))) ⌝ }
@@ -246,6 +248,7 @@ fn packed64_narrow(c: [u64; 32], w: usize, out: &mut [u8])
     block32::packed32(&narrow, w, out);
 }
 
+// The 4w bytes of a block at the front of `out`. The width byte is the caller's.
 pub fn packed64(c: [u64; 32], w: usize, out: &mut [u8])
     requires { ⌜ (1 ≤ w) × (w ≤ 64) × Below (2 ^ w) c × (4 * w ≤ length (now out)) ⌝ }
     ensures { λ _. ⌜ now (out .exit) ≡ digits 256 (4 * w) (number (2 ^ w) c) ++ drop (4 * w) (now (out .entry)) ⌝ }

@@ -1,4 +1,4 @@
-// The number rules for C. They use the crate `numbers` alone; the archive holds the operations on streams too.
+// The number rules for C. What they answer is the crate `numbers`' alone; the archive holds the operations on streams too.
 ghost use mathlib.Core.Path.{_≡_};
 ghost use Rattle.numbers.specs.Lossless.{losslessCode, losslessRestored};
 ghost use Rattle.numbers.specs.Answers.{codeAnswer, patternAnswer};

@@ -13,14 +13,14 @@ pub enum BoundAnswer {
     TooSmall,
 }
 
-// The pattern of infinity, above which are the not-a-numbers and all negatives.
+// Whether a pattern is a finite number above 0: from the pattern of infinity on are the not-a-numbers and all negatives.
 fn is_tolerance(t: u64) -> bool
     ensures { λ r. ⌜ r ≡ isTolerance t ⌝ }
 {
     (0 < t) & (t < 0x7FF0_0000_0000_0000)
 }
 
-// How many binary digits the magnitude of a tolerance has: the bin j is not above it up to that many.
+// How many binary digits the magnitude of a tolerance has: half of the bin 2^j, the 2^k of width 64, is not above it for j up to that many.
 fn digits_of(t: u64) -> u32
     requires { ⌜ isTolerance t ≡ true ⌝ }
     ensures { λ d. ⌜ d ≡ size (magnitude 52 t) ⌝ }

@@ -1,5 +1,6 @@
 -- What a reader must believe of the stream layout: document 01, "The stream", "Levels" and "Refusal numbers", in its own words. Every
--- definition is executable and total. A list of bytes, of codes or of values is a list of natural numbers. Partway,
+-- definition is executable and total. A list of bytes, of codes or of values is a list of natural numbers; what
+-- digits and the number they spell are is said in the specs of `blocks`. Partway,
 -- Relied, Lent, Opening, `shortRow` of Packing, `unfinished` of Writing and `Appends` of Listing serve private functions alone.
 pub mod Group
 pub mod Partway

@@ -42,7 +42,7 @@ settingOf W mode k = record { width = W; mode = mode; bin = binFor W mode k }
 
 -- ---- what a setting says
 
--- "Width 64 needs 10; else mode 1 needs 9; else 8": the largest of the two needs
+-- "Width 64 needs 10; else mode 1 needs 9; else 8": the larger of the two needs
 unfoldable pub widthNeed : ℕ → ℕ
 widthNeed W = cond (eqb W 64) 10 8
 

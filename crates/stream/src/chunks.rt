@@ -73,7 +73,7 @@ pub(crate) fn setting_in(h: Header) -> Setting
     setting::setting_of(h.width, h.mode, header::exponent_of(h))
 }
 
-// 10, for one chunk. The detail is the chunk; its first bad group is known too.
+// 10, for one chunk. The detail is the chunk; its first bad group is found, and not handed on.
 pub(crate) fn chunk_step(h: Header, bytes: &[u8], j: usize) -> Step
     requires { ⌜ Opened (length (now bytes)) h × (chunkTableRight h (now bytes) ≡ true) × (j < h .chunks) ⌝ }
     ensures { λ r. ⌜ r ≡ first (chunkRow h (now (bytes .entry)) j ∷ []) ⌝ }

@@ -1,5 +1,4 @@
 // A group of codes: the record, its width and how many bytes it takes.
-// At width 32 a full group is a record of half the size, so that four codes of it are handled at a time.
 ghost use mathlib.Core.Path.{_≡_};
 ghost use Prim.Native.Nat.{_≤_};
 ghost use lib.ListN.{length, take};
@@ -11,7 +10,7 @@ pub struct Group {
     pub codes: [u64; 32],
 }
 
-// The same of codes of 32 bits.
+// The same of codes of 32 bits, for width 32: half the size, and a compiler handles four of its codes at a time.
 pub struct Narrow {
     pub count: usize,
     pub codes: [u32; 32],

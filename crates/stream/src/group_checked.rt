@@ -11,7 +11,7 @@ use blocks::block32;
 use blocks::block64;
 use blocks::bytes;
 
-// Width less leading zeros: whether the lowest bits of a byte, up to a place, are as wide as they can be.
+// Whether a bit of a byte is set. It is told by width less leading zeros: the bits up to that place are then as wide as they can be.
 fn full_width(byte: u64, place: usize) -> bool
     requires { ⌜ (byte < 256) × (place < 8) ⌝ }
     ensures { λ r. ⌜ r ≡ eqb (byte / 2 ^ place % 2) 1 ⌝ }
@@ -20,8 +20,8 @@ fn full_width(byte: u64, place: usize) -> bool
     64 - (u64::leading_zeros(low) as usize) == place + 1
 }
 
-// Whether w is the smallest width: some code is as wide as w. The codes are not taken out, and the first such code settles it: its last
-// bits, up to the w-th, are as wide as they can be.
+// Whether w is the smallest width: some code is as wide as w. The codes are not taken out, and the first such code settles it: its
+// highest bit is set.
 fn reached(s: &[u8], n: usize, w: usize) -> bool
     requires { ⌜ (n ≤ 32) × (1 ≤ w) × (w ≤ 64) × (w ≡ givenWidth (now s)) × (groupLength n (now s) ≤ length (now s)) ⌝ }
     ensures { λ r. ⌜ r ≡ eqb w (widthOf (groupCodes n (now (s .entry)))) ⌝ }

@@ -23,7 +23,7 @@ fn opened(s: &[u8], n: usize, w: usize) -> Group
     Group { count: n, codes }
 }
 
-// The same bytes with zeros behind, as many as the widest group and the loads past its end need.
+// The same bytes with zeros behind, 272 in all: as many as the widest group and the loads past its end need.
 fn padded(s: &[u8]) -> [u8; 272]
     requires { ⌜ length (now s) ≤ 272 ⌝ }
     ensures { λ r. ⌜ number 256 r ≡ number 256 (now (s .entry)) ⌝ }

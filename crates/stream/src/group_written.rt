@@ -47,7 +47,7 @@ fn words(codes: &[u64], w: usize, out: &mut [u8]) -> Rest
     Rest { word, fill, at }
 }
 
-// The bytes of what is left over, the last one with zero bits above the code's.
+// The bytes of what is left over. The word has no bits above those that are held, so the last byte has zero bits above the code's.
 fn tail(rest: Rest, out: &mut [u8]) -> usize
     requires { ⌜ (rest .fill < 64) × (rest .at + (rest .fill + 7) / 8 ≤ length (now out)) ⌝ }
     ensures { λ r. ⌜ r ≡ rest .at + (rest .fill + 7) / 8 ⌝ }

@@ -77,7 +77,7 @@ pub(crate) fn exponent_of(h: Header) -> i32
     signed::view32(h.exponent as u32)
 }
 
-// The part of refusal 8 that is about the setting. Of an allowed setting alone there is a need.
+// The part of refusal 8 that is about the setting. A setting is made only once it is known to be allowed.
 fn setting_right(h: Header) -> bool
     requires { ⌜ Words h ⌝ }
     ensures { λ r. ⌜ r ≡ settingRight h ⌝ }

@@ -1,5 +1,5 @@
 // What the walks over a chunk do with the lists that are lent, one for each width: of the walks, only these functions look
-// at the width.
+// at the width. What is left in the scratch (c32, c64), in the output of the other width, and in a group behind its count, nobody asks.
 ghost use mathlib.Core.Path.{_≡_};
 ghost use mathlib.Core.List.{_++_};
 ghost use Prim.Native.Nat.{_≤_, _<_, _-_, _+_, _^_};
@@ -57,7 +57,7 @@ fn grouped32(codes: &[u32]) -> Narrow
     }
 }
 
-// The codes from `at` to `end` of the whole chunk's codes, as a group, at either width.
+// The codes from `at` to `end` of the whole chunk's codes, as a group: at width 32, and at width 64.
 fn coded_narrow(t: Setting, v32: &[u32], c32: &[u32], at: usize, end: usize) -> Narrow
     requires { ⌜ (t .width ≡ 32) × (at ≤ end) × (end ≤ at + 32) × (end ≤ length (now v32)) × (end ≤ 1024) ⌝ }
     requires { ⌜ (length (now v32) ≤ length (now c32)) × Staged t (now v32) (now c32) ⌝ }
@@ -197,9 +197,9 @@ fn zeros64(n: usize, out: &mut [u64])
     }
 }
 
-// The codes of the group at the front of `s`, which has bits, at the front of `out`: a full one by its block, if the bytes go on far
+// The codes of the group at the front of `s`, whose width is not 0, at the front of `out`: a full one by its block, if the bytes go on far
 // enough for the loads of every code.
-fn put_codes32(s: &[u8], n: usize, out: &mut [u32])
+fn read_codes32(s: &[u8], n: usize, out: &mut [u32])
     requires { ⌜ (n ≤ 32) × (1 ≤ givenWidth (now s)) × (givenWidth (now s) ≤ 32) × (groupLength n (now s) ≤ length (now s)) × (n ≤ length (now out)) ⌝ }
     ensures { λ _. ⌜ now (out .exit) ≡ groupCodes n (now (s .entry)) ++ drop n (now (out .entry)) ⌝ }
 {
@@ -214,7 +214,7 @@ fn put_codes32(s: &[u8], n: usize, out: &mut [u32])
     copied32(&g.codes, n, out);
 }
 
-fn put_codes64(s: &[u8], n: usize, out: &mut [u64])
+fn read_codes64(s: &[u8], n: usize, out: &mut [u64])
     requires { ⌜ (n ≤ 32) × (1 ≤ givenWidth (now s)) × (givenWidth (now s) ≤ 64) × (groupLength n (now s) ≤ length (now s)) × (n ≤ length (now out)) ⌝ }
     ensures { λ _. ⌜ now (out .exit) ≡ groupCodes n (now (s .entry)) ++ drop n (now (out .entry)) ⌝ }
 {
@@ -230,13 +230,13 @@ fn put_codes64(s: &[u8], n: usize, out: &mut [u64])
 }
 
 // The patterns of the group at the front of `s`, at the front of `out`; its codes go through the scratch `c`. In both modes the code 0 is that
-// of the pattern 0, so that a group of no bits, of which calm water has many, is not opened.
+// of the pattern 0, so that a group of no bits, as nearly constant fields have many, is not opened.
 fn put_values32(t: Setting, s: &[u8], n: usize, c: &mut [u32], out: &mut [u32])
     requires { ⌜ Allowed t × (t .width ≡ 32) × (n ≤ 32) × (givenWidth (now s) ≤ 32) × (groupLength n (now s) ≤ length (now s)) × (n ≤ length (now c)) × (n ≤ length (now out)) ⌝ }
     ensures { λ _. ⌜ now (out .exit) ≡ patternsOf t (groupCodes n (now (s .entry))) ++ drop n (now (out .entry)) ⌝ }
 {
     if 0 < s[0] {
-        put_codes32(s, n, c);
+        read_codes32(s, n, c);
         coding::put_patterns32(t, c, n, out);
     } else {
         zeros32(n, out);
@@ -248,7 +248,7 @@ fn put_values64(t: Setting, s: &[u8], n: usize, c: &mut [u64], out: &mut [u64])
     ensures { λ _. ⌜ now (out .exit) ≡ patternsOf t (groupCodes n (now (s .entry))) ++ drop n (now (out .entry)) ⌝ }
 {
     if 0 < s[0] {
-        put_codes64(s, n, c);
+        read_codes64(s, n, c);
         coding::put_patterns64(t, c, n, out);
     } else {
         zeros64(n, out);

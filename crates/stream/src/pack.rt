@@ -174,7 +174,7 @@ fn room_step(t: Setting, v32: &[u32], v64: &[u64], c32: &mut [u32], n: usize, ro
     Step::Pass
 }
 
-// Chunk j, whose start is known: the start into the table and the bytes behind the chunks before it. The next chunk's start is returned.
+// Where the first j chunks stand: chunk j, whose start is known, its start into the table and its bytes behind them. The next chunk's start is returned.
 fn put_chunk(
     t: Setting,
     v32: &[u32],

@@ -19,9 +19,9 @@ shared-slice-read-if1 : tie.Need-shared-slice-read-if1
 unfolding groupLength
 shared-slice-read-if1 c = omega (arith, c .before .before .before .before .pre .4)
 
-put-codes32-requires : tie.Need-put-codes32-requires
+read-codes32-requires : tie.Need-read-codes32-requires
 unfolding givenWidth
-put-codes32-requires c κs =
+read-codes32-requires c κs =
     let p = c .before .before .before .before .before .before .pre in
     (p .2, c .before .if1 .taken, p .3, p .4, p .5)
 
@@ -43,7 +43,7 @@ returns c =
     let cs = groupCodes (a .n) (a .s .now) in
     c .before .before .put-patterns32 .ensures
     ∙ ap (λ (l : List ℕ). patternsOf (a .t) l ++ drop (a .n) (a .out .now))
-    (ap (take (a .n)) (c .before .before .before .before .before .before .before .put-codes32 .ensures) ∙ take-at cs (drop (a .n) (a .c .now)) (a .n) (length-codes (a .n) (a .s .now)))
+    (ap (take (a .n)) (c .before .before .before .before .before .before .before .read-codes32 .ensures) ∙ take-at cs (drop (a .n) (a .c .now)) (a .n) (length-codes (a .n) (a .s .now)))
 
 same-length-3 : tie.Need-same-length-3
 same-length-3 c = search needs
@@ -62,7 +62,7 @@ put-values32-spec =
     tie.close
     (tie.spec
     shared-slice-read-if1
-    put-codes32-requires
+    read-codes32-requires
     put-patterns32-requires
     zeros32-requires
     same-length

@@ -19,9 +19,9 @@ shared-slice-read-if1 : tie.Need-shared-slice-read-if1
 unfolding groupLength
 shared-slice-read-if1 c = omega (arith, c .before .before .before .before .pre .4)
 
-put-codes64-requires : tie.Need-put-codes64-requires
+read-codes64-requires : tie.Need-read-codes64-requires
 unfolding givenWidth
-put-codes64-requires c κs =
+read-codes64-requires c κs =
     let p = c .before .before .before .before .before .before .pre in
     (p .2, c .before .if1 .taken, p .3, p .4, p .5)
 
@@ -43,7 +43,7 @@ returns c =
     let cs = groupCodes (a .n) (a .s .now) in
     c .before .before .put-patterns64 .ensures
     ∙ ap (λ (l : List ℕ). patternsOf (a .t) l ++ drop (a .n) (a .out .now))
-    (ap (take (a .n)) (c .before .before .before .before .before .before .before .put-codes64 .ensures) ∙ take-at cs (drop (a .n) (a .c .now)) (a .n) (length-codes (a .n) (a .s .now)))
+    (ap (take (a .n)) (c .before .before .before .before .before .before .before .read-codes64 .ensures) ∙ take-at cs (drop (a .n) (a .c .now)) (a .n) (length-codes (a .n) (a .s .now)))
 
 same-length-3 : tie.Need-same-length-3
 same-length-3 c = search needs
@@ -62,7 +62,7 @@ put-values64-spec =
     tie.close
     (tie.spec
     shared-slice-read-if1
-    put-codes64-requires
+    read-codes64-requires
     put-patterns64-requires
     zeros64-requires
     same-length
