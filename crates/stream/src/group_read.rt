@@ -1,7 +1,7 @@
 // Groups read: the codes of a group whose bytes are there.
 ghost use mathlib.Core.Path.{_≡_};
-ghost use Prim.Native.Nat.{_+_, _*_, _/_, _%_, _^_, _≤_, _<_};
-ghost use lib.ListN.{length, take, drop};
+ghost use Prim.Native.Nat.{_+_, _*_, _/_, _^_, _≤_, _<_};
+ghost use lib.ListN.{length, take};
 ghost use Rattle.blocks.specs.Bytes.{number, digits};
 ghost use Rattle.stream.specs.Group.{givenWidth, groupLength, groupCodes};
 use crate::group::Group;

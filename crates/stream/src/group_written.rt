@@ -3,7 +3,7 @@ ghost use mathlib.Core.Path.{_≡_};
 ghost use mathlib.Core.List.{_++_};
 ghost use Prim.Native.Nat.{_+_, _*_, _/_, _^_, _≤_, _<_};
 ghost use lib.ListN.{length, take, drop};
-ghost use Rattle.blocks.specs.Bytes.{Below, number, digits};
+ghost use Rattle.blocks.specs.Bytes.{Below, digits};
 ghost use Rattle.stream.specs.Group.{bytesFor, packed, groupBytes};
 ghost use Rattle.stream.specs.Partway.{Partway};
 use crate::group;

@@ -2,7 +2,7 @@
 // at the width. What is left in the scratch (c32, c64), in the output of the other width, and in a group behind its count, nobody asks.
 ghost use mathlib.Core.Path.{_≡_};
 ghost use mathlib.Core.List.{_++_};
-ghost use Prim.Native.Nat.{_≤_, _<_, _-_, _+_, _^_};
+ghost use Prim.Native.Nat.{_≤_, _<_, _-_, _+_, _^_, min};
 ghost use lib.ListN.{length, take, drop, replicate};
 ghost use Rattle.blocks.specs.Bytes.{Below};
 ghost use Rattle.stream.specs.Group.{groupBytes, givenWidth, groupLength, groupCodes};
@@ -20,6 +20,13 @@ use crate::setting::Setting;
 use blocks::block32;
 use blocks::block64;
 use blocks::bytes;
+
+// The smaller of two numbers: a list ends where it ends.
+pub(crate) fn least(a: usize, b: usize) -> usize
+    ensures { λ r. ⌜ r ≡ min a b ⌝ }
+{
+    if a < b { a } else { b }
+}
 
 // How many values are lent.
 pub(crate) fn count(t: Setting, v32: &[u32], v64: &[u64]) -> usize

@@ -124,7 +124,7 @@ fn part32(values: &[u32], j: usize) -> &[u32]
     requires { ⌜ j ≤ 1024 ⌝ }
     ensures { λ r. ⌜ now r ≡ piece (now (values .entry)) j ⌝ }
 {
-    let from = least(1024 * j, values.len());
+    let from = lent::least(1024 * j, values.len());
     let to = piece_end(from, values.len());
     &values[from..to]
 }
@@ -133,15 +133,9 @@ fn part64(values: &[u64], j: usize) -> &[u64]
     requires { ⌜ j ≤ 1024 ⌝ }
     ensures { λ r. ⌜ now r ≡ piece (now (values .entry)) j ⌝ }
 {
-    let from = least(1024 * j, values.len());
+    let from = lent::least(1024 * j, values.len());
     let to = piece_end(from, values.len());
     &values[from..to]
-}
-
-fn least(a: usize, b: usize) -> usize
-    ensures { λ r. ⌜ r ≡ min a b ⌝ }
-{
-    if a < b { a } else { b }
 }
 
 // The measuring pass: how long the stream is.

@@ -1,7 +1,7 @@
 // The values of a stream that was accepted: each chunk's land in their own stretch of the lent output.
 ghost use mathlib.Core.Path.{_≡_};
 ghost use mathlib.Core.List.{_++_};
-ghost use Prim.Native.Nat.{_*_, _+_, _/_, _≤_, _<_, min};
+ghost use Prim.Native.Nat.{_*_, _+_, _/_, _≤_, _<_};
 ghost use lib.ListN.{length, drop};
 ghost use Rattle.stream.specs.Lent.{chosen, landed};
 ghost use Rattle.stream.specs.Stream.{countOf, chunkState, chunkValues, valuesIn, valueIn};
@@ -13,12 +13,7 @@ ghost use Rattle.stream.specs.declared.chunk.ChunkAnswer.the-variants.{G
 use crate::chunk;
 use crate::chunks;
 use crate::header::Header;
-
-fn least(a: usize, b: usize) -> usize
-    ensures { λ r. ⌜ r ≡ min a b ⌝ }
-{
-    if a < b { a } else { b }
-}
+use crate::lent;
 
 // The values of chunk j into its own stretch: the part of each output from 1,024 times the chunk's number on, or from its end.
 fn restore_chunk(
@@ -36,8 +31,8 @@ fn restore_chunk(
     let t = chunks::setting_in(h);
     let n = chunks::count_at(h, j);
     let part = chunks::chunk_on(h, bytes, j);
-    let a32 = least(1024 * j, o32.len());
-    let a64 = least(1024 * j, o64.len());
+    let a32 = lent::least(1024 * j, o32.len());
+    let a64 = lent::least(1024 * j, o64.len());
     chunk::restored(t, part, n, c32, c64, &mut o32[a32..], &mut o64[a64..]);
 }
 
