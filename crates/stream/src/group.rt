@@ -65,7 +65,7 @@ pub(crate) fn measured(g: Group) -> usize
     1 + (w * n + 7) / 8
 }
 
-// The same of a full group: 32 codes of w bits are 4w whole bytes. The codes are taken out first, so that no record is copied.
+// The same of a full group: 32 codes of w bits are 4w whole bytes. The codes are taken out first, so that no record is copied by a call.
 pub(crate) fn measured_full(g: Group) -> usize
     requires { ⌜ g .count ≡ 32 ⌝ }
     ensures { λ r. ⌜ r ≡ length (groupBytes (take (g .count) (g .codes))) ⌝ }

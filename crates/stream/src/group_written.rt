@@ -118,7 +118,7 @@ fn put_block32(codes: &[u32], w: usize, out: &mut [u8])
     }
 }
 
-// A full group's bytes at the front of `out`, and how many they are. The codes are taken out first, so that no record is copied.
+// A full group's bytes at the front of `out`, and how many they are. The codes are taken out first, so that no record is copied by a call.
 pub(crate) fn full(g: Group, out: &mut [u8]) -> usize
     requires { ⌜ (g .count ≡ 32) × (length (groupBytes (take (g .count) (g .codes))) ≤ length (now out)) ⌝ }
     ensures { λ r. ⌜ r ≡ length (groupBytes (take (g .count) (g .codes))) ⌝ }

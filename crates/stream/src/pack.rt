@@ -19,6 +19,7 @@ use crate::chunk;
 use crate::lent;
 use crate::setting;
 use crate::setting::Setting;
+use blocks::bytes;
 
 // 1 2 3: what is refused before a value is looked at.
 fn length_step(width: usize, level: usize, mode: usize, k: i32, n: usize) -> Step
@@ -70,10 +71,7 @@ fn put_word(out: &mut [u8], at: usize, n: u32)
     requires { ⌜ at + 4 ≤ length (now out) ⌝ }
     ensures { λ _. ⌜ now (out .exit) ≡ take at (now (out .entry)) ++ digits 256 4 n ++ drop (at + 4) (now (out .entry)) ⌝ }
 {
-    out[at] = (n % 256) as u8;
-    out[at + 1] = (n / 256 % 256) as u8;
-    out[at + 2] = (n / 65536 % 256) as u8;
-    out[at + 3] = (n / 16777216 % 256) as u8;
+    bytes::half(out, at, n as u64);
 }
 
 // The number i of a list that goes on with zeros.

@@ -1,34 +1,15 @@
 -- Numbers of 4 bytes each, lowest byte first: written one by one, in place, and read at their places.
 use mathlib.Core.Path.{_≡_, refl, sym, ap, ap₂, _∙_}
 use mathlib.Core.List.{List, [], _∷_, _++_, append-assoc, append-nil}
-use Prim.Native.Nat.{ℕ, zero, suc, _+_, _-_, _*_, _/_, _%_, _^_, _≤_, _<_}
-use native.Mathlib.Nat.{div-div-eq-div-mul}
-use native.Mathlib.Numerals.{towards-suc, add-one}
+use Prim.Native.Nat.{ℕ, zero, suc, _+_, _-_, _*_, _^_, _≤_, _<_}
+use native.Mathlib.Numerals.{add-one}
 use native.Mathlib.Omega.{arith}
-use lib.ListN.{length, take, drop, set, getD, replicate, length-append, length-replicate}
-use lib.Seq.{sets, sets-eq, split-at, take-suc, take-at, take-all, drop-at, drop-drop, length-take-le}
+use lib.ListN.{length, take, drop, getD, replicate, length-append, length-replicate}
+use lib.Seq.{split-at, take-suc, take-at, take-all, drop-at, drop-drop, length-take-le}
 use Rattle.blocks.specs.Bytes.{Below, number, digits}
 use Rattle.stream.specs.Header.{word}
 use Rattle.stream.specs.Writing.{spell}
 use Rattle.blocks.proofs.Law.Digits.{byte, below-append, length-digits, digits-below, number-digits-whole}
-
--- ---- one number in four stores
-
-four-digits : (x : ℕ) → digits 256 4 x ≡ x % 256 ∷ x / 256 % 256 ∷ x / 65536 % 256 ∷ x / 16777216 % 256 ∷ []
-unfolding digits
-four-digits x = simp div-div-eq-div-mul
-
-four-sets : (l : List ℕ) (at a b c d : ℕ) → set (set (set (set l at a) (at + 1) b) (at + 2) c) (at + 3) d ≡ sets l at (a ∷ b ∷ c ∷ d ∷ [])
-four-sets l at a b c d = simp towards-suc
-
-pub four-stores : (out : List ℕ) (at x : ℕ) → at + 4 ≤ length out
-    → set (set (set (set out at (x % 256)) (at + 1) (x / 256 % 256)) (at + 2) (x / 65536 % 256)) (at + 3) (x / 16777216 % 256)
-    ≡ take at out ++ digits 256 4 x ++ drop (at + 4) out
-four-stores out at x h =
-    four-sets out at _ _ _ _
-    ∙ ap (sets out at) (sym (four-digits x))
-    ∙ sets-eq (digits 256 4 x) out at (rw length-digits h)
-    ∙ ap (λ (k : ℕ). take at out ++ digits 256 4 x ++ drop (at + k) out) (length-digits 256 4 x)
 
 -- ---- numbers one after the other
 
