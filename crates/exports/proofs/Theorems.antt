@@ -25,7 +25,7 @@ use Rattle.stream.specs.declared.answers.Probe32.{Probe32}
 use Rattle.stream.specs.declared.answers.Probe32.the-variants as p32
 use Rattle.stream.specs.declared.answers.Probe64.{Probe64}
 use Rattle.stream.specs.declared.answers.Probe64.the-variants as p64
-use Rattle.stream.proofs.Demands.{probe-as-unpack32, probe-as-unpack64}
+use Rattle.stream.proofs.Readers.{probe-as-unpack32, probe-as-unpack64}
 use Rattle.stream.proofs.Fitting.{check-fits, unpack-fits, unpacked-value-fits, probe-fits32, probed-value-fits32, probe-fits64, probed-value-fits64, length-fits, pack-fits}
 use Rattle.exports.specs.Result.{answerResult, probeKind32, probeResult32, probeOut32, probeKind64, probeResult64, probeOut64, boundResult, codeResult, codeOut, patternResult, patternOut}
 use Rattle.exports.specs.Theorem.{Uncut, Spelled}

@@ -22,8 +22,8 @@ use Rattle.stream.specs.declared.answers.Step.the-variants.{Pass, Stop}
 use Rattle.stream.specs.declared.answers.Probe32.the-variants as p32
 use Rattle.stream.specs.declared.answers.Probe64.the-variants as p64
 use Rattle.stream.proofs.Law.Rows.Small.{Told, SmallAnswer, check-answer-small, unpack-answer-small, probe-small, value-small, length-answer-small, pack-answer-small}
-use Rattle.stream.proofs.Law.Values.ThreeReaders.{done-pass, probe-passes, probe-value}
-use Rattle.stream.proofs.Demands.{written-values}
+use Rattle.stream.proofs.Law.Values.ThreeReaders.{done-pass, refused-stop32, refused-stop64, probe-passes, probe-value}
+use Rattle.stream.proofs.Readers.{written-values}
 
 -- a refusal
 abbrev pub Refusal : ℕ → ℕ → Type 0
@@ -35,32 +35,10 @@ Fits = SmallAnswer (2 ^ 32)
 
 -- ---- probe's answer tells its step
 
-told-no-refusal32 : (p : ℕ) (v : Float) (number detail : ℕ) → told32 p v ≡ p32.Refused number detail → _≡_ {A = ℕ} 0 1
-unfolding told32
-told-no-refusal32 p nan number detail e = let z : p32.NotANumber p ≡ p32.Refused number detail = e in cc
-told-no-refusal32 p (inf s) number detail e = let z : p32.Infinity s ≡ p32.Refused number detail = e in cc
-told-no-refusal32 p (fin s m x) number detail e = let z : p32.Finite (fin s m x) ≡ p32.Refused number detail = e in cc
-
-refused-stop32 : (step : Step) (p number detail : ℕ) → probed32 step p ≡ p32.Refused number detail → step ≡ Stop number detail
-unfolding probed32 shown32
-refused-stop32 Pass p number detail e = let z = told-no-refusal32 p (ofBits binary32 p) number detail e in absurd (omega arith)
-refused-stop32 (Stop x y) p number detail e = let z : p32.Refused x y ≡ p32.Refused number detail = e in cc
-
 accepted-pass32 : (step : Step) (p : ℕ) → ((number detail : ℕ) → step ≡ Stop number detail → Refusal number detail) → probeNumber32 (probed32 step p) ≡ 0 → step ≡ Pass
 unfolding probed32 probeNumber32
 accepted-pass32 Pass p told e = refl
 accepted-pass32 (Stop number detail) p told e = absurd (omega (arith, told number detail refl .some, e))
-
-told-no-refusal64 : (p : ℕ) (v : Float) (number detail : ℕ) → told64 p v ≡ p64.Refused number detail → _≡_ {A = ℕ} 0 1
-unfolding told64
-told-no-refusal64 p nan number detail e = let z : p64.NotANumber p ≡ p64.Refused number detail = e in cc
-told-no-refusal64 p (inf s) number detail e = let z : p64.Infinity s ≡ p64.Refused number detail = e in cc
-told-no-refusal64 p (fin s m x) number detail e = let z : p64.Finite (fin s m x) ≡ p64.Refused number detail = e in cc
-
-refused-stop64 : (step : Step) (p number detail : ℕ) → probed64 step p ≡ p64.Refused number detail → step ≡ Stop number detail
-unfolding probed64 shown64
-refused-stop64 Pass p number detail e = let z = told-no-refusal64 p (ofBits binary64 p) number detail e in absurd (omega arith)
-refused-stop64 (Stop x y) p number detail e = let z : p64.Refused x y ≡ p64.Refused number detail = e in cc
 
 accepted-pass64 : (step : Step) (p : ℕ) → ((number detail : ℕ) → step ≡ Stop number detail → Refusal number detail) → probeNumber64 (probed64 step p) ≡ 0 → step ≡ Pass
 unfolding probed64 probeNumber64

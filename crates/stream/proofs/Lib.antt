@@ -3,7 +3,8 @@ pub mod Law
 pub mod Theorems
 pub mod Known
 pub mod KnownStream
-pub mod Demands
+pub mod Readers
+pub mod Cut
 pub mod Written
 pub mod Settled
 pub mod Fitting

@@ -1,13 +1,19 @@
 -- The words that the theorems of proofs/Theorems.antt and proofs/Demands.antt are stated in.
 use mathlib.Core.Path.{_≡_}
+use mathlib.Core.Bool.{cond}
 use mathlib.Core.List.{List, [], _∷_, _++_}
 use Prim.Native.Nat.{ℕ, _+_, _-_, _*_, _/_, _^_, _≤_, _<_}
+use lib.Dec.{ltb}
 use lib.ListN.{length, take, drop, getD}
 use Rattle.blocks.specs.Bytes.{Below, digits}
 use Rattle.stream.specs.Group.{groupBytes}
 use Rattle.stream.specs.Chunk.{chunkBytes, chunkCodes}
 use Rattle.stream.specs.Header.{headerOf}
 use Rattle.stream.specs.Tables.{startAt}
+use Rattle.stream.specs.Probe.{shown32, shown64}
+use Rattle.stream.specs.Operations.{checkAnswer, unpackAnswer, probeAnswer32, probeAnswer64}
+use Rattle.stream.specs.declared.answers.Answer.the-variants.{Done}
+use Rattle.stream.specs.declared.header.Header.{Header}
 
 -- ---- groups and chunks
 
@@ -55,3 +61,16 @@ pub record InChunk (s : List ℕ) (j p : ℕ) : Type 0 where
   pub is-chunk : j < headerOf s .chunks
   pub after : headerOf s .start + startAt (headerOf s) s j ≤ p
   pub before : p < headerOf s .start + startAt (headerOf s) s (j + 1)
+
+-- ---- a stream that is cut
+
+-- the refusal of a stream that is cut to c bytes: its header is cut, or its data, or what stands behind the data
+unfoldable pub cutNumber : Header → ℕ → ℕ
+cutNumber h c = cond (ltb c 48) 5 (cond (ltb c (h .end)) 8 9)
+
+-- some reader accepts the bytes s at a level: check, unpack of a width into some room, or probe of some index, which then shows a pattern
+pub data Accepts (level : ℕ) (s : List ℕ) : Type 0 where
+  by-check : (n : ℕ) → checkAnswer level s ≡ Done n → Accepts level s
+  by-unpack : (W room n : ℕ) → unpackAnswer W level s room ≡ Done n → Accepts level s
+  by-probe32 : (i p : ℕ) → probeAnswer32 level s i ≡ shown32 p → Accepts level s
+  by-probe64 : (i p : ℕ) → probeAnswer64 level s i ≡ shown64 p → Accepts level s

@@ -2,13 +2,13 @@
 use mathlib.Core.Path.{_≡_, refl, sym, ap, ap₂, _∙_, fun-ext}
 use mathlib.Core.Logic.{_⊎_, inl, inr}
 use mathlib.Core.Bool.{Bool, true, _&&_}
-use mathlib.Core.List.{List, [], _∷_}
+use mathlib.Core.List.{List}
 use Prim.Native.Nat.{ℕ, zero, suc, _+_, _-_, _*_, _/_, _≤_, _<_}
 use native.Mathlib.Omega.{arith}
 use borrow.Author.Tests.{lt-ltb, le-ltb}
 use lib.Dec.{leb, ltb, eqb}
 use lib.ListN.{length, take, drop, set, length-set}
-use lib.Seq.{take-take, drop-drop, take-set-le, drop-set-lt, drop-set-add}
+use lib.Seq.{drop-drop, take-set-le, drop-set-lt, drop-set-add}
 use Rattle.blocks.specs.Bytes.{number}
 use Rattle.stream.specs.Setting.{groupSize, limitOf, patternsOf}
 use Rattle.stream.specs.Chunk.{chunkAnswer, chunkCodes}
@@ -19,21 +19,10 @@ use Rattle.stream.specs.Operations.{openingRows, tableRows, faultRow, ch
 use Rattle.stream.specs.Relied.{Layout}
 use Rattle.stream.specs.Theorem.{atChunk, Apart, InChunk}
 use Rattle.blocks.proofs.Law.Truth.{le-or-lt}
+use Rattle.stream.proofs.Law.Header.Front.{word-front, header-front}
 use Rattle.stream.proofs.Law.Tables.Starts.{rising, ends-before, placed}
 
--- bytes of a front, read from the front
-window : (p k n : ℕ) (l : List ℕ) → p + k ≤ n → take k (drop p (take n l)) ≡ take k (drop p l)
-window zero k n l h = take-take k n l (omega arith)
-window (suc p) k zero l h = absurd (omega arith)
-window (suc p) k (suc n) [] h = refl
-window (suc p) k (suc n) (x ∷ l) h = window p k n l (omega arith)
-
 module _ (s t : List ℕ) where
-  word-front : (n p : ℕ) → take n s ≡ take n t → p + 4 ≤ n → word s p ≡ word t p
-  unfolding word
-  word-front n p e h =
-      ap (number 256) (sym (window p 4 n s h) ∙ ap (λ (l : List ℕ). take 4 (drop p l)) e ∙ window p 4 n t h)
-
   word-behind : (n p : ℕ) → drop n s ≡ drop n t → n ≤ p → word s p ≡ word t p
   unfolding word
   word-behind n p e h =
@@ -46,27 +35,11 @@ every-same f g e k i = ap (λ (f : ℕ → Bool). every f k i) (fun-ext e)
 
 module _ (j : ℕ) (s t : List ℕ) (apart : Apart j s t) where
   front-word : (p : ℕ) → p + 4 ≤ 48 + 4 * headerOf s .chunks → word s p ≡ word t p
-  front-word p b = word-front s t (48 + 4 * headerOf s .chunks) p (apart .front) b
+  front-word = word-front s t (48 + 4 * headerOf s .chunks) (apart .front)
 
   -- the header
   pub header-same : headerOf s ≡ headerOf t
-  unfolding headerOf
-  header-same =
-      λ i.
-      record {
-        major = front-word 0 (omega arith) i;
-        written = front-word 4 (omega arith) i;
-        needed = front-word 8 (omega arith) i;
-        width = front-word 12 (omega arith) i;
-        mode = front-word 16 (omega arith) i;
-        exponent = front-word 20 (omega arith) i;
-        count = front-word 24 (omega arith) i;
-        chunks = front-word 28 (omega arith) i;
-        table = front-word 32 (omega arith) i;
-        start = front-word 36 (omega arith) i;
-        sides = front-word 40 (omega arith) i;
-        end = front-word 44 (omega arith) i;
-      }
+  header-same = header-front s t (48 + 4 * headerOf s .chunks) (apart .front) (omega arith)
 
   -- the chunk table
   start-same : (i : ℕ) → startAt (headerOf s) s i ≡ startAt (headerOf s) t i

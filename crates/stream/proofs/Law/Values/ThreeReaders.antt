@@ -6,13 +6,17 @@ use Prim.Native.Nat.{ℕ, _/_, _≤_, _<_}
 use native.Mathlib.Nat.{le-trans}
 use native.Mathlib.Omega.{arith}
 use borrow.Author.Tests.{le-ltb, eq-eqb}
+use lib.Ieee.{Float, nan, inf, fin, binary32, binary64, ofBits}
 use lib.ListN.{length, getD}
 use Rattle.stream.specs.Setting.{knownLevel}
 use Rattle.stream.specs.Header.{headerOf}
 use Rattle.stream.specs.Stream.{values, valueAt}
 use Rattle.stream.specs.Rows.{Row, first, answer}
+use Rattle.stream.specs.Probe.{told32, told64, shown32, shown64, probed32, probed64}
 use Rattle.stream.specs.Operations.{openingRows, tableRows, chunkRow, contentRows, widthRow, roomRow, indexRow, ownRows, checkRows, unpackRows, probeRows}
 use Rattle.stream.specs.declared.answers.Answer.the-variants.{Done, Refused}
+use Rattle.stream.specs.declared.answers.Probe32.the-variants as p32
+use Rattle.stream.specs.declared.answers.Probe64.the-variants as p64
 use Rattle.stream.specs.declared.answers.Step.{Step}
 use Rattle.stream.specs.declared.answers.Step.the-variants.{Pass, Stop}
 use Rattle.stream.proofs.Law.Rows.First.{andThen, first-append, opened, opened-both}
@@ -33,6 +37,40 @@ pub refused-stop : (a : Step) (m number detail : ℕ) → answer a m ≡ Refused
 unfolding answer
 refused-stop Pass m number detail e = let z : Done m ≡ Refused number detail = e in cc
 refused-stop (Stop x y) m number detail e = let z : Refused x y ≡ Refused number detail = e in cc
+
+-- probe's answer likewise
+
+told-no-refusal32 : (p : ℕ) (v : Float) (number detail : ℕ) → told32 p v ≡ p32.Refused number detail → _≡_ {A = ℕ} 0 1
+unfolding told32
+told-no-refusal32 p nan number detail e = let z : p32.NotANumber p ≡ p32.Refused number detail = e in cc
+told-no-refusal32 p (inf s) number detail e = let z : p32.Infinity s ≡ p32.Refused number detail = e in cc
+told-no-refusal32 p (fin s m x) number detail e = let z : p32.Finite (fin s m x) ≡ p32.Refused number detail = e in cc
+
+pub refused-stop32 : (step : Step) (p number detail : ℕ) → probed32 step p ≡ p32.Refused number detail → step ≡ Stop number detail
+unfolding probed32 shown32
+refused-stop32 Pass p number detail e = let z = told-no-refusal32 p (ofBits binary32 p) number detail e in absurd (omega arith)
+refused-stop32 (Stop x y) p number detail e = let z : p32.Refused x y ≡ p32.Refused number detail = e in cc
+
+pub shown-pass32 : (step : Step) (p q : ℕ) → probed32 step p ≡ shown32 q → step ≡ Pass
+unfolding probed32 shown32
+shown-pass32 Pass p q e = refl
+shown-pass32 (Stop number detail) p q e = let z = told-no-refusal32 q (ofBits binary32 q) number detail (sym e) in absurd (omega arith)
+
+told-no-refusal64 : (p : ℕ) (v : Float) (number detail : ℕ) → told64 p v ≡ p64.Refused number detail → _≡_ {A = ℕ} 0 1
+unfolding told64
+told-no-refusal64 p nan number detail e = let z : p64.NotANumber p ≡ p64.Refused number detail = e in cc
+told-no-refusal64 p (inf s) number detail e = let z : p64.Infinity s ≡ p64.Refused number detail = e in cc
+told-no-refusal64 p (fin s m x) number detail e = let z : p64.Finite (fin s m x) ≡ p64.Refused number detail = e in cc
+
+pub refused-stop64 : (step : Step) (p number detail : ℕ) → probed64 step p ≡ p64.Refused number detail → step ≡ Stop number detail
+unfolding probed64 shown64
+refused-stop64 Pass p number detail e = let z = told-no-refusal64 p (ofBits binary64 p) number detail e in absurd (omega arith)
+refused-stop64 (Stop x y) p number detail e = let z : p64.Refused x y ≡ p64.Refused number detail = e in cc
+
+pub shown-pass64 : (step : Step) (p q : ℕ) → probed64 step p ≡ shown64 q → step ≡ Pass
+unfolding probed64 shown64
+shown-pass64 Pass p q e = refl
+shown-pass64 (Stop number detail) p q e = let z = told-no-refusal64 q (ofBits binary64 q) number detail (sym e) in absurd (omega arith)
 
 -- ---- check and unpack
 
