@@ -18,8 +18,8 @@ use Rattle.stream.specs.Rows.{first, answer, after}
 use Rattle.stream.specs.Header.{word, headerOf, chunksIn, settingRight, layoutRight}
 use Rattle.stream.specs.Tables.{chunkTableRight, sideTableRight}
 use Rattle.stream.specs.Stream.{chunkState, values}
-use Rattle.stream.specs.Writing.{headerNumbers, endOf, stream, Side, withSides, WellFormedSides}
-use Rattle.stream.specs.Packing.{Packable, firstPart, Sent, mostBytes}
+use Rattle.stream.specs.Writing.{headerNumbers, endOf, stream, Side, addSides, WellFormedSides}
+use Rattle.stream.specs.Packing.{Packable, Sent, mostBytes}
 use Rattle.stream.specs.Operations.{checkRows, checkAnswer, unpackRows, unpackAnswer, unpackOut, probeRows, lengthAnswer, packRows, packAnswer, packOut}
 use Rattle.stream.specs.declared.answers.Answer.the-variants.{Done, Refused}
 use Rattle.stream.specs.declared.answers.Step.the-variants.{Pass, Stop}
@@ -69,7 +69,8 @@ module _ (W level mode : ℕ) (k : ℤ) (vs : List ℕ) (p : Packable W level mo
   pub the-plain-stream : Sent level (settingOf W mode k) vs (stream level (settingOf W mode k) vs)
   the-plain-stream = plain-sent level (settingOf W mode k) vs
 
-  pub with-side-parts : (ps : List Side) → WellFormedSides (firstPart (settingOf W mode k) vs (length ps)) ps → Sent level (settingOf W mode k) vs (withSides level (settingOf W mode k) vs ps)
+  pub with-side-parts : (ps : List Side) → WellFormedSides (length (stream level (settingOf W mode k) vs) + 12 * length ps) ps
+      → Sent level (settingOf W mode k) vs (addSides (stream level (settingOf W mode k) vs) ps)
   with-side-parts ps well = record { sides = ps; well-formed = well; bytes = refl }
 
   module _ (s : List ℕ) (sent : Sent level (settingOf W mode k) vs s) where

@@ -11,7 +11,7 @@ use Rattle.stream.specs.Setting.{knownWidth, allowedSetting, settingOf, 
 use Rattle.stream.specs.Chunk.{groupsIn}
 use Rattle.stream.specs.Header.{chunksIn}
 use Rattle.stream.specs.Rows.{Row, row}
-use Rattle.stream.specs.Writing.{endOf, Side, withSides, WellFormedSides}
+use Rattle.stream.specs.Writing.{endOf, stream, Side, addSides, WellFormedSides}
 use Rattle.stream.specs.declared.setting.Setting.{Setting}
 
 -- A list of values, W bits wide, with a written minor and a setting that a stream may have: the minor reaches the need. The levels that
@@ -25,15 +25,11 @@ pub record Packable (W level mode : ℕ) (k : ℤ) (vs : List ℕ) : Type 0 wher
   pub few : length vs ≤ 1048576
   pub patterns : Below (2 ^ W) vs
 
--- where the first of so many side parts lies: right after the side table, which lies at the end of data
-unfoldable pub firstPart : Setting → List ℕ → ℕ → ℕ
-firstPart t vs sides = endOf t vs (chunksIn (length vs)) + 12 * sides
-
 -- The bytes s of such a list as a reader may meet them: as pack wrote them, or with well-formed side parts added behind the data.
 pub record Sent (level : ℕ) (t : Setting) (vs s : List ℕ) : Type 0 where
   pub sides : List Side
-  pub well-formed : WellFormedSides (firstPart t vs (length sides)) sides
-  pub bytes : s ≡ withSides level t vs sides
+  pub well-formed : WellFormedSides (length (stream level t vs) + 12 * length sides) sides
+  pub bytes : s ≡ addSides (stream level t vs) sides
 
 -- "Packed length is never above 48 + 4c + (n/32 rounded up) + n·W/8."
 unfoldable pub mostBytes : Setting → ℕ → ℕ

@@ -88,11 +88,12 @@ unfoldable pub parts : List Side → List ℕ
 parts [] = []
 parts (p ∷ ps) = p .bytes ++ parts ps
 
--- the stream of a list with side parts behind its data
-unfoldable pub withSides : ℕ → Setting → List ℕ → List Side → List ℕ
-withSides level t vs ps =
-    body level t vs (length ps)
-    ++ spell (entries (endOf t vs (chunksIn (length vs)) + 12 * length ps) ps)
+-- Side parts are added to a stream b that has none: their number is put in its place in the header, and the side table and the parts come
+-- behind all that is there.
+unfoldable pub addSides : List ℕ → List Side → List ℕ
+addSides b ps =
+    take 40 b ++ digits 256 4 (length ps) ++ drop 44 b
+    ++ spell (entries (length b + 12 * length ps) ps)
     ++ parts ps
 
 -- "Ids increase strictly", from a floor on

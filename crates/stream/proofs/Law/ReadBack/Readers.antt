@@ -1,6 +1,6 @@
 -- A written stream, with any well-formed side parts, before every reader: no row is given where the level reaches the need, and row 7
 -- where it does not.
-use mathlib.Core.Path.{_≡_, refl, sym, ap, ap₂, _∙_}
+use mathlib.Core.Path.{_≡_, refl, sym, ap, ap₂, subst, _∙_}
 use mathlib.Core.Bool.{true}
 use mathlib.Core.List.{List, [], _∷_, _++_, append-assoc, append-nil}
 use Prim.Native.Nat.{ℕ, zero, suc, _+_, _*_, _^_, _≤_, _<_, zero-le}
@@ -10,13 +10,13 @@ use borrow.Author.Tests.{lt-ltb, le-ltb, eq-eqb}
 use lib.Dec.{lit<}
 use lib.ListN.{length, getD, List·getD-append}
 use Rattle.blocks.specs.Bytes.{Below}
-use Rattle.stream.specs.Setting.{knownLevel, need, groupSize, codesOf, patternsOf}
+use Rattle.stream.specs.Setting.{knownLevel, need, kBits, groupSize, codesOf, patternsOf}
 use Rattle.stream.specs.Rows.{Row, rowsFrom, first}
 use Rattle.stream.specs.Header.{word, headerOf, chunksIn, settingRight, layoutRight}
 use Rattle.stream.specs.Tables.{chunkTableRight, sideTableRight}
 use Rattle.stream.specs.Stream.{chunkState, valuesIn, values}
-use Rattle.stream.specs.Writing.{spell, piece, pieceBytes, dataOf, startsOf, headerNumbers, endOf, body, stream, Side, entries, parts, withSides, increasing, WellFormedSides}
-use Rattle.stream.specs.Packing.{firstPart, Sent}
+use Rattle.stream.specs.Writing.{spell, piece, pieceBytes, dataOf, startsOf, headerNumbers, endOf, body, stream, Side, entries, parts, addSides, increasing, WellFormedSides}
+use Rattle.stream.specs.Packing.{Sent}
 use Rattle.stream.specs.Operations.{headerRows, openingRows, tableRows, chunkRow, chunkRows, contentRows, widthRow, roomRow, indexRow, ownRows, checkRows, unpackRows, probeRows}
 use Rattle.stream.specs.declared.answers.Step.the-variants.{Pass, Stop}
 use Rattle.stream.specs.declared.chunk.ChunkAnswer.the-variants.{Good}
@@ -30,25 +30,36 @@ use Rattle.stream.proofs.Law.Setting.Codes.{codes-under}
 use Rattle.stream.proofs.Law.Setting.Allowed.{Storable, width-most}
 use Rattle.stream.proofs.Law.Setting.Widths.{width-bytes}
 use Rattle.stream.proofs.Law.Plain.Joined.{joined-below}
-use Rattle.stream.proofs.Law.Written.Numbers.{spell-below}
+use Rattle.stream.proofs.Law.Written.Numbers.{spell-below, spell-put}
 use Rattle.stream.proofs.Law.ReadBack.Values.{chunk-below}
 use Rattle.stream.proofs.Law.Written.Pieces.{piece-below, end-is}
-use Rattle.stream.proofs.Law.Rows.Packing.{length-body}
+use Rattle.stream.proofs.Law.Rows.Packing.{length-body, length-stream}
 use Rattle.stream.proofs.Law.ReadBack.Header.{headerFor, frontNumbers, front-word, header-is, setting-right, layout-right}
 use Rattle.stream.proofs.Law.ReadBack.Chunks.{chunk-table-right, chunk-good, values-back}
 use Rattle.stream.proofs.Law.ReadBack.Sides.{length-sided, side-table-right}
 
--- the plain stream has no side parts
-plain-is : (level : ℕ) (t : Setting) (vs : List ℕ) → stream level t vs ≡ withSides level t vs []
-unfolding stream withSides entries parts spell
-plain-is level t vs = sym (append-nil (body level t vs 0 ++ []) ∙ append-nil (body level t vs 0))
+-- side parts come behind the body, whose header counts them
+sided : (level : ℕ) (t : Setting) (vs : List ℕ) (ps : List Side)
+    → addSides (stream level t vs) ps ≡ body level t vs (length ps) ++ spell (entries (endOf t vs (chunksIn (length vs)) + 12 * length ps) ps) ++ parts ps
+unfolding addSides stream body headerNumbers
+sided level t vs ps =
+    let c = chunksIn (length vs) in
+    let ten : List ℕ = 1 ∷ level ∷ need t ∷ t .width ∷ t .mode ∷ kBits t ∷ length vs ∷ c ∷ 48 ∷ (48 + 4 * c) ∷ [] in
+    ap₂ (λ (b : List ℕ) (n : ℕ). b ++ spell (entries (n + 12 * length ps) ps) ++ parts ps)
+    (spell-put ten (endOf t vs c ∷ startsOf t vs c) (dataOf t vs c) 40 refl 0 (length ps))
+    (length-stream level t vs)
+
+-- the plain stream has none
+plain-is : (level : ℕ) (t : Setting) (vs : List ℕ) → stream level t vs ≡ addSides (stream level t vs) []
+unfolding stream entries parts spell
+plain-is level t vs = sym (sided level t vs [] ∙ append-nil (body level t vs 0 ++ []) ∙ append-nil (body level t vs 0))
 
 no-sides : (place : ℕ) → WellFormedSides place []
 unfolding increasing entries parts
 no-sides place = record { few = zero-le; ordered = refl; numbers = λ i. lit< tt; are-bytes = λ i. byte }
 
 pub plain-sent : (level : ℕ) (t : Setting) (vs : List ℕ) → Sent level t vs (stream level t vs)
-plain-sent level t vs = record { sides = []; well-formed = no-sides (firstPart t vs 0); bytes = plain-is level t vs }
+plain-sent level t vs = record { sides = []; well-formed = no-sides (length (stream level t vs) + 12 * 0); bytes = plain-is level t vs }
 
 -- rows of which none is given
 all-pass : (f : ℕ → Row) (k i : ℕ) → ((j : ℕ) → i ≤ j → j < i + k → first (f j ∷ []) ≡ Pass) → first (rowsFrom f k i) ≡ Pass
@@ -61,8 +72,7 @@ module _ (level : ℕ) (t : Setting) (vs : List ℕ) (p : Storable level t vs) (
   ps = sent .sides
 
   abbrev well : WellFormedSides (endOf t vs (chunksIn (length vs)) + 12 * length ps) ps
-  unfolding firstPart
-  well = sent .well-formed
+  well = subst (λ (n : ℕ). WellFormedSides (n + 12 * length ps) ps) (length-stream level t vs) (sent .well-formed)
 
   abbrev chunks : ℕ
   chunks = chunksIn (length vs)
@@ -72,8 +82,7 @@ module _ (level : ℕ) (t : Setting) (vs : List ℕ) (p : Storable level t vs) (
 
   -- the parts of the stream, as the header and the tables see them
   after-body : s ≡ body level t vs (length ps) ++ behind
-  unfolding withSides
-  after-body = sent .bytes ∙ append-assoc (body level t vs (length ps)) (spell (entries (endOf t vs chunks + 12 * length ps) ps)) (parts ps)
+  after-body = sent .bytes ∙ sided level t vs ps ∙ append-assoc (body level t vs (length ps)) (spell (entries (endOf t vs chunks + 12 * length ps) ps)) (parts ps)
 
   after-front : s ≡ spell (frontNumbers level t vs (length ps)) ++ (dataOf t vs chunks ++ behind)
   unfolding body
