@@ -1,7 +1,7 @@
 /*
  * Packs a small field within a tolerance and reads it back: a program to copy from.
  *
- *     cc -std=c99 -I include examples/pack_field.c target/staticlib/libexports.a -lm -o pack_field
+ *     cc -std=c99 -I include examples/pack_field.c target/lib/libgwizdorad.a -lm -o pack_field
  */
 #include "gwizdorad.h"
 

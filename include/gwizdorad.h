@@ -3,9 +3,9 @@
  *
  * A field is a list of bit patterns (IEEE 754). Packed, it is a stream of bytes: lossless, or within a
  * tolerance 2^k that is kept exactly. docs/FORMAT.md has every byte of the stream, examples/pack_field.c is
- * a program to copy from, and the archive is made by `rt staticlib exports`:
+ * a program to copy from, and the archive is made by tools/build-archives:
  *
- *     cc -std=c99 -I include yours.c target/staticlib/libexports.a
+ *     cc -std=c99 -I include yours.c target/lib/libgwizdorad.a
  *
  *
  * WHAT IS LENT

@@ -1,5 +1,5 @@
 //! Links the programs `compare` and `bench`, and nothing else, with the
-//! archive libexports.a in the directory GWZ_LIB_DIR names, and `bench` also
+//! archive libgwizdorad.a in the directory GWZ_LIB_DIR names, and `bench` also
 //! with the C version of the format. Without the feature `linked` nothing is
 //! linked, and neither an archive nor a C compiler is needed.
 
@@ -23,10 +23,10 @@ fn main() {
 
 fn link_archive() {
     let Some(directory) = env::var_os("GWZ_LIB_DIR") else {
-        println!("cargo::error=GWZ_LIB_DIR must name the directory of libexports.a");
+        println!("cargo::error=GWZ_LIB_DIR must name the directory of libgwizdorad.a");
         return;
     };
-    match Path::new(&directory).join("libexports.a").canonicalize() {
+    match Path::new(&directory).join("libgwizdorad.a").canonicalize() {
         Ok(archive) => {
             println!("cargo::rerun-if-changed={}", archive.display());
             for program in ["compare", "bench"] {
@@ -36,7 +36,7 @@ fn link_archive() {
                 println!("cargo::rustc-link-arg-bin={program}=-Wl,-z,muldefs");
             }
         }
-        Err(error) => println!("cargo::error=no libexports.a in GWZ_LIB_DIR: {error}"),
+        Err(error) => println!("cargo::error=no libgwizdorad.a in GWZ_LIB_DIR: {error}"),
     }
 }
 

@@ -56,7 +56,7 @@ pub extern "C" fn gwz_bound(width: u32, tolerance: u64) -> u64 {
     packed_number(codes::bound(width, tolerance).map(|k| k as u32 as u64))
 }
 
-macro_rules! exports {
+macro_rules! operations {
     ($word:ident, $width:ident, $pack:ident, $length:ident, $unpack:ident, $probe:ident,
      $lossless_code:ident, $lossless_restored:ident, $tolerance_code:ident,
      $tolerance_restored:ident) => {
@@ -162,7 +162,7 @@ macro_rules! exports {
     };
 }
 
-exports!(
+operations!(
     u32,
     WIDTH_32,
     gwz_pack32,
@@ -174,7 +174,7 @@ exports!(
     gwz_tolerance_code32,
     gwz_tolerance_restored32
 );
-exports!(
+operations!(
     u64,
     WIDTH_64,
     gwz_pack64,

@@ -1,3 +1,0 @@
--- The laws that the exports' own proofs cite, and the theorems about what they return.
-pub mod Law
-pub mod Theorems

@@ -1,0 +1,55 @@
+-- The operations' answers, and probe's kinds, in one number.
+use mathlib.Core.Path.{_≡_, refl, ap, ap₂}
+use Prim.Native.Nat.{ℕ}
+use native.Mathlib.Omega.{arith}
+use lib.Dec.{lit<}
+use Rattle.stream.specs.Rows.{answerNumber, answerDetail}
+use Rattle.stream.specs.Probe.{probeNumber32, probeNumber64}
+use Rattle.stream.specs.declared.answers.Answer.{Answer}
+use Rattle.stream.specs.declared.answers.Answer.the-variants.{Done, Refused}
+use Rattle.stream.specs.declared.answers.Probe32.{Probe32}
+use Rattle.stream.specs.declared.answers.Probe32.the-variants as p32
+use Rattle.stream.specs.declared.answers.Probe64.{Probe64}
+use Rattle.stream.specs.declared.answers.Probe64.the-variants as p64
+use Rattle.stream.proofs.Fitting.{Refusal, Fits}
+use Rattle.gwizdorad_numbers.specs.Theorem.{Uncut}
+use Rattle.gwizdorad_numbers.proofs.Theorems.{two-that-fit-are-uncut}
+use Rattle.gwizdorad.specs.Result.{answerResult, probeKind32, probeResult32, probeKind64, probeResult64}
+use Rattle.gwizdorad.specs.Theorem.{Spelled}
+
+pub answer-spelled : (a : Answer) → Fits a → Spelled a
+unfolding answerResult answerNumber answerDetail
+answer-spelled (Done n) small =
+    record {
+      uncut = two-that-fit-are-uncut 0 n (lit< tt) small;
+      numbered = λ number detail e. let z : _≡_ {A = ℕ} 0 1 = cc in absurd (omega arith);
+    }
+answer-spelled (Refused x y) told =
+    record {
+      uncut = two-that-fit-are-uncut x y (told .number-small) (told .detail-small);
+      numbered = λ number detail e. let same : x ≡ number = cc in rw same at (told .some);
+    }
+
+-- an answer is told by its number and what stands beside it
+pub answer-told : (a b : Answer) → Spelled a → Spelled b → answerNumber a ≡ answerNumber b → answerDetail a ≡ answerDetail b → a ≡ b
+unfolding answerNumber answerDetail
+answer-told (Done n) (Done m) s t number detail = ap Done detail
+answer-told (Done n) (Refused x y) s t number detail = absurd (omega (arith, t .numbered x y refl, number))
+answer-told (Refused x y) (Done n) s t number detail = absurd (omega (arith, s .numbered x y refl, number))
+answer-told (Refused x y) (Refused z w) s t number detail = ap₂ Refused number detail
+
+pub probe-spelled32 : (a : Probe32) → ((number detail : ℕ) → a ≡ p32.Refused number detail → Refusal number detail)
+    → Uncut (probeNumber32 a) (probeKind32 a) (probeResult32 a)
+unfolding probeResult32 probeNumber32 probeKind32
+probe-spelled32 (p32.Finite x) h = two-that-fit-are-uncut 0 0 (lit< tt) (lit< tt)
+probe-spelled32 (p32.Infinity negative) h = two-that-fit-are-uncut 0 1 (lit< tt) (lit< tt)
+probe-spelled32 (p32.NotANumber p) h = two-that-fit-are-uncut 0 2 (lit< tt) (lit< tt)
+probe-spelled32 (p32.Refused number detail) h = let r = h number detail refl in two-that-fit-are-uncut number detail (r .number-small) (r .detail-small)
+
+pub probe-spelled64 : (a : Probe64) → ((number detail : ℕ) → a ≡ p64.Refused number detail → Refusal number detail)
+    → Uncut (probeNumber64 a) (probeKind64 a) (probeResult64 a)
+unfolding probeResult64 probeNumber64 probeKind64
+probe-spelled64 (p64.Finite x) h = two-that-fit-are-uncut 0 0 (lit< tt) (lit< tt)
+probe-spelled64 (p64.Infinity negative) h = two-that-fit-are-uncut 0 1 (lit< tt) (lit< tt)
+probe-spelled64 (p64.NotANumber p) h = two-that-fit-are-uncut 0 2 (lit< tt) (lit< tt)
+probe-spelled64 (p64.Refused number detail) h = let r = h number detail refl in two-that-fit-are-uncut number detail (r .number-small) (r .detail-small)
