@@ -9,6 +9,8 @@ pub mod Exponent
 pub mod Answers
 pub mod Bound
 pub mod Ieee
+pub mod Read
+pub mod BoundRead
 pub mod Float
 pub mod Round
 pub mod Near

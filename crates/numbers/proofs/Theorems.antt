@@ -3,7 +3,7 @@
 use mathlib.Core.Path.{_≡_, refl, sym, ap, _∙_}
 use mathlib.Core.Bool.{true, false, cond}
 use Prim.Native.Nat.{ℕ, _+_, _-_, _*_, _/_, _%_, _^_, _≤_, _<_}
-use native.Mathlib.Nat.{mod-lt}
+use native.Mathlib.Nat.{mod-lt, le-refl}
 use native.Mathlib.Omega.{arith}
 use lib.Dec.{leb, eqb, lit<, lit≤}
 use lib.IntN.{ℤ}
@@ -16,13 +16,15 @@ use Rattle.numbers.specs.Lossless.{losslessCode, losslessRestored}
 use Rattle.numbers.specs.Tolerance.{kOffset, lastBin, allowedK, binOf, sign, ordinal, magnitude, restoredOrdinal, toleranceCode, toleranceRestored, largestU}
 use Rattle.numbers.specs.Answers.{binAnswer}
 use Rattle.numbers.specs.Bound.{isTolerance, exponentOf, notAbove, boundAt}
-use Rattle.numbers.specs.Theorem.{Format, distance, Within, IsBound}
+use Rattle.numbers.specs.Theorem.{Format, distance, Within, IsBound, Returned, BoundFor}
 use Rattle.numbers.proofs.Law.Lossless as Lossless
 use Rattle.numbers.proofs.Law.Tolerance as Tolerance
 use Rattle.numbers.proofs.Law.Answers.{bin-small, allowed, bin-is, refused-is}
 use Rattle.numbers.proofs.Law.Exponent.{leZ-both}
 use Rattle.numbers.proofs.Law.Bound as Bound
 use Rattle.numbers.proofs.Law.Ieee as Ieee
+use Rattle.numbers.proofs.Law.Read as Read
+use Rattle.numbers.proofs.Law.BoundRead as BoundRead
 
 -- ---- the widths: binary32 and binary64, and binary16 by its numbers alone
 
@@ -198,3 +200,18 @@ binary32-special = Ieee.special-value binary32
 pub binary64-special : (p : ℕ) → ordinal 64 p / 2 ^ 52 ≡ 2047 → ofBits binary64 p ≡ cond (eqb (p % 2 ^ 52) 0) (inf (leb (2 ^ 63) p)) nan
 unfolding ordinal
 binary64-special = Ieee.special-value binary64
+
+-- ---- demand 2 and bound in the words of IEEE 754: what our magnitudes say, said of the numbers that patterns are read as
+
+pub binary32-returned : (j : ℕ) → j ≤ lastBin 32 23 → (p q : ℕ) → Within 32 23 j p q → Returned binary32 j p q
+binary32-returned = Read.returned binary32 32 refl refl (lit≤ tt)
+
+pub binary64-returned : (j : ℕ) → j ≤ lastBin 64 52 → (p q : ℕ) → Within 64 52 j p q → Returned binary64 j p q
+binary64-returned = Read.returned binary64 64 refl refl (lit≤ tt)
+
+pub bound-for-binary32 : (t : ℕ) → BoundFor 32 23 t (boundAt 32 23 t)
+unfolding kOffset
+bound-for-binary32 = BoundRead.bound-for 32 23 format-32 (lit≤ tt)
+
+pub bound-for-binary64 : (t : ℕ) → BoundFor 64 52 t (boundAt 64 52 t)
+bound-for-binary64 = BoundRead.bound-for 64 52 format-64 (le-refl (kOffset 64 52))

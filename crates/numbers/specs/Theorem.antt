@@ -1,9 +1,13 @@
 -- The words that the theorems of proofs/Theorems.antt are stated in.
 use mathlib.Core.Path.{_≡_}
-use mathlib.Core.Bool.{true}
+use mathlib.Core.Bool.{Bool, true, false}
 use Prim.Native.Nat.{ℕ, _+_, _-_, _*_, _^_, _≤_, _<_}
+use lib.Ieee as Ieee
+use lib.Ieee.Exact.{HasValue}
 use lib.IntN.{ℤ}
 use lib.Signed.{_≤ℤ_}
+use Rattle.numbers.specs.declared.bound.BoundAnswer.{BoundAnswer}
+use Rattle.numbers.specs.declared.bound.BoundAnswer.the-variants.{Exponent, NoTolerance, TooSmall}
 use Rattle.numbers.specs.Tolerance.{kOffset, lastBin, allowedK, binOf, sign, ordinal, magnitude, threshold}
 use Rattle.numbers.specs.Bound.{notAbove}
 
@@ -29,3 +33,34 @@ pub record IsBound (W m t : ℕ) (k : ℤ) : Type 0 where
   pub allowed : allowedK W m k ≡ true
   pub below : notAbove W m t (binOf W m k) ≡ true
   pub largest : (other : ℤ) → allowedK W m other ≡ true → notAbove W m t (binOf W m other) ≡ true → other ≤ℤ k
+
+-- ---- the same in the words of IEEE 754, by the toolchain's own account of it (`lib.Ieee`)
+
+-- The pattern p is read as a finite number, negative or not, whose magnitude is x of the format's smallest: x times 2^-149, or 2^-1074.
+abbrev pub Reads : Ieee.Format → ℕ → Bool → ℕ → Type 0
+Reads f p negative x = HasValue (Ieee.ofBits f p) negative x (2 ^ Ieee.low f)
+
+-- Demand 2 for one pattern p that comes back as q, under the tolerance 2^k, with E = 2 ^ j units: if p is read as a finite number of
+-- magnitude below T, then q is read as a finite number of the same sign, and twice their distance is at most E; every other pattern is
+-- the same.
+pub record Returned (f : Ieee.Format) (j p q : ℕ) : Type 0 where
+  pub close : (negative : Bool) (x : ℕ) → Reads f p negative x → x < threshold (Ieee.prec f - 1) j
+      → (y : ℕ) × Reads f q negative y × (2 * distance x y ≤ 2 ^ j)
+  pub same : ((negative : Bool) (x : ℕ) → Reads f p negative x → threshold (Ieee.prec f - 1) j ≤ x) → q ≡ p
+
+-- "2^k not above it", for the number x times 2^-1074: both sides count in halves of that unit, in which 2^k is 2 ^ (k + 1075).
+abbrev pub Reaches : ℕ → ℤ → Type 0
+Reaches x k = 2 ^ binOf 64 52 k ≤ 2 * x
+
+-- "the largest allowed k with 2^k not above it"
+pub record LargestFor (W m x : ℕ) (k : ℤ) : Type 0 where
+  pub allowed : allowedK W m k ≡ true
+  pub reached : Reaches x k
+  pub largest : (other : ℤ) → allowedK W m other ≡ true → Reaches x other → other ≤ℤ k
+
+-- What bound answers of a tolerance t: its k; 12, where t is not read as "a finite number above 0"; 13, where 2^k is above it for every
+-- allowed k.
+pub data BoundFor (W m t : ℕ) : BoundAnswer → Type 0 where
+  a-k : (x : ℕ) → Reads Ieee.binary64 t false x → 0 < x → (k : ℤ) → LargestFor W m x k → BoundFor W m t (Exponent k)
+  no-tolerance : ((x : ℕ) → Reads Ieee.binary64 t false x → x ≡ 0) → BoundFor W m t NoTolerance
+  too-small : (x : ℕ) → Reads Ieee.binary64 t false x → 0 < x → ((k : ℤ) → allowedK W m k ≡ true → 2 * x < 2 ^ binOf 64 52 k) → BoundFor W m t TooSmall

@@ -79,6 +79,16 @@ module _ (L : ℕ) where
           rw (sub-low i a)
           (rw (le-ltb L (suc (L - suc i)) (omega arith)) (ap pos (let e : L - suc (L - suc i) ≡ i = omega arith in e)))
 
+  -- and counted from a smaller k than the bin is
+  pub add-sub-more : (i M : ℕ) → L ≤ M → natAbs (subℕ i L +ℤ pos M) ≡ i + (M - L)
+  add-sub-more i M h = go (le-or-lt L i)
+    where
+      go : (L ≤ i) ⊎ (i < L) → natAbs (subℕ i L +ℤ pos M) ≡ i + (M - L)
+      go (inl a) = rw (sub-high i a) (let e : i - L + M ≡ i + (M - L) = omega arith in e)
+      go (inr a) =
+          rw (sub-low i a)
+          (rw (le-ltb M (suc (L - suc i)) (omega arith)) (let e : M - suc (L - suc i) ≡ i + (M - L) = omega arith in e))
+
 -- the exponent of the bin of a k that is not below the smallest
 pub sub-add : (least : ℕ) (k : ℤ) → leZ (negsuc least) k ≡ true → subℕ (natAbs (k +ℤ pos (suc least))) (suc least) ≡ k
 sub-add least (pos a) l = sub-high (suc least) (a + suc least) (omega arith) ∙ ap pos (let e : a + suc least - suc least ≡ a = omega arith in e)
