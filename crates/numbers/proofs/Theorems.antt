@@ -1,5 +1,5 @@
 -- The theorems of the number rules, each stated once over the width W and the fraction bits m, and at the end for binary32 and binary64.
--- The proofs are citations of the laws in proofs/Law/. The words are those of specs/.
+-- The proofs are citations of the laws in proofs/Law/, here and in `bins`. The words are those of specs/, here and there.
 use mathlib.Core.Path.{_≡_, refl, sym, ap, _∙_}
 use mathlib.Core.Bool.{true, false, cond}
 use Prim.Native.Nat.{ℕ, _+_, _-_, _*_, _/_, _%_, _^_, _≤_, _<_}
@@ -10,19 +10,19 @@ use lib.IntN.{ℤ}
 use lib.Pow.{pow-pos}
 use lib.Ieee.{binary32, binary64, inf, nan, ofBits}
 use lib.Ieee.Exact.{HasValue}
-use Rattle.numbers.specs.declared.tolerance.BinAnswer.the-variants.{Bin, NotAllowed}
+use Rattle.bins.specs.declared.bin.BinAnswer.the-variants.{Bin, NotAllowed}
 use Rattle.numbers.specs.declared.bound.BoundAnswer.the-variants.{Exponent, NoTolerance, TooSmall}
 use Rattle.numbers.specs.Lossless.{losslessCode, losslessRestored}
-use Rattle.numbers.specs.Tolerance.{kOffset, lastBin, allowedK, binOf, sign, ordinal, magnitude, restoredOrdinal, toleranceCode, toleranceRestored, largestU}
-use Rattle.numbers.specs.Answers.{binAnswer}
+use Rattle.bins.specs.Tolerance.{kOffset, lastBin, allowedK, binOf, sign, ordinal, magnitude, restoredOrdinal, toleranceCode, toleranceRestored, largestU}
+use Rattle.bins.specs.Answers.{binAnswer}
 use Rattle.numbers.specs.Bound.{isTolerance, exponentOf, notAbove, boundAt}
 use Rattle.numbers.specs.Theorem.{Format, distance, Within, IsBound, Returned, BoundFor}
 use Rattle.numbers.proofs.Law.Lossless as Lossless
-use Rattle.numbers.proofs.Law.Tolerance as Tolerance
-use Rattle.numbers.proofs.Law.Answers.{bin-small, allowed, bin-is, refused-is}
-use Rattle.numbers.proofs.Law.Exponent.{leZ-both}
+use Rattle.bins.proofs.Law.Tolerance as Tolerance
+use Rattle.bins.proofs.Law.Answers.{bin-small, allowed, bin-is, refused-is}
+use Rattle.bins.proofs.Law.Exponent.{leZ-both}
 use Rattle.numbers.proofs.Law.Bound as Bound
-use Rattle.numbers.proofs.Law.Ieee as Ieee
+use Rattle.bins.proofs.Law.Ieee as Ieee
 use Rattle.numbers.proofs.Law.Read as Read
 use Rattle.numbers.proofs.Law.BoundRead as BoundRead
 

@@ -3,17 +3,11 @@ use Prim.Native.Nat.{ℕ, _/_}
 use mathlib.Core.Bool.{cond}
 use lib.Dec.{leb}
 use lib.IntN.{ℤ}
-use Rattle.numbers.specs.declared.tolerance.BinAnswer.{BinAnswer}
-use Rattle.numbers.specs.declared.tolerance.BinAnswer.the-variants as bin
 use Rattle.numbers.specs.declared.tolerance.CodeAnswer.{CodeAnswer}
 use Rattle.numbers.specs.declared.tolerance.CodeAnswer.the-variants as code
 use Rattle.numbers.specs.declared.tolerance.PatternAnswer.{PatternAnswer}
 use Rattle.numbers.specs.declared.tolerance.PatternAnswer.the-variants as pattern
-use Rattle.numbers.specs.Tolerance.{allowedK, binOf, toleranceCode, toleranceRestored, largestU}
-
--- the bin of an allowed k; any other k is refused
-unfoldable pub binAnswer : ℕ → ℕ → ℤ → BinAnswer
-binAnswer W m k = cond (allowedK W m k) (bin.Bin (binOf W m k)) bin.NotAllowed
+use Rattle.bins.specs.Tolerance.{allowedK, binOf, toleranceCode, toleranceRestored, largestU}
 
 unfoldable pub codeAnswer : ℕ → ℕ → ℤ → ℕ → CodeAnswer
 codeAnswer W m k p = cond (allowedK W m k) (code.Code (toleranceCode W m (binOf W m k) p)) code.NotAllowed
@@ -26,10 +20,6 @@ patternAnswer W m k c =
     pattern.NotAllowed
 
 -- ---- the refusal numbers of document 01: 2, "mode or k not allowed"; 10, "u above its largest"
-
-unfoldable pub binNumber : BinAnswer → ℕ
-binNumber (bin.Bin j) = 0
-binNumber bin.NotAllowed = 2
 
 unfoldable pub codeNumber : CodeAnswer → ℕ
 codeNumber (code.Code c) = 0

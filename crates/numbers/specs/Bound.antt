@@ -5,7 +5,7 @@ use lib.Dec.{leb, ltb, eqb}
 use lib.IntN.{ℤ, pos, subℕ}
 use Rattle.numbers.specs.declared.bound.BoundAnswer.{BoundAnswer}
 use Rattle.numbers.specs.declared.bound.BoundAnswer.the-variants.{Exponent, UnknownWidth, NoTolerance, TooSmall}
-use Rattle.numbers.specs.Tolerance.{kOffset, lastBin, magnitude}
+use Rattle.bins.specs.Tolerance.{kOffset, lastBin, magnitude}
 
 -- "a finite number above 0": above the pattern of 0 and below that of infinity, behind which come the not-a-numbers and all negatives
 unfoldable pub isTolerance : ℕ → Bool

@@ -8,7 +8,7 @@ use lib.IntN.{ℤ}
 use lib.Signed.{_≤ℤ_}
 use Rattle.numbers.specs.declared.bound.BoundAnswer.{BoundAnswer}
 use Rattle.numbers.specs.declared.bound.BoundAnswer.the-variants.{Exponent, NoTolerance, TooSmall}
-use Rattle.numbers.specs.Tolerance.{kOffset, lastBin, allowedK, binOf, sign, ordinal, magnitude, threshold}
+use Rattle.bins.specs.Tolerance.{kOffset, lastBin, allowedK, binOf, sign, ordinal, magnitude, threshold}
 use Rattle.numbers.specs.Bound.{notAbove}
 
 -- What is asked of a width W with m fraction bits: the sign and two exponent bits, a smallest k below 0, and a largest k that is not.

@@ -2,9 +2,9 @@
 ghost use mathlib.Core.Path.{_≡_};
 ghost use mathlib.Core.Bool.{true};
 ghost use lib.Ieee.{size};
-ghost use Rattle.numbers.specs.Tolerance.{magnitude};
+ghost use Rattle.bins.specs.Tolerance.{magnitude};
 ghost use Rattle.numbers.specs.Bound.{isTolerance, boundAt, boundAnswer};
-use crate::tolerance;
+use bins::bin;
 
 pub enum BoundAnswer {
     Exponent(i32),
@@ -44,7 +44,7 @@ fn bound32(t: u64) -> BoundAnswer
     if d < 925 {
         return BoundAnswer::TooSmall;
     }
-    BoundAnswer::Exponent(tolerance::clipped32(d - 925) as i32 - 150)
+    BoundAnswer::Exponent(bin::clipped32(d - 925) as i32 - 150)
 }
 
 fn bound64(t: u64) -> BoundAnswer
@@ -54,7 +54,7 @@ fn bound64(t: u64) -> BoundAnswer
     if !some {
         return BoundAnswer::NoTolerance;
     }
-    BoundAnswer::Exponent(tolerance::clipped64(digits_of(t)) as i32 - 1075)
+    BoundAnswer::Exponent(bin::clipped64(digits_of(t)) as i32 - 1075)
 }
 
 // The largest k allowed at the width with 2^k not above the tolerance.

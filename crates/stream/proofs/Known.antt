@@ -7,7 +7,7 @@ use lib.IntN.{pos, negsuc}
 use lib.Ieee.{size}
 use lib.ListN.{replicate}
 use Rattle.numbers.specs.Signed.{signedView, folded}
-use Rattle.numbers.specs.Tolerance.{kOffset, lastBin, binOf, largestU}
+use Rattle.bins.specs.Tolerance.{kOffset, lastBin, binOf, largestU}
 use Rattle.numbers.specs.Lossless.{rotated, field, minus, lowered, stepped, losslessCode}
 use Rattle.blocks.specs.Bytes.{number, digits}
 use Rattle.stream.specs.Group.{bytesFor, largest, widthOf, packed, groupBytes, givenWidth, groupLength, groupNumber, groupCodes, within, goodGroup}

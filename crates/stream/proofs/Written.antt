@@ -9,7 +9,7 @@ use borrow.Author.Tests.{eq-eqb, lt-ltb, le-ltb}
 use lib.Dec.{ltb}
 use lib.IntN.{ℤ}
 use lib.ListN.{length, drop, getD}
-use Rattle.numbers.specs.Tolerance.{binOf, ordinal}
+use Rattle.bins.specs.Tolerance.{binOf, ordinal}
 use Rattle.numbers.specs.Theorem.{Within}
 use Rattle.blocks.specs.Bytes.{Below}
 use Rattle.stream.specs.Setting.{knownLevel, fractionBits, binFor, settingOf, need, groupSize, codesOf, patternsOf}

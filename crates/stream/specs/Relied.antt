@@ -5,7 +5,7 @@ use Prim.Native.Nat.{ℕ, _+_, _*_, _/_, _^_, _≤_, _<_}
 use mathlib.Core.Bool.{true}
 use mathlib.Core.List.{List}
 use lib.ListN.{length}
-use Rattle.numbers.specs.Tolerance.{lastBin}
+use Rattle.bins.specs.Tolerance.{lastBin}
 use Rattle.stream.specs.Setting.{knownWidth, fractionBits, allowedSetting}
 use Rattle.stream.specs.Header.{kOf}
 use Rattle.stream.specs.Tables.{chunkTableRight}

@@ -1,6 +1,6 @@
 -- Document 01, "Levels", and what a setting says of codes. A setting is a record of natural numbers (`Setting` of src/setting.rt): a width, a
 -- mode and a bin. It is made here, from the width, the mode and the k of a call or of a header; all else is said of the record.
--- The number rules are those of the library `numbers`.
+-- The number rules are those of the libraries `numbers` and `bins`.
 use Prim.Native.Nat.{ℕ, _-_, _^_, min, max}
 use mathlib.Core.Bool.{Bool, false, _&&_, _||_, cond}
 use mathlib.Core.List.{List, map}
@@ -8,7 +8,7 @@ use lib.Dec.{leb, eqb}
 use lib.IntN.{ℤ, pos, negsuc}
 use Rattle.numbers.specs.Signed.{bitsOf}
 use Rattle.numbers.specs.Lossless.{losslessCode, losslessRestored}
-use Rattle.numbers.specs.Tolerance.{allowedK, binOf, lastBin, toleranceCode, toleranceRestored, largestU}
+use Rattle.bins.specs.Tolerance.{allowedK, binOf, lastBin, toleranceCode, toleranceRestored, largestU}
 use Rattle.numbers.specs.Bound.{exponentOf}
 use Rattle.stream.specs.declared.setting.Setting.{Setting}
 

@@ -7,8 +7,8 @@ ghost use Rattle.stream.specs.Setting.{codeAt, patternAt, codesOf, patte
 use crate::group::Group;
 use crate::group::Narrow;
 use crate::setting::Setting;
+use bins::bin;
 use numbers::lossless;
-use numbers::tolerance;
 
 // The code of one pattern, by mode.
 fn code32(t: Setting, p: u32) -> u32
@@ -18,7 +18,7 @@ fn code32(t: Setting, p: u32) -> u32
     if t.mode == 0 {
         lossless::code32(p)
     } else {
-        tolerance::code_at_bin32(t.bin, p)
+        bin::code_at_bin32(t.bin, p)
     }
 }
 
@@ -29,7 +29,7 @@ fn code64(t: Setting, p: u64) -> u64
     if t.mode == 0 {
         lossless::code64(p)
     } else {
-        tolerance::code_at_bin64(t.bin, p)
+        bin::code_at_bin64(t.bin, p)
     }
 }
 
@@ -41,7 +41,7 @@ pub(crate) fn pattern32(t: Setting, c: u32) -> u32
     if t.mode == 0 {
         lossless::restored32(c)
     } else {
-        tolerance::restored_at_bin32(t.bin, c)
+        bin::restored_at_bin32(t.bin, c)
     }
 }
 
@@ -52,7 +52,7 @@ pub(crate) fn pattern64(t: Setting, c: u64) -> u64
     if t.mode == 0 {
         lossless::restored64(c)
     } else {
-        tolerance::restored_at_bin64(t.bin, c)
+        bin::restored_at_bin64(t.bin, c)
     }
 }
 

@@ -3,12 +3,12 @@ ghost use mathlib.Core.Path.{_≡_};
 ghost use mathlib.Core.Bool.{true};
 ghost use Prim.Native.Nat.{_^_, _≤_, _<_};
 ghost use lib.IntN.{subℕ};
-ghost use Rattle.numbers.specs.Answers.{binAnswer};
+ghost use Rattle.bins.specs.Answers.{binAnswer};
 ghost use Rattle.numbers.specs.Signed.{bitsOf};
 ghost use Rattle.stream.specs.Setting.{knownLevel, knownWidth, fractionBits, need, allowedSetting, binFor, settingOf, kBits, groupSize, limitOf};
 ghost use Rattle.stream.specs.Relied.{Allowed};
-use numbers::tolerance;
-use numbers::tolerance::BinAnswer;
+use bins::bin;
+use bins::bin::BinAnswer;
 
 // What everything below the header wants of a setting: natural numbers, with the bin for k.
 pub(crate) struct Setting {
@@ -35,9 +35,9 @@ fn bin_at(width: usize, k: i32) -> BinAnswer
     ensures { λ r. ⌜ r ≡ binAnswer width (fractionBits width) k ⌝ }
 {
     if width == 32 {
-        return tolerance::bin32(k);
+        return bin::bin32(k);
     }
-    tolerance::bin64(k)
+    bin::bin64(k)
 }
 
 // Whether a setting is one that document 01 allows.
@@ -139,10 +139,10 @@ pub(crate) fn limit_of(t: Setting) -> u64
         if t.mode == 0 {
             return 0x7FFF_FFFF;
         }
-        return tolerance::largest_u32(t.bin) as u64;
+        return bin::largest_u32(t.bin) as u64;
     }
     if t.mode == 0 {
         return 0x7FFF_FFFF_FFFF_FFFF;
     }
-    tolerance::largest_u64(t.bin)
+    bin::largest_u64(t.bin)
 }

@@ -8,7 +8,7 @@ use lib.IntN.{ℤ}
 use mir.Syntax.{w32}
 use mir.Val.{SFits, toZ, ofZ}
 use mir.Facts.{toZ-ofZ}
-use Rattle.numbers.specs.Tolerance.{allowedK, binOf, toleranceCode, toleranceRestored, largestU}
+use Rattle.bins.specs.Tolerance.{allowedK, binOf, toleranceCode, toleranceRestored, largestU}
 use Rattle.numbers.specs.Answers.{codeAnswer, patternAnswer}
 use Rattle.numbers.specs.Theorem.{Format}
 use Rattle.numbers.specs.declared.tolerance.CodeAnswer.the-variants as code

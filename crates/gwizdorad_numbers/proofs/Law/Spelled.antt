@@ -7,7 +7,7 @@ use native.Mathlib.Omega.{arith}
 use lib.Dec.{ltb, eqb, lit<, lit≤}
 use lib.IntN.{ℤ, pos, negsuc, subℕ}
 use Rattle.numbers.specs.Signed.{signedView, folded, bitsOf}
-use Rattle.numbers.specs.Tolerance.{kOffset, lastBin, binOf}
+use Rattle.bins.specs.Tolerance.{kOffset, lastBin, binOf}
 use Rattle.numbers.specs.Bound.{exponentOf, boundAt, boundAnswer, boundNumber, boundDetail}
 use Rattle.numbers.specs.Theorem.{Format}
 use Rattle.numbers.specs.declared.bound.BoundAnswer.{BoundAnswer}

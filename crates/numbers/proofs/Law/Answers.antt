@@ -1,88 +1,35 @@
 -- What the answer of a bin says of the answers that go through it, once over W and m.
-use mathlib.Core.Path.{_≡_, refl, sym, ap, _∙_}
-use mathlib.Core.Bool.{Bool, true, false, _&&_, cond}
-use Prim.Native.Nat.{ℕ, suc, _+_, _-_, _/_, _≤_, _<_, min}
-use native.Mathlib.Nat.{min-eq-left}
-use native.Mathlib.Omega.{arith}
-use borrow.Author.Tests.{le-leb, lt-leb, le-ltb}
-use lib.IntN.{ℤ, pos, negsuc, negℤ, natAbs, subℕ, _+ℤ_}
-use lib.Signed.{leZ}
-use mir.Syntax.{w32}
-use mir.Val.{SFits, toZ, ofZ}
-use mir.Facts.{toZ-ofZ}
-use Rattle.numbers.specs.declared.tolerance.BinAnswer.{BinAnswer}
-use Rattle.numbers.specs.declared.tolerance.BinAnswer.the-variants as bin
+use mathlib.Core.Path.{_≡_, refl}
+use Prim.Native.Nat.{ℕ, _/_, _≤_, _<_}
+use borrow.Author.Tests.{le-leb, lt-leb}
+use lib.IntN.{ℤ}
+use Rattle.bins.specs.declared.bin.BinAnswer.the-variants as bin
+use Rattle.bins.specs.Tolerance.{allowedK, toleranceCode, toleranceRestored, largestU}
+use Rattle.bins.specs.Answers.{binAnswer}
+use Rattle.bins.proofs.Law.Answers.{allowed, bin-is, refused-is}
 use Rattle.numbers.specs.declared.tolerance.CodeAnswer.the-variants as code
 use Rattle.numbers.specs.declared.tolerance.PatternAnswer.the-variants as pattern
-use Rattle.numbers.specs.Tolerance.{kOffset, lastBin, allowedK, binOf, toleranceCode, toleranceRestored, largestU}
-use Rattle.numbers.specs.Answers.{binAnswer, codeAnswer, patternAnswer}
-use Rattle.numbers.proofs.Law.Exponent.{lifted}
-
-pub and-left : (a b : Bool) → a && b ≡ true → a ≡ true
-and-left true b e = refl
-and-left false b e = e
-
-pub and-right : (a b : Bool) → a && b ≡ true → b ≡ true
-and-right true b e = e
-and-right false b e = let z : false ≡ true = e in cc
-
--- what a call of `bin32` or `bin64` said, as it stands after a match
-pub answered : (W m : ℕ) (k : ℤ) → SFits w32 k → (r e : BinAnswer) → r ≡ binAnswer W m (toZ w32 (ofZ w32 k)) → r ≡ e → binAnswer W m k ≡ e
-answered W m k f r e a b = ap (binAnswer W m) (sym (toZ-ofZ f)) ∙ sym a ∙ b
+use Rattle.numbers.specs.Answers.{codeAnswer, patternAnswer}
 
 module _ (W m : ℕ) (k : ℤ) where
-  -- an allowed k has a bin up to the last
-  pub bin-small : 0 < kOffset W m → kOffset W m ≤ lastBin W m → allowedK W m k ≡ true → binOf W m k ≤ lastBin W m
-  unfolding allowedK binOf
-  bin-small some order e = go (kOffset W m - 1) (omega arith) (lastBin W m - kOffset W m) (omega arith)
-    where
-      go : (least : ℕ) → kOffset W m ≡ suc least → (last : ℕ) → last + kOffset W m ≡ lastBin W m → natAbs (k +ℤ pos (kOffset W m)) ≤ lastBin W m
-      go least l last h =
-          let low : leZ (negsuc least) k ≡ true = rw l at (and-left (leZ (negℤ (pos (kOffset W m))) k) (leZ k (subℕ (lastBin W m) (kOffset W m))) e) in
-          let sub : subℕ (lastBin W m) (kOffset W m) ≡ pos last = rw (le-ltb (lastBin W m) (kOffset W m) order) (ap pos (let q : lastBin W m - kOffset W m ≡ last = omega arith in q)) in
-          let high : leZ k (pos last) ≡ true = rw sub at (and-right (leZ (negℤ (pos (kOffset W m))) k) (leZ k (subℕ (lastBin W m) (kOffset W m))) e) in
-          let r = lifted least last k low high in
-          rw (l, r .1) (omega (arith, r .2))
-
   module _ (j : ℕ) (is : binAnswer W m k ≡ bin.Bin j) where
-    allowed-is : (b : Bool) → allowedK W m k ≡ b → allowedK W m k ≡ true
-    unfolding binAnswer
-    allowed-is true e = e
-    allowed-is false e = let z : bin.NotAllowed ≡ bin.Bin j = sym (ap (λ (b : Bool). cond b (bin.Bin (binOf W m k)) bin.NotAllowed) e) ∙ is in cc
-
-    pub allowed : allowedK W m k ≡ true
-    allowed = allowed-is (allowedK W m k) refl
-
-    pub bin-is : binOf W m k ≡ j
-    unfolding binAnswer
-    bin-is = let z : bin.Bin (binOf W m k) ≡ bin.Bin j = sym (ap (λ (b : Bool). cond b (bin.Bin (binOf W m k)) bin.NotAllowed) allowed) ∙ is in cc
-
     pub code-is : (p : ℕ) → codeAnswer W m k p ≡ code.Code (toleranceCode W m j p)
     unfolding codeAnswer
-    code-is p = rw (allowed, bin-is)
+    code-is p = rw (allowed W m k j is, bin-is W m k j is)
 
     pub pattern-is : (c : ℕ) → c / 2 ≤ largestU W m j → patternAnswer W m k c ≡ pattern.Pattern (toleranceRestored W m j c)
     unfolding patternAnswer
-    pattern-is c h = rw (allowed, bin-is, le-leb (c / 2) (largestU W m j) h)
+    pattern-is c h = rw (allowed W m k j is, bin-is W m k j is, le-leb (c / 2) (largestU W m j) h)
 
     pub above-is : (c : ℕ) → largestU W m j < c / 2 → patternAnswer W m k c ≡ pattern.AboveLargest
     unfolding patternAnswer
-    above-is c h = rw (allowed, bin-is, lt-leb (c / 2) (largestU W m j) h)
-
-    -- a bin of an allowed k is not clipped
-    pub unclipped : 0 < kOffset W m → kOffset W m ≤ lastBin W m → min j (lastBin W m) ≡ j
-    unclipped some order = min-eq-left (rw bin-is at (bin-small some order allowed))
-
-  pub refused-is : (b : Bool) → allowedK W m k ≡ b → binAnswer W m k ≡ bin.NotAllowed → allowedK W m k ≡ false
-  unfolding binAnswer
-  refused-is true e is = let z : bin.Bin (binOf W m k) ≡ bin.NotAllowed = sym (ap (λ (b : Bool). cond b (bin.Bin (binOf W m k)) bin.NotAllowed) e) ∙ is in cc
-  refused-is false e is = e
+    above-is c h = rw (allowed W m k j is, bin-is W m k j is, lt-leb (c / 2) (largestU W m j) h)
 
   module _ (is : binAnswer W m k ≡ bin.NotAllowed) where
     pub no-code : (p : ℕ) → codeAnswer W m k p ≡ code.NotAllowed
     unfolding codeAnswer
-    no-code p = rw (refused-is (allowedK W m k) refl is)
+    no-code p = rw (refused-is W m k (allowedK W m k) refl is)
 
     pub no-pattern : (c : ℕ) → patternAnswer W m k c ≡ pattern.NotAllowed
     unfolding patternAnswer
-    no-pattern c = rw (refused-is (allowedK W m k) refl is)
+    no-pattern c = rw (refused-is W m k (allowedK W m k) refl is)

@@ -17,14 +17,14 @@ use mir.Syntax.{Width}
 use mir.Val.{hbits, SFits, toZ, ofZ}
 use mir.Facts.{toZ-ofZ, toZ-pos}
 use Rattle.numbers.specs.declared.bound.BoundAnswer.the-variants.{Exponent, NoTolerance, TooSmall}
-use Rattle.numbers.specs.Tolerance.{kOffset, lastBin, allowedK, binOf, magnitude}
+use Rattle.bins.specs.Tolerance.{kOffset, lastBin, allowedK, binOf, magnitude}
 use Rattle.numbers.specs.Bound.{isTolerance, exponentOf, notAbove, largestUpTo, boundAt}
 use Rattle.numbers.specs.Theorem.{Format, IsBound}
-use Rattle.numbers.proofs.Law.Exponent.{sub-mono, add-sub, sub-add}
-use Rattle.numbers.proofs.Law.Answers.{and-left, bin-small}
-use Rattle.numbers.proofs.Law.Number.{le-or-lt, twice-half}
-use Rattle.numbers.proofs.Law.Tolerance.{size-from, size-together, significand-led, magnitude-plain, exponent-some}
-use Rattle.numbers.proofs.Law.Working.{zeros-size}
+use Rattle.bins.proofs.Law.Exponent.{sub-mono, add-sub, sub-add}
+use Rattle.bins.proofs.Law.Answers.{and-left, bin-small}
+use Rattle.bins.proofs.Law.Number.{le-or-lt, twice-half}
+use Rattle.bins.proofs.Law.Tolerance.{size-from, size-together, significand-led, magnitude-plain, exponent-some}
+use Rattle.bins.proofs.Law.Working.{zeros-size}
 
 -- ---- what is a tolerance
 

@@ -13,14 +13,14 @@ use lib.Ieee.{binary64, prec, low, hid, ones, top, ofBits}
 use lib.Ieee as Ieee
 use lib.Ieee.Exact.{HasValue}
 use Rattle.numbers.specs.declared.bound.BoundAnswer.the-variants.{Exponent, NoTolerance, TooSmall}
-use Rattle.numbers.specs.Tolerance.{kOffset, lastBin, allowedK, binOf, magnitude}
+use Rattle.bins.specs.Tolerance.{kOffset, lastBin, allowedK, binOf, magnitude}
 use Rattle.numbers.specs.Bound.{isTolerance, exponentOf, notAbove, largestUpTo, boundAt}
 use Rattle.numbers.specs.Theorem.{Format, IsBound, Reads, Reaches, LargestFor, BoundFor, a-k, no-tolerance, too-small}
-use Rattle.numbers.proofs.Law.Number.{le-or-lt}
-use Rattle.numbers.proofs.Law.Exponent.{add-sub-more}
-use Rattle.numbers.proofs.Law.Answers.{and-right}
-use Rattle.numbers.proofs.Law.Tolerance.{magnitude-plain}
-use Rattle.numbers.proofs.Law.Ieee.{finite-value}
+use Rattle.bins.proofs.Law.Number.{le-or-lt}
+use Rattle.bins.proofs.Law.Exponent.{add-sub-more}
+use Rattle.bins.proofs.Law.Answers.{and-right}
+use Rattle.bins.proofs.Law.Tolerance.{magnitude-plain}
+use Rattle.bins.proofs.Law.Ieee.{finite-value}
 use Rattle.numbers.proofs.Law.Read.{finite-field, read-as}
 use Rattle.numbers.proofs.Law.Bound as Bound
 

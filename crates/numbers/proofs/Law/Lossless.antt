@@ -11,7 +11,7 @@ use lib.Pow.{pow-pos, pow-mono, pow-add}
 use Rattle.numbers.specs.Signed.{signedView, unfolded, bitsOf}
 use Rattle.numbers.specs.Lossless.{rotated, field, minus, lowered, stepped, losslessCode, plus, raised, unstepped, unrotated, losslessRestored}
 use Rattle.numbers.proofs.Law.Signed.{unfolded-folded, folded-unfolded, bits-of-view, view-of-bits, bits-below, folded-below}
-use Rattle.numbers.proofs.Law.Number.{le-or-lt, mod-once, minus-plain, minus-wraps, wraps-minus, quotient-zero, quotient-some, twice-half}
+use Rattle.bins.proofs.Law.Number.{le-or-lt, mod-once, minus-plain, minus-wraps, wraps-minus, quotient-zero, quotient-some, twice-half}
 
 module _ (W : ℕ) (some : 0 < W) where
   -- ---- the rotation

@@ -12,11 +12,11 @@ use lib.Pow.{pow-pos}
 use lib.IntN.{ℤ, pos, negsuc}
 use lib.Ieee.{Float, nan, inf, fin, Format, prec, low, up, down, hid, ones, top, ofBits}
 use lib.Ieee.Exact.{HasValue}
-use Rattle.numbers.specs.Tolerance.{lastBin, sign, ordinal, magnitude, threshold, thresholdOrdinal}
+use Rattle.bins.specs.Tolerance.{lastBin, sign, ordinal, magnitude, threshold, thresholdOrdinal}
 use Rattle.numbers.specs.Theorem.{distance, Within, Reads, Returned}
-use Rattle.numbers.proofs.Law.Number.{le-or-lt}
-use Rattle.numbers.proofs.Law.Tolerance.{from-threshold}
-use Rattle.numbers.proofs.Law.Ieee.{finite-value, special-value}
+use Rattle.bins.proofs.Law.Number.{le-or-lt}
+use Rattle.bins.proofs.Law.Tolerance.{from-threshold}
+use Rattle.bins.proofs.Law.Ieee.{finite-value, special-value}
 
 -- a float has one sign and one value
 down-some : (e : ℤ) → 0 < down e

@@ -9,16 +9,17 @@ use native.Mathlib.Omega.{arith}
 use borrow.Author.Tests.{lt-ltb, le-ltb, eq-eqb, ne-eqb}
 use lib.Arith.{digits-mod}
 use lib.Bits.{bitAnd, bitXor, xor-add-and, xor-zero-r, and-mask}
-use lib.Dec.{T, ltb}
+use lib.Dec.{ltb}
 use lib.IntN.{ℤ, pos, negsuc, natAbs, _-ℤ_}
-use lib.Signed.{mag, ltZ, nonNeg}
+use lib.Signed.{mag, ltZ}
 use lib.Pow.{pow-pos}
 use mir.Syntax.{Width}
 use mir.Val.{bits, hbits, Fits, SFits, toZ, ofZ}
-use mir.ValLaws.{bits-suc, pow-bits}
+use mir.ValLaws.{bits-suc}
 use mir.Facts.{toZ-ofZ, toZ-pos}
 use Rattle.numbers.specs.Signed.{signedView, folded, unfolded, bitsOf}
-use Rattle.numbers.proofs.Law.Number.{le-or-lt, twice-half}
+use Rattle.bins.proofs.Law.Number.{le-or-lt, twice-half}
+use Rattle.bins.proofs.Law.Machine.{half-twice}
 
 -- ---- there and back
 
@@ -94,9 +95,6 @@ minus-one-neg : (n : ℕ) → negsuc 0 -ℤ negsuc n ≡ pos n
 minus-one-neg n = rw (le-ltb (suc n) 1 (omega arith)) (ap pos (let e : suc n - 1 ≡ n = omega arith in e))
 
 module _ (w : Width) where
-  half-twice : 2 ^ bits w ≡ 2 ^ hbits w + 2 ^ hbits w
-  half-twice = let e : 2 ^ hbits w * 2 ≡ 2 ^ hbits w + 2 ^ hbits w = omega arith in pow-bits w ∙ e
-
   half-is : 2 ^ (bits w - 1) ≡ 2 ^ hbits w
   half-is = ap (λ (n : ℕ). 2 ^ (n - 1)) (bits-suc w) ∙ ap (λ (n : ℕ). 2 ^ n) (let e : suc (hbits w) - 1 ≡ hbits w = omega arith in e)
 
@@ -113,7 +111,7 @@ module _ (w : Width) where
   view-low s h = toZ-pos w h ∙ rw (lt-ltb s (2 ^ (bits w - 1)) (omega (arith, half-is)))
 
   top-small : (s : ℕ) → 2 ^ hbits w ≤ s → s < 2 ^ bits w → 2 ^ bits w - 1 - s < 2 ^ hbits w
-  top-small s h l = omega (arith, half-twice)
+  top-small s h l = omega (arith, half-twice w)
 
   pub view-fits : (s : ℕ) → 2 ^ hbits w ≤ s → s < 2 ^ bits w → SFits w (negsuc 0 -ℤ toZ w (2 ^ bits w - 1 - s))
   view-fits s h l = below-fits (2 ^ bits w - 1 - s) (top-small s h l)
@@ -126,7 +124,7 @@ module _ (w : Width) where
 
   -- half of a code
   half-small : (c : ℕ) → c < 2 ^ bits w → c / 2 < 2 ^ hbits w
-  half-small c h = omega (arith, half-twice)
+  half-small c h = omega (arith, half-twice w)
 
   -- ---- a signed number by its test against 0: what is cast is natural and in the lower half
 
@@ -138,16 +136,13 @@ module _ (w : Width) where
   negative-is (pos n) f t = let e : ltb n 0 ≡ true = rw (toZ-ofZ f) at t in let z : false ≡ true = sym (le-ltb n 0 (omega arith)) ∙ e in cc
   negative-is (negsuc n) f t = refl
 
-  -- what is asked of a number y that is cast to unsigned, where y is a natural number of the lower half
+  -- what is asked beside `cast-fits` of a number y that is cast to unsigned, where y is a natural number of the lower half
   module _ (y : ℤ) (n : ℕ) (is : y ≡ pos n) (small : n < 2 ^ hbits w) where
-    pub cast-fits : T (nonNeg y) × Fits w (natAbs y)
-    cast-fits = rw is (tt, record { fits = omega (arith, half-twice) })
-
     pub one-more-fits : Fits w (natAbs y + 1)
-    one-more-fits = rw is (record { fits = omega (arith, half-twice) })
+    one-more-fits = rw is (record { fits = omega (arith, half-twice w) })
 
     pub under-top : natAbs y ≤ 2 ^ bits w - 1
-    under-top = rw is (omega (arith, half-twice))
+    under-top = rw is (omega (arith, half-twice w))
 
   module _ (x : ℤ) (f : SFits w x) (t : ltZ (toZ w (ofZ w x)) (pos 0) ≡ false) where
     pub positive-cast : toZ w (ofZ w x) ≡ pos (mag x)

@@ -6,7 +6,7 @@ use borrow.Author.Tests.{not-true, not-false}
 use lib.Dec.{lit<}
 use mir.Syntax.{w32}
 use Rattle.numbers.specs.declared.bound.BoundAnswer.the-variants.{Exponent}
-use Rattle.numbers.specs.Tolerance.{kOffset, lastBin}
+use Rattle.bins.specs.Tolerance.{kOffset, lastBin}
 use Rattle.numbers.specs.Bound.{exponentOf}
 use Rattle.numbers.proofs.Law.Bound.{tolerance-some, refused-is, bound-none, bound-is, magnitude-some, difference-fits, difference-is}
 use borrow.Author.Needs.{needs}

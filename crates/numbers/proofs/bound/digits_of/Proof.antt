@@ -1,7 +1,7 @@
 -- `numbers::bound::digits_of` meets its contract.
 use mathlib.Core.Path.{_∙_, sym}
 use lib.Count.{leading-le}
-use Rattle.numbers.proofs.Law.Number.{fraction-only, led-by-one}
+use Rattle.bins.proofs.Law.Number.{fraction-only, led-by-one}
 use Rattle.numbers.proofs.Law.Bound.{word-digits, size-plain, size-led}
 use borrow.Author.Needs.{needs}
 use Rattle.numbers.proofs.bound.digits_of.Statement.{statement}

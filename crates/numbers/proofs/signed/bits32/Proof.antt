@@ -1,6 +1,7 @@
 -- `numbers::signed::bits32` meets its contract, by the laws over the machine's width.
 use mir.Syntax.{w32}
-use Rattle.numbers.proofs.Law.Signed.{cast-fits, under-top, negative-fits, negative-cast, negative-bits, positive-cast, positive-bits}
+use Rattle.bins.proofs.Law.Machine.{cast-fits}
+use Rattle.numbers.proofs.Law.Signed.{under-top, negative-fits, negative-cast, negative-bits, positive-cast, positive-bits}
 use Rattle.numbers.proofs.signed.bits32.Statement.{statement}
 use Rattle.numbers.proofs.signed.bits32.Tie as tie
 

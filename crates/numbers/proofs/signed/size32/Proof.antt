@@ -1,6 +1,7 @@
 -- `numbers::signed::size32` meets its contract, by the laws over the machine's width.
 use mir.Syntax.{w32}
-use Rattle.numbers.proofs.Law.Signed.{cast-fits, one-more-fits, negative-fits, negative-cast, negative-size, positive-cast, positive-size}
+use Rattle.bins.proofs.Law.Machine.{cast-fits}
+use Rattle.numbers.proofs.Law.Signed.{one-more-fits, negative-fits, negative-cast, negative-size, positive-cast, positive-size}
 use Rattle.numbers.proofs.signed.size32.Statement.{statement}
 use Rattle.numbers.proofs.signed.size32.Tie as tie
 

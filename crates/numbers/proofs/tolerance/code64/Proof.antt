@@ -3,8 +3,9 @@ use mathlib.Core.Path.{_∙_, sym, ap}
 use Prim.Native.Nat.{ℕ}
 use lib.Dec.{lit<, lit≤}
 use Rattle.numbers.specs.declared.tolerance.CodeAnswer.the-variants.{Code}
-use Rattle.numbers.specs.Tolerance.{kOffset, lastBin, toleranceCode}
-use Rattle.numbers.proofs.Law.Answers.{answered, code-is, no-code, unclipped}
+use Rattle.bins.specs.Tolerance.{kOffset, lastBin, toleranceCode}
+use Rattle.bins.proofs.Law.Answers.{answered, unclipped}
+use Rattle.numbers.proofs.Law.Answers.{code-is, no-code}
 use borrow.Author.Needs.{needs}
 use Rattle.numbers.proofs.tolerance.code64.Statement.{statement}
 use Rattle.numbers.proofs.tolerance.code64.Tie as tie

@@ -4,8 +4,9 @@ use Prim.Native.Nat.{ℕ}
 use native.Mathlib.Omega.{arith}
 use lib.Dec.{lit<, lit≤}
 use Rattle.numbers.specs.declared.tolerance.PatternAnswer.the-variants.{Pattern}
-use Rattle.numbers.specs.Tolerance.{kOffset, lastBin, toleranceRestored, largestU}
-use Rattle.numbers.proofs.Law.Answers.{answered, pattern-is, above-is, no-pattern, unclipped}
+use Rattle.bins.specs.Tolerance.{kOffset, lastBin, toleranceRestored, largestU}
+use Rattle.bins.proofs.Law.Answers.{answered, unclipped}
+use Rattle.numbers.proofs.Law.Answers.{pattern-is, above-is, no-pattern}
 use borrow.Author.Needs.{needs}
 use Rattle.numbers.proofs.tolerance.restored32.Statement.{statement}
 use Rattle.numbers.proofs.tolerance.restored32.Tie as tie

@@ -4,7 +4,7 @@ use Prim.Native.Nat.{ℕ}
 use mathlib.Core.List.{List, [], _∷_, _++_}
 use lib.Ieee.{size}
 use Rattle.numbers.specs.Signed.{signedView}
-use Rattle.numbers.specs.Tolerance.{kOffset, lastBin, allowedK, binOf, largestU}
+use Rattle.bins.specs.Tolerance.{kOffset, lastBin, allowedK, binOf, largestU}
 use Rattle.blocks.specs.Bytes.{number, digits}
 use Rattle.stream.specs.Group.{bytesFor, largest, widthOf, givenWidth, groupLength, groupNumber, groupCodes, within, goodGroup}
 use Rattle.stream.specs.Setting.{knownLevel, knownWidth, fractionBits, widthNeed, modeNeed, need, isZero, allowedSetting, binFor, groupSize, limitOf}

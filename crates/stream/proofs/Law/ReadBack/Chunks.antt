@@ -11,7 +11,7 @@ use lib.Dec.{eqb}
 use lib.ListN.{length, take, drop, length-append}
 use lib.Seq.{drop-at, drop-drop, getD-append-add}
 use Rattle.numbers.specs.Lossless.{losslessCode}
-use Rattle.numbers.specs.Tolerance.{toleranceCode, largestU}
+use Rattle.bins.specs.Tolerance.{toleranceCode, largestU}
 use Rattle.numbers.specs.Theorem.{Format}
 use Rattle.numbers.proofs.Theorems.{lossless-code-has-W-bits, no-u-is-larger}
 use Rattle.blocks.specs.Bytes.{Below}

@@ -8,7 +8,7 @@ use native.Mathlib.Omega.{arith}
 use borrow.Author.Tests.{eq-eqb}
 use lib.IntN.{ℤ}
 use lib.ListN.{length, take, drop, getD, length-map}
-use Rattle.numbers.specs.Tolerance.{allowedK, binOf, ordinal, toleranceCode, toleranceRestored}
+use Rattle.bins.specs.Tolerance.{allowedK, binOf, ordinal, toleranceCode, toleranceRestored}
 use Rattle.numbers.specs.Bound.{exponentOf}
 use Rattle.numbers.specs.Theorem.{Format, Within}
 use Rattle.numbers.proofs.Theorems.{the-k-of-a-bin-is-allowed, the-bin-of-its-k, every-pattern-is-restored, every-pattern-returns-within, specials-return}

@@ -12,10 +12,10 @@ use lib.ListN.{length}
 use Rattle.blocks.specs.Bytes.{Below}
 use mir.Syntax.{w32}
 use mir.Val.{SFits, ofZ}
-use Rattle.numbers.specs.declared.tolerance.BinAnswer.the-variants as bin
-use Rattle.numbers.specs.Tolerance.{allowedK, lastBin}
+use Rattle.bins.specs.declared.bin.BinAnswer.the-variants as bin
+use Rattle.bins.specs.Tolerance.{allowedK, lastBin}
 use Rattle.numbers.specs.Theorem.{Format}
-use Rattle.numbers.specs.Answers.{binAnswer}
+use Rattle.bins.specs.Answers.{binAnswer}
 use Rattle.numbers.proofs.Theorems.{format-32, format-64, a-bin-is-that-of-k, no-bin-means-not-allowed, an-allowed-k-has-a-bin}
 use Rattle.stream.specs.Setting.{knownWidth, fractionBits, isZero, allowedSetting, binFor, settingOf, widthNeed, modeNeed, need, groupSize}
 use Rattle.stream.specs.Header.{kOf, needRight, settingRight}

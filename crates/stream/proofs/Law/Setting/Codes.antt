@@ -10,7 +10,7 @@ use lib.Pow.{pow-pos}
 use lib.ListN.{length, take, drop, replicate}
 use lib.Seq.{length-take-le}
 use Rattle.numbers.specs.Theorem.{Format}
-use Rattle.numbers.specs.Tolerance.{lastBin}
+use Rattle.bins.specs.Tolerance.{lastBin}
 use Rattle.numbers.proofs.Theorems.{lossless-code-has-W-bits, lossless-pattern-has-W-bits, tolerance-code-has-W-bits, tolerance-pattern-has-W-bits, lossless-zero, tolerance-zero}
 use Rattle.blocks.specs.Bytes.{Below}
 use Rattle.stream.specs.Setting.{fractionBits, clipped, codeAt, patternAt, codesOf, patternsOf}

@@ -8,7 +8,7 @@ use borrow.Author.Tests.{eq-eqb, ne-eqb, lt-ltb, le-ltb}
 use lib.Dec.{eqb, lit<}
 use lib.IntN.{pos, negsuc, subℕ}
 use Rattle.numbers.specs.Signed.{signedView, bitsOf}
-use Rattle.numbers.specs.Tolerance.{kOffset, lastBin, binOf}
+use Rattle.bins.specs.Tolerance.{kOffset, lastBin, binOf}
 use Rattle.numbers.specs.Bound.{exponentOf}
 use Rattle.numbers.specs.Theorem.{Format}
 use Rattle.numbers.proofs.Theorems.{the-k-of-a-bin-is-allowed, the-bin-of-its-k}

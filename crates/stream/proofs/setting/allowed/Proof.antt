@@ -1,6 +1,6 @@
 -- `stream::setting::allowed` meets its contract.
 use Rattle.stream.specs.Setting.{fractionBits, allowedSetting}
-use Rattle.numbers.specs.Answers.{binAnswer}
+use Rattle.bins.specs.Answers.{binAnswer}
 use Rattle.numbers.proofs.Theorems.{a-bin-is-that-of-k, no-bin-means-not-allowed}
 use mir.Facts.{toZ-ofZ}
 use Rattle.stream.proofs.Law.Setting.Allowed.{zero-test}

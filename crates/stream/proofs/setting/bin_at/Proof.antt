@@ -1,7 +1,7 @@
 -- `stream::setting::bin_at` meets its contract.
 use Rattle.stream.proofs.Law.Setting.Allowed.{width-other}
 use Rattle.stream.specs.Setting.{fractionBits}
-use Rattle.numbers.specs.Answers.{binAnswer}
+use Rattle.bins.specs.Answers.{binAnswer}
 use mir.Facts.{toZ-ofZ}
 use mathlib.Core.Path.{_∙_, ap}
 use borrow.Author.Needs.{needs}

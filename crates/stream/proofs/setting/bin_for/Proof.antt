@@ -1,7 +1,7 @@
 -- `stream::setting::bin_for` meets its contract.
 use Rattle.stream.proofs.Law.Setting.Allowed.{setting-bin, setting-has-bin}
 use Rattle.stream.specs.Setting.{fractionBits, binFor}
-use Rattle.numbers.specs.Answers.{binAnswer}
+use Rattle.bins.specs.Answers.{binAnswer}
 use mir.Facts.{toZ-ofZ}
 use mathlib.Core.Path.{sym, _∙_, ap}
 use borrow.Author.Needs.{needs}

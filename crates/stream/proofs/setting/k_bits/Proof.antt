@@ -1,6 +1,6 @@
 -- `stream::setting::k_bits` meets its contract.
 use Rattle.numbers.specs.Bound.{exponentOf}
-use Rattle.numbers.specs.Tolerance.{kOffset, lastBin}
+use Rattle.bins.specs.Tolerance.{kOffset, lastBin}
 use Rattle.stream.proofs.Law.Setting.Allowed.{width-other}
 use Rattle.stream.specs.Setting.{fractionBits, kBits}
 use borrow.Author.Tests.{eq-eqb, ne-eqb}

@@ -1,0 +1,109 @@
+// The tolerance code by float operations that are exact, or whose rounding cannot be seen, at the bins j from 24 (53) on. What is promised is
+// whole numbers, as at the lower bins. Which side of T a pattern is on is told by ordinals, so that no infinity and no not-a-number is ever
+// computed with. No branch depends on a value: a compiler does several values side by side.
+// The proofs are of round to nearest. The forms are meant to give a caller who rounds another way, or has subnormals taken for zero, the same
+// codes and patterns (from these bins on E and half of it are normal floats, and a subnormal is nearest to no bin): tests/c/rounding.c tries it.
+ghost use mathlib.Core.Bool.{cond};
+ghost use mathlib.Core.Path.{_≡_};
+ghost use Prim.Native.Nat.{_*_, _^_, _≤_, _<_};
+ghost use lib.Dec.{ltb};
+ghost use Rattle.bins.specs.Tolerance.{lastBin, near, magnitude, ordinalOf, thresholdOrdinal, restoredOrdinal, toleranceCode};
+
+// The first bin whose half is a normal float.
+pub(crate) const FIRST32: u32 = 24;
+
+pub(crate) const FIRST64: u32 = 53;
+
+// The bins nearest to an ordinal below that of T. q = |v| / E is exact, or so small that it is nearest to 0. Its sum r with 2^23 - 1/2 is
+// one of two neighbours, whichever way the machine rounds. t, what r has grown by, is exact, so that q < t tells which one it is.
+fn near32(j: u32, o: u32) -> u32
+    requires { ⌜ (o < thresholdOrdinal 23 j) × (24 ≤ j) × (j ≤ lastBin 32 23) ⌝ }
+    ensures { λ u. ⌜ u ≡ near j (magnitude 23 o) ⌝ }
+{
+    let q = f32::from_bits(o) * f32::from_bits((276 - j) * 0x0080_0000);
+    let r = q + 8388607.5;
+    let t = r - 8388607.5;
+    let next = f32::to_bits(r) - 0x4AFF_FFFF;
+    if q < t { next - 1 } else { next }
+}
+
+fn near64(j: u64, o: u64) -> u64
+    requires { ⌜ (o < thresholdOrdinal 52 j) × (53 ≤ j) × (j ≤ lastBin 64 52) ⌝ }
+    ensures { λ u. ⌜ u ≡ near j (magnitude 52 o) ⌝ }
+{
+    let q = f64::from_bits(o) * f64::from_bits((2097 - j) * 0x0010_0000_0000_0000);
+    let r = q + 4503599627370495.5;
+    let t = r - 4503599627370495.5;
+    let next = f64::to_bits(r) - 0x432F_FFFF_FFFF_FFFF;
+    if q < t { next - 1 } else { next }
+}
+
+// x where o is not below t, and else nothing.
+fn from32(o: u32, t: u32, x: u32) -> u32
+    ensures { λ r. ⌜ r ≡ cond (ltb o t) 0 x ⌝ }
+{
+    if o < t { 0 } else { x }
+}
+
+// The code of a pattern, both sides of T at once: from T on `far` is the ordinal, and nothing is left to round.
+pub(crate) fn code32(j: u32, p: u32) -> u32
+    requires { ⌜ (24 ≤ j) × (j ≤ lastBin 32 23) ⌝ }
+    ensures { λ c. ⌜ c ≡ toleranceCode 32 23 j p ⌝ }
+{
+    let o = p % 0x8000_0000;
+    let t = (j + 1) * 0x0080_0000;
+    let far = from32(o, t, o);
+    let place = from32(o, t, j * 0x0080_0000);
+    2 * (near32(j, o - far) + (far - place)) + p / 0x8000_0000
+}
+
+// At width 64 plain x86-64 compares no lanes: `all` has every bit from T on and none below.
+pub(crate) fn code64(j: u64, p: u64) -> u64
+    requires { ⌜ (53 ≤ j) × (j ≤ lastBin 64 52) ⌝ }
+    ensures { λ c. ⌜ c ≡ toleranceCode 64 52 j p ⌝ }
+{
+    let o = p % 0x8000_0000_0000_0000;
+    let all = (o / 0x0010_0000_0000_0000 + (2047 - j)) / 2048 * 0xFFFF_FFFF_FFFF_FFFF;
+    let far = o & all;
+    let place = (j * 0x0010_0000_0000_0000) & all;
+    2 * (near64(j, o - far) + (far - place)) + p / 0x8000_0000_0000_0000
+}
+
+// u bins as an ordinal, by one product, which is exact: E is a normal float and u has fewer digits than a float keeps.
+fn product32(j: u32, u: u32) -> u32
+    requires { ⌜ (u < 2 ^ 23) × (24 ≤ j) × (j ≤ lastBin 32 23) ⌝ }
+    ensures { λ o. ⌜ o ≡ ordinalOf 23 (u * 2 ^ j) ⌝ }
+{
+    f32::to_bits((u as f32) * f32::from_bits((j - 22) * 0x0080_0000))
+}
+
+// Plain x86-64 casts no 64-bit lanes: u goes in as the last digits of 2^52 + u, and 2^52 is taken off again. A caller who rounds downward
+// gets -0 of u = 0 there; its sign is cut off with the 64th bit, where the pattern's own sign is put.
+fn product64(j: u64, u: u64) -> u64
+    requires { ⌜ (u < 2 ^ 52) × (53 ≤ j) × (j ≤ lastBin 64 52) ⌝ }
+    ensures { λ o. ⌜ o ≡ ordinalOf 52 (u * 2 ^ j) ⌝ }
+{
+    let whole = f64::from_bits(0x4330_0000_0000_0000 + u) - 4503599627370496.0;
+    f64::to_bits(whole * f64::from_bits((j - 51) * 0x0010_0000_0000_0000))
+}
+
+// The ordinal that u restores: both sides of 2^23 are computed, and one is chosen.
+pub(crate) fn ordinal32(j: u32, u: u32) -> u32
+    requires { ⌜ (u < 2 ^ 31) × (24 ≤ j) × (j ≤ lastBin 32 23) ⌝ }
+    ensures { λ o. ⌜ o ≡ restoredOrdinal 23 j u ⌝ }
+{
+    let near = product32(j, u % 0x0080_0000);
+    let far = u + j * 0x0080_0000;
+    if u < 0x0080_0000 { near } else { far }
+}
+
+// Here `all` has every bit from u = 2^52 on, and none below.
+pub(crate) fn ordinal64(j: u64, u: u64) -> u64
+    requires { ⌜ (u < 2 ^ 63) × (53 ≤ j) × (j ≤ lastBin 64 52) ⌝ }
+    ensures { λ o. ⌜ o ≡ restoredOrdinal 52 j u ⌝ }
+{
+    let all = (u / 0x0010_0000_0000_0000 + 2047) / 2048 * 0xFFFF_FFFF_FFFF_FFFF;
+    let far = u & all;
+    let place = (j * 0x0010_0000_0000_0000) & all;
+    product64(j, u - far) + far + place
+}
