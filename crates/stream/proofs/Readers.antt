@@ -15,12 +15,35 @@ use Rattle.stream.specs.Probe.{shown32, shown64, probed32, probed64}
 use Rattle.stream.specs.Operations.{openingRows, tableRows, checkRows, checkAnswer, unpackRows, unpackAnswer, unpackOut, probeRows, probeAnswer32, probeAnswer64}
 use Rattle.stream.specs.Theorem.{Apart, InChunk}
 use Rattle.stream.specs.declared.answers.Answer.the-variants.{Done, Refused}
+use Rattle.stream.specs.declared.answers.Probe32.the-variants as p32
+use Rattle.stream.specs.declared.answers.Probe64.the-variants as p64
 use Rattle.stream.specs.declared.answers.Step.{Step}
-use Rattle.stream.specs.declared.answers.Step.the-variants.{Pass}
+use Rattle.stream.specs.declared.answers.Step.the-variants.{Pass, Stop}
 use Rattle.stream.proofs.Law.Values.OtherChunks.{byte-apart, probe-same, value-same}
 use Rattle.stream.proofs.Law.Header.Layout.{laid-out}
 use Rattle.stream.proofs.Law.Rows.Passed.{opening, tables, unpacking}
-use Rattle.stream.proofs.Law.Values.ThreeReaders.{done-pass, refused-stop, unpack-check, counted, probe-passes, probe-value, higher-check, higher-unpack, higher-probe}
+use Rattle.stream.proofs.Law.Values.ThreeReaders.{done-pass, refused-stop, refused-stop32, refused-stop64, shown-pass32, shown-pass64, unpack-check, counted, probe-passes, probe-value, higher-check, higher-unpack, higher-probe}
+
+-- ---- a refusal is the first row that is given
+
+pub refused-check : (level : ℕ) (s : List ℕ) (number detail : ℕ) → checkAnswer level s ≡ Refused number detail → first (checkRows level s) ≡ Stop number detail
+unfolding checkAnswer
+refused-check level s = refused-stop (first (checkRows level s)) (headerOf s .count)
+
+pub refused-unpack : (W level : ℕ) (s : List ℕ) (room number detail : ℕ) → unpackAnswer W level s room ≡ Refused number detail
+    → first (unpackRows W level s room) ≡ Stop number detail
+unfolding unpackAnswer
+refused-unpack W level s room = refused-stop (first (unpackRows W level s room)) (headerOf s .count)
+
+pub refused-probe32 : (level : ℕ) (s : List ℕ) (i number detail : ℕ) → probeAnswer32 level s i ≡ p32.Refused number detail
+    → first (probeRows 32 level s i) ≡ Stop number detail
+unfolding probeAnswer32
+refused-probe32 level s i = refused-stop32 (first (probeRows 32 level s i)) (valueAt s i)
+
+pub refused-probe64 : (level : ℕ) (s : List ℕ) (i number detail : ℕ) → probeAnswer64 level s i ≡ p64.Refused number detail
+    → first (probeRows 64 level s i) ≡ Stop number detail
+unfolding probeAnswer64
+refused-probe64 level s i = refused-stop64 (first (probeRows 64 level s i)) (valueAt s i)
 
 -- ---- unpack's output
 
@@ -143,10 +166,14 @@ module _ (level level′ : ℕ) (s : List ℕ) (higher : level ≤ level′) (kn
       let p = higher-unpack level level′ s higher known W (length out) (d .0) in
       (rw p (ap Done (d .1)), rw (p, d .0))
 
-  pub probe-higher32 : (i : ℕ) → first (probeRows 32 level s i) ≡ Pass → probeAnswer32 level′ s i ≡ probeAnswer32 level s i
+  pub probe-higher32 : (i p : ℕ) → probeAnswer32 level s i ≡ shown32 p → probeAnswer32 level′ s i ≡ shown32 p
   unfolding probeAnswer32
-  probe-higher32 i e = rw (higher-probe level level′ s higher known 32 i e, e)
+  probe-higher32 i p e =
+      let passes = shown-pass32 (first (probeRows 32 level s i)) (valueAt s i) p e in
+      rw (higher-probe level level′ s higher known 32 i passes) (rw passes at e)
 
-  pub probe-higher64 : (i : ℕ) → first (probeRows 64 level s i) ≡ Pass → probeAnswer64 level′ s i ≡ probeAnswer64 level s i
+  pub probe-higher64 : (i p : ℕ) → probeAnswer64 level s i ≡ shown64 p → probeAnswer64 level′ s i ≡ shown64 p
   unfolding probeAnswer64
-  probe-higher64 i e = rw (higher-probe level level′ s higher known 64 i e, e)
+  probe-higher64 i p e =
+      let passes = shown-pass64 (first (probeRows 64 level s i)) (valueAt s i) p e in
+      rw (higher-probe level level′ s higher known 64 i passes) (rw passes at e)

@@ -3,32 +3,36 @@
 use mathlib.Core.Path.{_≡_, refl, sym, ap, subst, _∙_}
 use mathlib.Core.Logic.{_⊎_, inl, inr}
 use mathlib.Core.Bool.{true, cond}
-use mathlib.Core.List.{List, _++_}
+use mathlib.Core.List.{List, [], _∷_, _++_, map}
 use Prim.Native.Nat.{ℕ, _+_, _-_, _*_, _/_, _^_, _≤_, _<_}
-use borrow.Author.Tests.{eq-eqb, lt-ltb, le-ltb}
-use lib.Dec.{ltb}
+use native.Mathlib.Nat.{lt-of-le-of-lt}
+use borrow.Author.Tests.{leb-true, eq-eqb, lt-ltb, le-ltb}
+use lib.Dec.{leb, ltb, lit<}
 use lib.IntN.{ℤ}
-use lib.ListN.{length, drop, getD}
+use lib.ListN.{length, take, drop, getD, length-map}
+use lib.Seq.{take-at}
 use Rattle.bins.specs.Tolerance.{binOf, ordinal}
 use Rattle.numbers.specs.Theorem.{Within}
 use Rattle.blocks.specs.Bytes.{Below}
-use Rattle.stream.specs.Setting.{knownLevel, fractionBits, binFor, settingOf, need, groupSize, codesOf, patternsOf}
+use Rattle.stream.specs.Setting.{knownLevel, knownWidth, fractionBits, binFor, settingOf, need, groupSize, codeAt, patternAt, codesOf, patternsOf}
 use Rattle.stream.specs.Chunk.{groupsIn}
-use Rattle.stream.specs.Rows.{first, answer, after}
+use Rattle.stream.specs.Rows.{row, first, answer, after}
 use Rattle.stream.specs.Header.{word, headerOf, chunksIn, settingRight, layoutRight}
 use Rattle.stream.specs.Tables.{chunkTableRight, sideTableRight}
 use Rattle.stream.specs.Stream.{chunkState, values}
 use Rattle.stream.specs.Writing.{headerNumbers, endOf, stream, Side, addSides, WellFormedSides}
 use Rattle.stream.specs.Packing.{Packable, Sent, mostBytes}
-use Rattle.stream.specs.Operations.{checkRows, checkAnswer, unpackRows, unpackAnswer, unpackOut, probeRows, lengthAnswer, packRows, packAnswer, packOut}
+use Rattle.stream.specs.Operations.{checkRows, checkAnswer, unpackRows, unpackAnswer, unpackOut, probeRows, lengthRows, lengthAnswer, packRows, packAnswer, packOut}
 use Rattle.stream.specs.declared.answers.Answer.the-variants.{Done, Refused}
 use Rattle.stream.specs.declared.answers.Step.the-variants.{Pass, Stop}
 use Rattle.stream.specs.declared.chunk.ChunkAnswer.the-variants.{Good}
 use Rattle.stream.specs.declared.header.Header.{Header}
 use Rattle.blocks.proofs.Law.Truth.{le-or-lt}
-use Rattle.stream.proofs.Law.Values.ThreeReaders.{refused-stop}
+use Rattle.stream.proofs.Law.Plain.Truth.{and-right}
+use Rattle.stream.proofs.Law.Rows.First.{opened-both}
+use Rattle.stream.proofs.Law.Values.ThreeReaders.{done-pass, refused-stop}
 use Rattle.stream.proofs.Law.Written.Pieces.{end-most}
-use Rattle.stream.proofs.Law.Rows.Packing.{rows-pass, room-enough, length-stream, length-done, pack-done}
+use Rattle.stream.proofs.Law.Rows.Packing.{length-passed, rows-pass, room-enough, length-stream, length-done, pack-done}
 use Rattle.stream.proofs.Law.ReadBack.Readers.{plain-sent, bytes-sent, header-words, header-read, setting-kept, layout-kept, chunk-table-kept, side-table-kept, chunks-kept, values-read, check-pass, check-stop, unpack-pass, unpack-stop, probe-pass, probe-stop}
 use Rattle.stream.proofs.Law.Setting.Allowed.{made-allowed, storable}
 use Rattle.stream.proofs.Law.ReadBack.Values.{lossless-back, tolerance-back, special-back}
@@ -39,6 +43,53 @@ pub refused-pack-untouched : (W level mode : ℕ) (k : ℤ) (vs out : List ℕ) 
 unfolding packAnswer packOut after
 refused-pack-untouched W level mode k vs out number detail e =
     rw (refused-stop (first (packRows W level mode k vs (length out))) (length (stream level (settingOf W mode k) vs)) number detail e)
+
+-- a refusal is the first row that is given
+pub refused-length : (W level mode : ℕ) (k : ℤ) (vs : List ℕ) (number detail : ℕ) → lengthAnswer W level mode k vs ≡ Refused number detail
+    → first (lengthRows W level mode k (length vs)) ≡ Stop number detail
+unfolding lengthAnswer
+refused-length W level mode k vs = refused-stop (first (lengthRows W level mode k (length vs))) (length (stream level (settingOf W mode k) vs))
+
+pub refused-pack : (W level mode : ℕ) (k : ℤ) (vs : List ℕ) (room number detail : ℕ) → packAnswer W level mode k vs room ≡ Refused number detail
+    → first (packRows W level mode k vs room) ≡ Stop number detail
+unfolding packAnswer
+refused-pack W level mode k vs room = refused-stop (first (packRows W level mode k vs room)) (length (stream level (settingOf W mode k) vs))
+
+-- what an accepted pack says of its call, and what it leaves
+module _ (W level mode : ℕ) (k : ℤ) (vs out : List ℕ) (n : ℕ) (done : packAnswer W level mode k vs (length out) ≡ Done n) where
+  passes : (first (packRows W level mode k vs (length out)) ≡ Pass) × (length (stream level (settingOf W mode k) vs) ≡ n)
+  unfolding packAnswer
+  passes = done-pass (first (packRows W level mode k vs (length out))) (length (stream level (settingOf W mode k) vs)) n done
+
+  pub accepted-list : knownWidth W ≡ true → Below (2 ^ W) vs → Packable W level mode k vs
+  unfolding packRows knownLevel
+  accepted-list width below =
+      let size = length (stream level (settingOf W mode k) vs) in
+      let three = opened-both (lengthRows W level mode k (length vs)) (row 4 (ltb (length out) size) size ∷ []) (passes .0) .0 in
+      let p = length-passed W level mode k (length vs) three in
+      record {
+        width = width;
+        minor = lt-of-le-of-lt (leb-true level 10 (and-right (leb 8 level) (leb level 10) (p .known))) (lit< tt);
+        allowed = p .allowed;
+        needs = p .needs;
+        few = p .few;
+        patterns = below;
+      }
+
+  pub accepted-bytes : take n (packOut W level mode k vs out) ≡ stream level (settingOf W mode k) vs
+  unfolding packOut after
+  accepted-bytes =
+      rw (passes .0)
+      (take-at (stream level (settingOf W mode k) vs) (drop (length (stream level (settingOf W mode k) vs)) out) n (passes .1))
+
+  pub accepted-is-sent : (ps : List Side) → WellFormedSides (n + 12 * length ps) ps
+      → Sent level (settingOf W mode k) vs (addSides (take n (packOut W level mode k vs out)) ps)
+  accepted-is-sent ps well =
+      record {
+        sides = ps;
+        well-formed = subst (λ (m : ℕ). WellFormedSides (m + 12 * length ps) ps) (sym (passes .1)) well;
+        bytes = ap (λ (b : List ℕ). addSides b ps) accepted-bytes;
+      }
 
 -- for a list that a stream may hold
 module _ (W level mode : ℕ) (k : ℤ) (vs : List ℕ) (p : Packable W level mode k vs) where
@@ -99,6 +150,12 @@ module _ (W level mode : ℕ) (k : ℤ) (vs : List ℕ) (p : Packable W level mo
     -- the values are the patterns of the codes
     pub the-values-are-read : values s ≡ patternsOf (settingOf W mode k) (codesOf (settingOf W mode k) vs)
     the-values-are-read = values-read level (settingOf W mode k) vs (storable W level mode k vs p) s sent
+
+    -- as many as there were
+    pub as-many-values : length (values s) ≡ length vs
+    unfolding codesOf patternsOf
+    as-many-values =
+        ap length the-values-are-read ∙ length-map (map (codeAt (settingOf W mode k)) vs) (patternAt (settingOf W mode k)) ∙ length-map vs (codeAt (settingOf W mode k))
 
     -- "Lossless packing restores every bit pattern."
     pub lossless-values : mode ≡ 0 → values s ≡ vs
