@@ -2,8 +2,8 @@
 -- They speak of what the operations answer and leave: `packAnswer` and `packOut` of specs/Operations.antt in the crate `stream`, and their
 -- like. The promise of each operation is an equation with these.
 use mathlib.Core.Path.{_≡_}
-use mathlib.Core.Bool.{Bool, true, _&&_, not, cond}
-use mathlib.Core.List.{List, [], _∷_, _++_}
+use mathlib.Core.Bool.{true, cond}
+use mathlib.Core.List.{List}
 use Prim.Native.Nat.{ℕ, _+_, _*_, _^_, _≤_, _<_}
 use lib.Dec.{eqb}
 use lib.IntN.{ℤ}
@@ -15,7 +15,7 @@ use Rattle.numbers.specs.Bound.{boundAnswer}
 use Rattle.numbers.specs.Theorem.{Returned, BoundFor}
 use Rattle.blocks.specs.Bytes.{Below}
 use Rattle.stream.specs.Setting.{knownLevel, knownWidth, fractionBits, allowedSetting, settingOf, need}
-use Rattle.stream.specs.Rows.{Row, row}
+use Rattle.stream.specs.Rows.{Decides}
 use Rattle.stream.specs.Writing.{Side, addSides, WellFormedSides}
 use Rattle.stream.specs.Probe.{shown32, shown64}
 use Rattle.stream.specs.Operations.{checkRows, checkAnswer, unpackRows, unpackAnswer, unpackOut, probeRows, probeAnswer32, probeAnswer64, lengthRows, lengthAnswer, packRows, packAnswer, packOut}
@@ -27,19 +27,8 @@ use Rattle.gwizdorad.specs.Result.{probeOut32, probeOut64}
 
 -- ---- Demand 1: "Every entry point takes every input, ends, and touches nothing outside what it was lent." That is what the check of each
 -- function says, and that no public one asks anything of its caller. "Bad input gets one refusal, the first in the stated order, with its
--- stated detail. A refused call changes nothing it was lent."
-
--- no row of these is given
-unfoldable pub noneGiven : List Row → Bool
-noneGiven [] = true
-noneGiven (row number given detail ∷ rows) = not given && noneGiven rows
-
--- of an operation's rows, which stand in document 01's order, this one is given, and none before it
-pub record Decides (rows : List Row) (number detail : ℕ) : Type 0 where
-  pub before : List Row
-  pub later : List Row
-  pub listed : rows ≡ before ++ row number true detail ∷ later
-  pub earlier : noneGiven before ≡ true
+-- stated detail. A refused call changes nothing it was lent." Of an operation's rows, which stand in document 01's order, the refusal is the one
+-- that `Decides`: it is given, and none before it.
 
 pub record Demand1 : Type 0 where
   -- the values vs of width W, packed into `out`
@@ -99,7 +88,7 @@ pub record Offered (W level mode : ℕ) (k : ℤ) (vs : List ℕ) : Type 0 where
   pub width : knownWidth W ≡ true
   pub patterns : Below (2 ^ W) vs
   pub few : length vs ≤ 1048576
-  pub level : knownLevel level ≡ true
+  pub known : knownLevel level ≡ true
   pub setting : allowedSetting W mode k ≡ true
   pub allows : need (settingOf W mode k) ≤ level
 

@@ -1,22 +1,19 @@
 -- "A file cut off by a full disk was read past its end": a stream that is cut is refused, wherever it is cut, and so is one behind which
 -- something was added.
-use mathlib.Core.Path.{_≡_, refl, sym, ap, subst, _∙_}
+use mathlib.Core.Path.{_≡_, refl, sym, subst}
 use mathlib.Core.Logic.{_⊎_, inl, inr}
 use mathlib.Core.List.{List, [], _∷_, _++_}
 use Prim.Native.Nat.{ℕ, _+_, _≤_, _<_}
 use native.Mathlib.Omega.{arith}
-use lib.Ieee.{Float, nan, inf, fin, binary32, binary64, ofBits}
 use lib.ListN.{length, take, length-append}
 use lib.Seq.{take-append-seam}
 use Rattle.stream.specs.Header.{headerOf}
 use Rattle.stream.specs.Stream.{valueAt}
 use Rattle.stream.specs.Rows.{first, answer, after}
-use Rattle.stream.specs.Probe.{shown32, shown64, told32, told64, probed32, probed64}
+use Rattle.stream.specs.Probe.{shown32, shown64, probed32, probed64}
 use Rattle.stream.specs.Operations.{checkRows, checkAnswer, unpackRows, unpackAnswer, unpackOut, probeRows, probeAnswer32, probeAnswer64}
 use Rattle.stream.specs.Theorem.{cutNumber, Accepts, by-check, by-unpack, by-probe32, by-probe64}
 use Rattle.stream.specs.declared.answers.Answer.the-variants.{Done, Refused}
-use Rattle.stream.specs.declared.answers.Step.{Step}
-use Rattle.stream.specs.declared.answers.Step.the-variants.{Pass, Stop}
 use Rattle.stream.specs.declared.answers.Probe32.the-variants as p32
 use Rattle.stream.specs.declared.answers.Probe64.the-variants as p64
 use Rattle.blocks.proofs.Law.Truth.{le-or-lt}

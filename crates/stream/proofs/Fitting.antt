@@ -6,14 +6,13 @@ use mathlib.Core.List.{List}
 use Prim.Native.Nat.{ℕ, _^_, _<_}
 use native.Mathlib.Omega.{arith}
 use lib.IntN.{ℤ}
-use lib.Ieee.{Float, nan, inf, fin, binary32, binary64, ofBits}
 use lib.ListN.{length, getD}
 use Rattle.blocks.specs.Bytes.{Below}
 use Rattle.stream.specs.Setting.{knownWidth}
 use Rattle.stream.specs.Header.{headerOf}
 use Rattle.stream.specs.Stream.{valueAt}
 use Rattle.stream.specs.Rows.{first}
-use Rattle.stream.specs.Probe.{told32, told64, shown32, shown64, probed32, probed64, probeNumber32, probeNumber64}
+use Rattle.stream.specs.Probe.{shown32, shown64, probed32, probed64, probeNumber32, probeNumber64}
 use Rattle.stream.specs.Operations.{checkAnswer, unpackRows, unpackAnswer, unpackOut, lengthAnswer, packAnswer, probeRows, probeAnswer32, probeAnswer64}
 use Rattle.stream.specs.declared.answers.Answer.{Answer}
 use Rattle.stream.specs.declared.answers.Answer.the-variants.{Done}

@@ -10,7 +10,7 @@ use lib.Seq.{getD-append-add, getD-drop}
 use Rattle.stream.specs.Setting.{knownLevel}
 use Rattle.stream.specs.Header.{headerOf}
 use Rattle.stream.specs.Stream.{values, valueAt}
-use Rattle.stream.specs.Rows.{first, answer, after}
+use Rattle.stream.specs.Rows.{first, Decides, answer, after}
 use Rattle.stream.specs.Probe.{shown32, shown64, probed32, probed64}
 use Rattle.stream.specs.Operations.{openingRows, tableRows, checkRows, checkAnswer, unpackRows, unpackAnswer, unpackOut, probeRows, probeAnswer32, probeAnswer64}
 use Rattle.stream.specs.Theorem.{Apart, InChunk}
@@ -18,32 +18,37 @@ use Rattle.stream.specs.declared.answers.Answer.the-variants.{Done, Refu
 use Rattle.stream.specs.declared.answers.Probe32.the-variants as p32
 use Rattle.stream.specs.declared.answers.Probe64.the-variants as p64
 use Rattle.stream.specs.declared.answers.Step.{Step}
-use Rattle.stream.specs.declared.answers.Step.the-variants.{Pass, Stop}
+use Rattle.stream.specs.declared.answers.Step.the-variants.{Pass}
 use Rattle.stream.proofs.Law.Values.OtherChunks.{byte-apart, probe-same, value-same}
 use Rattle.stream.proofs.Law.Header.Layout.{laid-out}
+use Rattle.stream.proofs.Law.Rows.First.{decides}
 use Rattle.stream.proofs.Law.Rows.Passed.{opening, tables, unpacking}
 use Rattle.stream.proofs.Law.Values.ThreeReaders.{done-pass, refused-stop, refused-stop32, refused-stop64, shown-pass32, shown-pass64, unpack-check, counted, probe-passes, probe-value, higher-check, higher-unpack, higher-probe}
 
 -- ---- a refusal is the first row that is given
 
-pub refused-check : (level : ℕ) (s : List ℕ) (number detail : ℕ) → checkAnswer level s ≡ Refused number detail → first (checkRows level s) ≡ Stop number detail
+pub refused-check : (level : ℕ) (s : List ℕ) (number detail : ℕ) → checkAnswer level s ≡ Refused number detail → Decides (checkRows level s) number detail
 unfolding checkAnswer
-refused-check level s = refused-stop (first (checkRows level s)) (headerOf s .count)
+refused-check level s number detail e =
+    decides (checkRows level s) number detail (refused-stop (first (checkRows level s)) (headerOf s .count) number detail e)
 
 pub refused-unpack : (W level : ℕ) (s : List ℕ) (room number detail : ℕ) → unpackAnswer W level s room ≡ Refused number detail
-    → first (unpackRows W level s room) ≡ Stop number detail
+    → Decides (unpackRows W level s room) number detail
 unfolding unpackAnswer
-refused-unpack W level s room = refused-stop (first (unpackRows W level s room)) (headerOf s .count)
+refused-unpack W level s room number detail e =
+    decides (unpackRows W level s room) number detail (refused-stop (first (unpackRows W level s room)) (headerOf s .count) number detail e)
 
 pub refused-probe32 : (level : ℕ) (s : List ℕ) (i number detail : ℕ) → probeAnswer32 level s i ≡ p32.Refused number detail
-    → first (probeRows 32 level s i) ≡ Stop number detail
+    → Decides (probeRows 32 level s i) number detail
 unfolding probeAnswer32
-refused-probe32 level s i = refused-stop32 (first (probeRows 32 level s i)) (valueAt s i)
+refused-probe32 level s i number detail e =
+    decides (probeRows 32 level s i) number detail (refused-stop32 (first (probeRows 32 level s i)) (valueAt s i) number detail e)
 
 pub refused-probe64 : (level : ℕ) (s : List ℕ) (i number detail : ℕ) → probeAnswer64 level s i ≡ p64.Refused number detail
-    → first (probeRows 64 level s i) ≡ Stop number detail
+    → Decides (probeRows 64 level s i) number detail
 unfolding probeAnswer64
-refused-probe64 level s i = refused-stop64 (first (probeRows 64 level s i)) (valueAt s i)
+refused-probe64 level s i number detail e =
+    decides (probeRows 64 level s i) number detail (refused-stop64 (first (probeRows 64 level s i)) (valueAt s i) number detail e)
 
 -- ---- unpack's output
 

@@ -16,7 +16,7 @@ use Rattle.numbers.specs.Theorem.{Within}
 use Rattle.blocks.specs.Bytes.{Below}
 use Rattle.stream.specs.Setting.{knownLevel, knownWidth, fractionBits, binFor, settingOf, need, groupSize, codeAt, patternAt, codesOf, patternsOf}
 use Rattle.stream.specs.Chunk.{groupsIn}
-use Rattle.stream.specs.Rows.{row, first, answer, after}
+use Rattle.stream.specs.Rows.{row, first, Decides, answer, after}
 use Rattle.stream.specs.Header.{word, headerOf, chunksIn, settingRight, layoutRight}
 use Rattle.stream.specs.Tables.{chunkTableRight, sideTableRight}
 use Rattle.stream.specs.Stream.{chunkState, values}
@@ -29,7 +29,7 @@ use Rattle.stream.specs.declared.chunk.ChunkAnswer.the-variants.{Good}
 use Rattle.stream.specs.declared.header.Header.{Header}
 use Rattle.blocks.proofs.Law.Truth.{le-or-lt}
 use Rattle.stream.proofs.Law.Plain.Truth.{and-right}
-use Rattle.stream.proofs.Law.Rows.First.{opened-both}
+use Rattle.stream.proofs.Law.Rows.First.{opened-both, decides}
 use Rattle.stream.proofs.Law.Values.ThreeReaders.{done-pass, refused-stop}
 use Rattle.stream.proofs.Law.Written.Pieces.{end-most}
 use Rattle.stream.proofs.Law.Rows.Packing.{length-passed, rows-pass, room-enough, length-stream, length-done, pack-done}
@@ -46,14 +46,18 @@ refused-pack-untouched W level mode k vs out number detail e =
 
 -- a refusal is the first row that is given
 pub refused-length : (W level mode : ℕ) (k : ℤ) (vs : List ℕ) (number detail : ℕ) → lengthAnswer W level mode k vs ≡ Refused number detail
-    → first (lengthRows W level mode k (length vs)) ≡ Stop number detail
+    → Decides (lengthRows W level mode k (length vs)) number detail
 unfolding lengthAnswer
-refused-length W level mode k vs = refused-stop (first (lengthRows W level mode k (length vs))) (length (stream level (settingOf W mode k) vs))
+refused-length W level mode k vs number detail e =
+    let rows = lengthRows W level mode k (length vs) in
+    decides rows number detail (refused-stop (first rows) (length (stream level (settingOf W mode k) vs)) number detail e)
 
 pub refused-pack : (W level mode : ℕ) (k : ℤ) (vs : List ℕ) (room number detail : ℕ) → packAnswer W level mode k vs room ≡ Refused number detail
-    → first (packRows W level mode k vs room) ≡ Stop number detail
+    → Decides (packRows W level mode k vs room) number detail
 unfolding packAnswer
-refused-pack W level mode k vs room = refused-stop (first (packRows W level mode k vs room)) (length (stream level (settingOf W mode k) vs))
+refused-pack W level mode k vs room number detail e =
+    let rows = packRows W level mode k vs room in
+    decides rows number detail (refused-stop (first rows) (length (stream level (settingOf W mode k) vs)) number detail e)
 
 -- what an accepted pack says of its call, and what it leaves
 module _ (W level mode : ℕ) (k : ℤ) (vs out : List ℕ) (n : ℕ) (done : packAnswer W level mode k vs (length out) ≡ Done n) where

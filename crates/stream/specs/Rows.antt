@@ -1,9 +1,10 @@
 -- Document 01, "Refusal numbers" and "Order". A row is a line of that table, in its columns' order: the number, whether it is given, and
 -- its detail. An operation is a list of rows, in the order in which document 01 lists its numbers, and the first row that is given decides.
 -- A later row may speak of bytes that an earlier one refused: every definition is total, and then it does not count.
+use mathlib.Core.Path.{_≡_}
 use Prim.Native.Nat.{ℕ, zero, suc}
-use mathlib.Core.Bool.{Bool, cond}
-use mathlib.Core.List.{List, [], _∷_}
+use mathlib.Core.Bool.{Bool, true, _&&_, not, cond}
+use mathlib.Core.List.{List, [], _∷_, _++_}
 use Rattle.stream.specs.declared.answers.Answer.{Answer}
 use Rattle.stream.specs.declared.answers.Answer.the-variants.{Done, Refused}
 use Rattle.stream.specs.declared.answers.Step.{Step}
@@ -15,6 +16,19 @@ pub data Row : Type 0 where
 unfoldable pub first : List Row → Step
 first [] = Pass
 first (row number given detail ∷ rows) = cond given (Stop number detail) (first rows)
+
+-- no row of these is given
+unfoldable pub noneGiven : List Row → Bool
+noneGiven [] = true
+noneGiven (row number given detail ∷ rows) = not given && noneGiven rows
+
+-- "one refusal, the first in the stated order, with its stated detail": this row is given, and none before it. That `first` finds just that
+-- row is a theorem (`refused-check` and its like).
+pub record Decides (rows : List Row) (number detail : ℕ) : Type 0 where
+  pub before : List Row
+  pub later : List Row
+  pub listed : rows ≡ before ++ row number true detail ∷ later
+  pub earlier : noneGiven before ≡ true
 
 -- the rows f i, f (i + 1), .., k of them
 unfoldable pub rowsFrom : (ℕ → Row) → ℕ → ℕ → List Row

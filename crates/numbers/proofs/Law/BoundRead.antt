@@ -1,18 +1,17 @@
 -- What bound answers, of the number that IEEE 754 reads in the tolerance's pattern (lib.Ieee).
 use mathlib.Core.Path.{_≡_, refl, sym, ap, subst, _∙_}
 use mathlib.Core.Logic.{_⊎_, inl, inr}
-use mathlib.Core.Bool.{Bool, true, false, _&&_}
-use Prim.Native.Nat.{ℕ, suc, _+_, _-_, _*_, _/_, _%_, _^_, _≤_, _<_}
+use mathlib.Core.Bool.{Bool, true, false}
+use Prim.Native.Nat.{ℕ, _+_, _-_, _*_, _%_, _^_, _≤_, _<_}
 use native.Mathlib.Nat.{mod-eq-of-lt, mul-suc, mul-comm, div-lt-iff-lt-mul}
 use native.Mathlib.Omega.{arith}
-use borrow.Author.Tests.{ltb-true, le-ltb, lt-ltb, leb-true, leb-false, le-leb, lt-leb}
-use lib.Dec.{leb, ltb}
+use borrow.Author.Tests.{ltb-true, lt-ltb, leb-true, leb-false, le-leb, lt-leb}
+use lib.Dec.{ltb}
 use lib.Pow.{pow-pos}
 use lib.IntN.{ℤ, pos, natAbs, _+ℤ_}
-use lib.Ieee.{binary64, prec, low, hid, ones, top, ofBits}
+use lib.Ieee.{binary64, prec, hid, ones, top}
 use lib.Ieee as Ieee
-use lib.Ieee.Exact.{HasValue}
-use Rattle.numbers.specs.declared.bound.BoundAnswer.the-variants.{Exponent, NoTolerance, TooSmall}
+use Rattle.numbers.specs.declared.bound.BoundAnswer.the-variants.{Exponent, TooSmall}
 use Rattle.bins.specs.Tolerance.{kOffset, lastBin, allowedK, binOf, magnitude}
 use Rattle.numbers.specs.Bound.{isTolerance, exponentOf, notAbove, largestUpTo, boundAt}
 use Rattle.numbers.specs.Theorem.{Format, IsBound, Reads, Reaches, LargestFor, BoundFor, a-k, no-tolerance, too-small}

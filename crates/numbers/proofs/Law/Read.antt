@@ -1,6 +1,6 @@
 -- From our own magnitudes to the numbers that IEEE 754 reads (lib.Ieee), once over its formats: what the tolerance code gives back, and
 -- what bound answers.
-use mathlib.Core.Path.{_≡_, refl, sym, ap, subst, _∙_}
+use mathlib.Core.Path.{_≡_, sym, ap, subst, _∙_}
 use mathlib.Core.Logic.{_⊎_, inl, inr}
 use mathlib.Core.Bool.{Bool, true, false, cond}
 use Prim.Native.Nat.{ℕ, suc, _+_, _-_, _*_, _/_, _%_, _^_, _≤_, _<_}
@@ -10,7 +10,7 @@ use borrow.Author.Tests.{le-leb, lt-leb}
 use lib.Dec.{leb, eqb}
 use lib.Pow.{pow-pos}
 use lib.IntN.{ℤ, pos, negsuc}
-use lib.Ieee.{Float, nan, inf, fin, Format, prec, low, up, down, hid, ones, top, ofBits}
+use lib.Ieee.{Float, nan, inf, fin, Format, prec, low, down, hid, ones, top, ofBits}
 use lib.Ieee.Exact.{HasValue}
 use Rattle.bins.specs.Tolerance.{lastBin, sign, ordinal, magnitude, threshold, thresholdOrdinal}
 use Rattle.numbers.specs.Theorem.{distance, Within, Reads, Returned}

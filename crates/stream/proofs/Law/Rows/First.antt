@@ -1,9 +1,10 @@
 -- Rows: the first that is given decides.
-use mathlib.Core.Path.{_≡_, refl, sym, ap, _∙_}
+use mathlib.Core.Path.{_≡_, refl, sym, ap, ap₂, _∙_}
 use mathlib.Core.Bool.{Bool, true, false}
 use mathlib.Core.List.{List, [], _∷_, _++_}
 use Prim.Native.Nat.{ℕ}
-use Rattle.stream.specs.Rows.{Row, row, first}
+use native.Mathlib.Omega.{arith}
+use Rattle.stream.specs.Rows.{Row, row, first, noneGiven, Decides}
 use Rattle.stream.specs.declared.answers.Step.{Step}
 use Rattle.stream.specs.declared.answers.Step.the-variants.{Pass, Stop}
 
@@ -59,3 +60,15 @@ module _ (before rows : List Row) where
 pub shut : (number detail : ℕ) (before rows : List Row) → first before ≡ Stop number detail → first (before ++ rows) ≡ Stop number detail
 unfolding andThen
 shut number detail before rows e = first-append before rows ∙ ap (λ (a : Step). andThen a (first rows)) e
+
+-- the row that is found is given, and none before it
+pub decides : (rows : List Row) (number detail : ℕ) → first rows ≡ Stop number detail → Decides rows number detail
+unfolding first noneGiven
+decides [] number detail e = let z : Pass ≡ Stop number detail = e in absurd (let n : _≡_ {A = ℕ} 0 1 = cc in omega (arith, n))
+decides (row x true y ∷ rows) number detail e =
+    let z : Stop x y ≡ Stop number detail = e in
+    let same : (x ≡ number) × (y ≡ detail) = (cc, cc) in
+    record { before = []; later = rows; listed = ap₂ (λ (a b : ℕ). row a true b ∷ rows) (same .0) (same .1); earlier = refl }
+decides (row x false y ∷ rows) number detail e =
+    let r = decides rows number detail e in
+    record { before = row x false y ∷ r .before; later = r .later; listed = ap (λ (l : List Row). row x false y ∷ l) (r .listed); earlier = r .earlier }

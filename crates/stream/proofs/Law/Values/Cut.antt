@@ -1,5 +1,5 @@
 -- A stream that is cut: its header is read as before, if it is still there, and its side table no longer ends with the bytes.
-use mathlib.Core.Path.{_≡_, refl, sym, ap, ap₂, subst, _∙_}
+use mathlib.Core.Path.{_≡_, refl, sym, ap, ap₂, _∙_}
 use mathlib.Core.Logic.{_⊎_, inl, inr}
 use mathlib.Core.Bool.{Bool, true, false, _&&_, not, cond}
 use mathlib.Core.List.{List, [], _∷_}
@@ -9,7 +9,7 @@ use borrow.Author.Tests.{lt-ltb, le-ltb, le-leb, lt-leb, eq-eqb, eqb-true, ne-eq
 use lib.Dec.{leb, ltb, eqb}
 use lib.ListN.{length, take}
 use lib.Seq.{length-take-le, take-take}
-use Rattle.stream.specs.Header.{word, headerOf, chunksIn, tooMany, layoutRight}
+use Rattle.stream.specs.Header.{headerOf, chunksIn, tooMany, layoutRight}
 use Rattle.stream.specs.Tables.{every, sideLength, partAt, entryRight, chunkTableRight, sideTableRight}
 use Rattle.stream.specs.Rows.{first}
 use Rattle.stream.specs.Operations.{headerRows, openingRows, tableRows, chunkRow, chunkRows, contentRows, ownRows, checkRows, unpackRows, probeRows}
@@ -24,7 +24,7 @@ use Rattle.stream.proofs.Law.Tables.Sides.{side-short, side-scan}
 use Rattle.stream.proofs.Law.Rows.First.{shut}
 use Rattle.stream.proofs.Law.Rows.Chunks.{tables-stop}
 use Rattle.stream.proofs.Law.Rows.Given.{check-shut, unpack-shut, probe-shut, check-content, unpack-content, probe-own}
-use Rattle.stream.proofs.Law.Rows.Passed.{Opening, Tables, Unpacking, Probing}
+use Rattle.stream.proofs.Law.Rows.Passed.{Opening, Tables}
 
 -- the three places where a cut can be
 cases : (c : ℕ) (h : Header) (x : Step) → (c < 48 → x ≡ Stop 5 0) → (48 ≤ c → c < h .end → x ≡ Stop 8 0) → (48 ≤ c → h .end ≤ c → x ≡ Stop 9 0)

@@ -1,0 +1,107 @@
+-- The three demands, a theorem each. What they say stands in specs/Demands.antt; the proofs are citations.
+use mathlib.Core.Path.{_≡_, sym, ap, subst, _∙_}
+use mathlib.Core.Logic.{_⊎_, inl, inr}
+use mathlib.Core.Bool.{true}
+use mathlib.Core.List.{List}
+use Prim.Native.Nat.{ℕ, _^_, _≤_, _<_}
+use native.Mathlib.Omega.{arith}
+use lib.IntN.{ℤ}
+use lib.ListN.{length, getD}
+use Rattle.numbers.specs.Answers.{codeAnswer, patternAnswer}
+use Rattle.blocks.specs.Bytes.{Below}
+use Rattle.blocks.proofs.Law.Truth.{le-or-lt}
+use Rattle.stream.specs.Setting.{knownLevel, knownWidth, settingOf, need}
+use Rattle.stream.specs.Writing.{stream}
+use Rattle.stream.specs.Packing.{Sent}
+use Rattle.stream.specs.Operations.{unpackAnswer, unpackOut}
+use Rattle.stream.specs.declared.answers.Answer.the-variants.{Done}
+use Rattle.stream.specs.declared.answers.Probe32.{Probe32}
+use Rattle.stream.specs.declared.answers.Probe64.{Probe64}
+use Rattle.stream.proofs.Readers.{refused-check, refused-unpack, refused-probe32, refused-probe64, refused-untouched, written-values, past-n-untouched, check-higher, unpack-higher, probe-higher32, probe-higher64}
+use Rattle.stream.proofs.Written.{refused-length, refused-pack, refused-pack-untouched, length-is-answered, the-stream-is-packed, it-is-read, it-is-too-new}
+use Rattle.gwizdorad_numbers.proofs.Theorems.{a-refused-code-is-not-written, a-refused-pattern-is-not-written}
+use Rattle.gwizdorad.specs.Result.{probeOut32, probeOut64}
+use Rattle.gwizdorad.specs.Demands.{Demand1, ComesBack, Packed, Demand2, Offered, ReadBack, given-back, too-new, Demand3}
+use Rattle.gwizdorad.proofs.Law.Demand.{bound-at, offered, is-sent, as-many, come-back}
+
+pub demand-1 : Demand1
+unfolding probeOut32 probeOut64
+demand-1 =
+    record {
+      pack = λ W level mode k vs out number detail e. (
+        refused-pack W level mode k vs (length out) number detail e,
+        refused-pack-untouched W level mode k vs out number detail e,
+      );
+      length-of = refused-length;
+      check = refused-check;
+      unpack = λ W level s out number detail e. (
+        refused-unpack W level s (length out) number detail e,
+        refused-untouched W level s out number detail e,
+      );
+      probe32 = λ level s i number detail e. (
+        refused-probe32 level s i number detail e,
+        λ old. ap (λ (a : Probe32). probeOut32 a old) e,
+      );
+      probe64 = λ level s i number detail e. (
+        refused-probe64 level s i number detail e,
+        λ old. ap (λ (a : Probe64). probeOut64 a old) e,
+      );
+      code = λ W m k p old refused. a-refused-code-is-not-written (codeAnswer W m k p) old refused;
+      pattern = λ W m k c old refused. a-refused-pattern-is-not-written (patternAnswer W m k c) old refused;
+    }
+
+-- what is unpacked of a packed stream
+module _ (W level mode : ℕ) (k : ℤ) (vs s : List ℕ) (width : knownWidth W ≡ true) (patterns : Below (2 ^ W) vs) (packed : Packed W level mode k vs s)
+    (L n : ℕ) (back : List ℕ) (done : unpackAnswer W L s (length back) ≡ Done n) where
+  counted : n ≡ length vs
+  counted = sym (written-values W L s back n done .0) ∙ as-many W level mode k vs s width patterns packed
+
+  unpacked : (i : ℕ) → i < n → ComesBack W mode k (getD vs i 0) (getD (unpackOut W L s back) i 0)
+  unpacked i below =
+      subst (λ (q : ℕ). ComesBack W mode k (getD vs i 0) q) (sym (written-values W L s back n done .1 i below))
+      (come-back W level mode k vs s width patterns packed i (omega (arith, counted)))
+
+pub demand-2 : Demand2
+demand-2 =
+    record {
+      values = λ W level mode k vs s width patterns packed L n back done.
+          (counted W level mode k vs s width patterns packed L n back done, unpacked W level mode k vs s width patterns packed L n back done);
+      bound = λ W t width. bound-at t W width;
+    }
+
+-- what a reader makes of it
+module _ (W level mode : ℕ) (k : ℤ) (vs s : List ℕ) (o : Offered W level mode k vs) (packed : Packed W level mode k vs s)
+    (L : ℕ) (known : knownLevel L ≡ true) (back : List ℕ) (room : length vs ≤ length back) where
+  read-back : ReadBack W mode k vs s L back
+  read-back = go (le-or-lt (need (settingOf W mode k)) L)
+    where
+      sent : Sent level (settingOf W mode k) vs s
+      sent = is-sent W level mode k vs s (o .width) (o .patterns) packed
+
+      go : (need (settingOf W mode k) ≤ L) ⊎ (L < need (settingOf W mode k)) → ReadBack W mode k vs s L back
+      go (inl reaches) =
+          let done = it-is-read W level mode k vs (offered W level mode k vs o) s sent L known reaches back room .1 in
+          given-back reaches done
+          (unpacked W level mode k vs s (o .width) (o .patterns) packed L (length vs) back done)
+          (past-n-untouched W L s back (length vs) done)
+      go (inr exceeds) =
+          let refused = it-is-too-new W level mode k vs (offered W level mode k vs o) s sent L known exceeds back in
+          too-new exceeds (refused .1) (refused .2)
+
+pub demand-3 : Demand3
+demand-3 =
+    record {
+      packs = λ W level mode k vs o.
+          let p = offered W level mode k vs o in (
+            length (stream level (settingOf W mode k) vs),
+            length-is-answered W level mode k vs p (o .known),
+            λ out room. the-stream-is-packed W level mode k vs p (o .known) out room .0,
+          );
+      reads = read-back;
+      higher = λ level level′ s l known. (
+        check-higher level level′ s l known,
+        unpack-higher level level′ s l known,
+        probe-higher32 level level′ s l known,
+        probe-higher64 level level′ s l known,
+      );
+    }

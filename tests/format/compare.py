@@ -1,0 +1,161 @@
+#!/usr/bin/env python3
+"""That docs/FORMAT.md is complete: reader.py was written from that page alone, with nothing else seen.
+
+    tests/format/compare.py SHARED-LIBRARY [STREAMS] [SEED]
+
+It and the library get the same streams, clean and damaged, and have to answer the same: check, unpack and probe with
+number, detail and every value; and pack, length and bound. The last line is 'N passed, M failed', a stream each.
+"""
+
+import ctypes
+import random
+import sys
+
+import reader
+
+HEADER_WORDS = 12
+INTERESTING = [0, 1, 2, 7, 8, 9, 10, 11, 31, 32, 33, 48, 52, 63, 64, 65, 1023, 1024, 1025, 1048576, 1048577,
+               2**31 - 1, 2**31, 2**32 - 2, 2**32 - 1]
+ELEMENT = {32: ctypes.c_uint32, 64: ctypes.c_uint64}
+
+
+class Library:
+    """The library's calls, with the answers in the shape of reader.py's."""
+
+    def __init__(self, path):
+        self.calls = ctypes.CDLL(path)
+
+    def call(self, name, *arguments):
+        function = getattr(self.calls, name)
+        function.restype = ctypes.c_uint64
+        result = function(*arguments)
+        return result >> 32, result & 0xFFFFFFFF
+
+    def check(self, level, data):
+        return self.call("gwz_check", ctypes.c_uint32(level), data, ctypes.c_size_t(len(data)))
+
+    def unpack(self, width, level, data, room):
+        out = (ELEMENT[width] * max(room, 1))()
+        number, detail = self.call(f"gwz_unpack{width}", ctypes.c_uint32(level), data, ctypes.c_size_t(len(data)), out, ctypes.c_size_t(room))
+        return number, detail, list(out[:detail]) if number == 0 else None
+
+    def probe(self, width, level, data, index):
+        pattern = ELEMENT[width]()
+        number, detail = self.call(f"gwz_probe{width}", ctypes.c_uint32(level), data, ctypes.c_size_t(len(data)), ctypes.c_uint64(index),
+                                   ctypes.byref(pattern))
+        return number, detail, pattern.value if number == 0 else None
+
+    def pack(self, width, level, mode, k, values, room):
+        out = (ctypes.c_uint8 * max(room, 1))()
+        number, detail = self.call(f"gwz_pack{width}", ctypes.c_uint32(level), ctypes.c_uint32(mode), ctypes.c_int32(k),
+                                   (ELEMENT[width] * len(values))(*values), ctypes.c_size_t(len(values)), out, ctypes.c_size_t(room))
+        return number, detail, bytes(out[:detail]) if number == 0 else None
+
+    def length(self, width, level, mode, k, values):
+        return self.call(f"gwz_length{width}", ctypes.c_uint32(level), ctypes.c_uint32(mode), ctypes.c_int32(k),
+                         (ELEMENT[width] * len(values))(*values), ctypes.c_size_t(len(values)))
+
+    def bound(self, width, tolerance):
+        number, detail = self.call("gwz_bound", ctypes.c_uint32(width), ctypes.c_uint64(tolerance))
+        return number, detail - 2**32 if number == 0 and detail >= 2**31 else detail
+
+
+# ---- what is packed
+
+def some_count(pick):
+    return pick.choice([0, 1, 2, 31, 32, 33, pick.randrange(100), pick.randrange(200), pick.randrange(1100)] + [pick.randrange(64)] * 12)
+
+
+def some_setting(pick):
+    width, mode = pick.choice([32, 64]), pick.choice([0, 1])
+    low, high = reader.ALLOWED_K[width]
+    k = pick.choice([low, high, pick.randrange(low, high + 1), pick.randrange(-12, 3)]) if mode == 1 else 0
+    return width, mode, k
+
+
+def some_values(pick, width, k):
+    """Patterns of one kind: any, special, alike, or around the threshold and the bins."""
+    m, half = reader.FRACTION_BITS[width], 1 << (width - 1)
+    special = [0, half, 1, half + 1, half - 1, 2 * half - 1, half - (1 << m), half - (1 << m) + 1]
+    bins = k + reader.BIN_OFFSET[width]
+    middle = pick.randrange(half)
+    kinds = [lambda: pick.randrange(2 * half), lambda: pick.choice(special), lambda: (middle + pick.randrange(5000)) % (2 * half),
+             lambda: (max(bins + pick.choice([1 - m, 0, 1, 1, 1]), 0) * (1 << m) + pick.randrange(-3, 4)) % half + half * pick.randrange(2)]
+    kind = pick.choice(kinds)
+    return [kind() if pick.random() < 0.95 else pick.choice(special) for _ in range(some_count(pick))]
+
+
+# ---- what is damaged
+
+def with_sides(pick, data):
+    parts = [bytes(pick.randrange(256) for _ in range(pick.randrange(4))) for _ in range(pick.choice([1, 2, 3, 64, 65]))]
+    place, ids, table = len(data) + 12 * len(parts), -1, b""
+    for part in parts:
+        ids += 1 + pick.randrange(3)
+        table += b"".join(n.to_bytes(4, "little") for n in (ids, place, len(part)))
+        place += len(part)
+    return data[:40] + len(parts).to_bytes(4, "little") + data[44:] + table + b"".join(parts)
+
+
+def other_word(pick, data):
+    at = 4 * pick.randrange(HEADER_WORDS + 2)
+    old = int.from_bytes(data[at:at + 4], "little")
+    new = pick.choice(INTERESTING + [old + 1, old - 1, len(data), len(data) + 1]) % 2**32
+    return data[:at] + new.to_bytes(4, "little") + data[at + 4:]
+
+
+def other_byte(pick, data):
+    at = pick.randrange(len(data))
+    return data[:at] + bytes([pick.choice([0, 255, pick.randrange(256)])]) + data[at + 1:]
+
+
+def other_bit(pick, data):
+    at = pick.randrange(48, len(data)) if len(data) > 48 else pick.randrange(len(data))
+    return data[:at] + bytes([data[at] ^ 1 << pick.randrange(8)]) + data[at + 1:]
+
+
+def damaged(pick, data):
+    for _ in range(pick.choice([0, 0, 1, 1, 1, 2, 3])):
+        how = pick.choice([other_word, other_byte, other_bit, other_bit, with_sides,
+                           lambda pick, data: data[:pick.randrange(len(data) + 1)],
+                           lambda pick, data: data + bytes(pick.randrange(1, 4))])
+        if data:
+            data = how(pick, data)
+    return data
+
+
+# ---- the comparison
+
+def differences(pick, library):
+    """What differs for one more stream, each as the call and both answers."""
+    width, mode, k = some_setting(pick)
+    values = some_values(pick, width, k)
+    level = pick.choice([8, 9, 10, 10, 10, 10])
+    room = reader.length(width, level, mode, k, values)[1] + pick.choice([0, 0, 0, -1, 5])
+    calls = [("pack", width, level, mode, k, values, max(room, 0)), ("length", width, level, mode, k, values),
+             ("bound", pick.choice([32, 64, 64, 16]), pick.choice([pick.randrange(2**63), pick.randrange(2**64), pick.randrange(2**54), 1, 0]))]
+    data = damaged(pick, library.pack(width, 10, mode, k, values, 2**17)[2])
+    acting, n = pick.choice([8, 9, 10, 10, 10, 10, pick.choice([0, 7, 11, 2**32 - 1])]), len(values)
+    other = width if pick.random() < 0.95 else 96 - width
+    calls += [("check", acting, data), ("unpack", other, acting, data, max(n + pick.choice([0, 0, 0, 1, -1]), 0))]
+    calls += [("probe", other, acting, data, index) for index in (pick.randrange(n + 1), pick.choice([0, n, 1023, 1024, 2**64 - 1]))]
+    answers = [(call, getattr(reader, call[0])(*call[1:]), getattr(library, call[0])(*call[1:])) for call in calls]
+    return [answer for answer in answers if answer[1] != answer[2]]
+
+
+def main():
+    library = Library(sys.argv[1])
+    streams = int(sys.argv[2]) if len(sys.argv) > 2 else 20000
+    pick = random.Random(int(sys.argv[3]) if len(sys.argv) > 3 else 1)
+    failed = 0
+    for _ in range(streams):
+        found = differences(pick, library)
+        failed += bool(found)
+        for call, page, answer in found[:1] if failed <= 10 else []:
+            print(f"{call[0]}{str(call[1:])[:300]}\n  by the page: {str(page)[:300]}\n  the library: {str(answer)[:300]}")
+    print(f"{streams - failed} passed, {failed} failed")
+    sys.exit(1 if failed else 0)
+
+
+if __name__ == "__main__":
+    main()

@@ -1,0 +1,409 @@
+"""A reader and a writer of packed streams, written from FORMAT.md alone.
+
+Whole numbers only, standard library only. Names in quotes are the page's own.
+No function raises on any level, bytes or index, and the work is bounded by
+the bytes at hand and by the page's limits, never by what a header claims.
+"""
+
+from collections import namedtuple
+
+LEVELS = (8, 9, 10)                           # "knownLevel"
+WIDTHS = (32, 64)                             # "knownWidth"
+FRACTION_BITS = {32: 23, 64: 52}              # "fractionBits": m
+BIN_OFFSET = {32: 150, 64: 1075}              # "binOf": j = k + this
+ALLOWED_K = {32: (-150, 103), 64: (-1075, 970)}   # "allowedK"
+MOST_VALUES = 1048576                         # "tooMany"
+MOST_PARTS = 64
+CHUNK = 1024                                  # values in a chunk
+GROUP = 32                                    # codes in a group
+HEADER_BYTES = 48
+ENTRY_BYTES = 12                              # one entry of the side table
+
+# The twelve numbers of the header, in order. The page gives no name to the
+# numbers at 32 and 36; here they are table_at and data_at.
+Header = namedtuple("Header", "major written needed width mode k n c table_at data_at s end")
+
+
+# --- Mode 0: lossless -------------------------------------------------------
+
+def lossless_code(width, p):
+    """Code of the pattern p ("losslessCode")."""
+    half, size = 1 << (width - 1), 1 << width
+    unit = 1 << (FRACTION_BITS[width] + 1)
+    r = (p % half) * 2 + p // half            # 1. "rotated"
+    if r // unit != 0:                        # 2. "stepped"
+        r = (r - half) % size
+        if r // unit == 0 or r >= half:       # "lowered"
+            r = (r - unit) % size
+    if r < half:                              # 3. "folded"
+        return 2 * r
+    return 2 * (size - 1 - r) + 1
+
+
+def lossless_restored(width, q):
+    """Pattern of the code q ("losslessRestored")."""
+    half, size = 1 << (width - 1), 1 << width
+    unit = 1 << (FRACTION_BITS[width] + 1)
+    r = q // 2 if q % 2 == 0 else size - 1 - q // 2   # 1. "unfolded"
+    if r // unit != 0:                        # 2. "unstepped": the field is looked at once
+        if r >= half:
+            r = (r + unit) % size             # "raised"
+        r = (r + half) % size
+    return r // 2 + (r % 2) * half            # 3. "unrotated"
+
+
+# --- Mode 1: within a tolerance ---------------------------------------------
+
+def rounded_magnitude(m, j, o):
+    """The u of an ordinal below that of T: magnitude / E, a half going up ("near")."""
+    e, f = o >> m, o % (1 << m)
+    if e == 0:
+        a, r = f, j
+    else:
+        a, r = (1 << m) + f, j - e + 1
+    if r == 0:
+        return a
+    if r > m + 1:
+        return 0
+    return (a + (1 << (r - 1))) >> r
+
+
+def tolerance_code(width, k, p):
+    """Code of the pattern p ("toleranceCode")."""
+    m, j = FRACTION_BITS[width], k + BIN_OFFSET[width]
+    sign, o = p >> (width - 1), p % (1 << (width - 1))
+    if o >= (j + 1) << m:                     # from T on: kept as it is
+        u = o - (j << m)
+    else:
+        u = rounded_magnitude(m, j, o)
+    return 2 * u + sign
+
+
+def ordinal_of_multiple(m, j, u):
+    """The ordinal of u * E, for u below 2^m ("ordinalOf")."""
+    if u == 0:
+        return 0
+    b = u.bit_length()
+    if b + j <= m + 1:
+        return u << j
+    return ((b + j - m - 1) << m) + (u << (m + 1 - b))
+
+
+def tolerance_restored(width, k, q):
+    """Pattern of the code q, whose u is at most the largest u ("toleranceRestored")."""
+    m, j = FRACTION_BITS[width], k + BIN_OFFSET[width]
+    sign, u = q % 2, q // 2
+    if u >= 1 << m:
+        o = u + (j << m)
+    else:
+        o = ordinal_of_multiple(m, j, u)
+    return o + (sign << (width - 1))
+
+
+def largest_u(width, k):
+    """No pattern has a larger u, and a reader refuses it ("largestU")."""
+    return (1 << (width - 1)) - 1 - ((k + BIN_OFFSET[width]) << FRACTION_BITS[width])
+
+
+# --- Both modes -------------------------------------------------------------
+
+def code_of(width, mode, k, p):
+    return lossless_code(width, p) if mode == 0 else tolerance_code(width, k, p)
+
+
+def restored(width, mode, k, q):
+    return lossless_restored(width, q) if mode == 0 else tolerance_restored(width, k, q)
+
+
+def allowed_setting(width, mode, k):
+    """"allowedSetting", with the width's own rule."""
+    if width not in WIDTHS:
+        return False
+    if mode == 0:
+        return k == 0
+    low, high = ALLOWED_K[width]
+    return mode == 1 and low <= k <= high
+
+
+def need(width, mode):
+    """10 for width 64, else 9 for mode 1, else 8."""
+    if width == 64:
+        return 10
+    return 9 if mode == 1 else 8
+
+
+def chunks_in(n):
+    return (n + CHUNK - 1) // CHUNK
+
+
+# --- Header and tables ------------------------------------------------------
+
+def word(data, at):
+    """32 bits, lowest byte first, without a sign."""
+    return int.from_bytes(data[at:at + 4], "little")
+
+
+def header_of(data):
+    """The header's numbers; k alone is read in two's complement ("kOf")."""
+    h = Header(*(word(data, at) for at in range(0, HEADER_BYTES, 4)))
+    return h._replace(k=h.k - (1 << 32)) if h.k >= 1 << 31 else h
+
+
+def setting_right(h):
+    """Refusal 8, first half: width, mode, k, needed and written."""
+    return (allowed_setting(h.width, h.mode, h.k)
+            and h.needed == need(h.width, h.mode)
+            and h.written >= h.needed)
+
+
+def layout_right(h, count):
+    """Refusal 8, second half: n, c, both places, s and end."""
+    data_at = HEADER_BYTES + 4 * h.c
+    return (h.n <= MOST_VALUES
+            and h.c == chunks_in(h.n)
+            and h.table_at == HEADER_BYTES
+            and h.data_at == data_at
+            and h.s <= MOST_PARTS
+            and data_at <= h.end <= count)
+
+
+def opening(level, data):
+    """Tests 1 5 6 7 8: a refusal or None, then the header or None ("openingRows")."""
+    if level not in LEVELS:
+        return (1, 0), None
+    if len(data) < HEADER_BYTES:
+        return (5, 0), None
+    h = header_of(data)
+    if h.major != 1:
+        return (6, 0), None
+    if h.needed > level:                      # whatever else the header says
+        return (7, h.needed), None
+    if not (setting_right(h) and layout_right(h, len(data))):
+        return (8, 0), None
+    return None, h
+
+
+def start_at(h, data, i):
+    """Start of the chunk i, from the place of the data; c gives the data's length."""
+    return h.end - h.data_at if i == h.c else word(data, HEADER_BYTES + 4 * i)
+
+
+def chunk_table_right(h, data):
+    """First start 0, each greater than the one before, the last below the length.
+
+    With no chunks the one number is the data's length, which must be 0 then.
+    """
+    starts = [start_at(h, data, i) for i in range(h.c + 1)]
+    return starts[0] == 0 and all(a < b for a, b in zip(starts, starts[1:]))
+
+
+def side_table_right(h, data):
+    """Ids increase strictly; parts stand one by one and end where the bytes end."""
+    place = h.end + ENTRY_BYTES * h.s
+    if place > len(data):                     # the table lies within the bytes
+        return False
+    last_id = -1                              # the first id may be any number, 0 too
+    for at in range(h.end, place, ENTRY_BYTES):
+        part_id, part_at, length = word(data, at), word(data, at + 4), word(data, at + 8)
+        if part_id <= last_id or part_at != place:
+            return False
+        last_id, place = part_id, place + length
+    return place == len(data)
+
+
+def tables_refusal(h, data):
+    """Test 9: both tables, whole, in every reader."""
+    if chunk_table_right(h, data) and side_table_right(h, data):
+        return None
+    return (9, 0)
+
+
+# --- Groups and chunks ------------------------------------------------------
+
+def group_codes(h, chunk, at, g):
+    """The g codes of the group at the place `at` in its chunk, and the place behind it.
+
+    None when the group is not good; the numbers are those of the page's list.
+    """
+    if at >= len(chunk) or chunk[at] > h.width:              # 1
+        return None
+    w = chunk[at]
+    behind = at + 1 + (w * g + 7) // 8
+    if behind > len(chunk):                                  # 2
+        return None
+    bits = int.from_bytes(chunk[at + 1:behind], "little")
+    mask = (1 << w) - 1
+    codes = [(bits >> shift) & mask for shift in range(0, w * g, w)] if w else [0] * g
+    largest = max(codes)
+    if largest.bit_length() != w:                            # 3
+        return None
+    if bits >> (w * g) != 0:                                 # 4
+        return None
+    if h.mode == 1 and largest // 2 > largest_u(h.width, h.k):   # 5
+        return None
+    return codes, behind
+
+
+def chunk_codes(h, data, i):
+    """All codes of the chunk i, or None when it breaks a rule ("chunkAnswer")."""
+    chunk = data[h.data_at + start_at(h, data, i):h.data_at + start_at(h, data, i + 1)]
+    left = min(CHUNK, h.n - CHUNK * i)
+    codes, at = [], 0
+    while left > 0:
+        g = min(GROUP, left)
+        group = group_codes(h, chunk, at, g)
+        if group is None:
+            return None
+        codes += group[0]
+        at = group[1]
+        left -= g
+    return codes if at == len(chunk) else None               # no byte is left over
+
+
+def all_codes(h, data):
+    """Test 10 of check and unpack: the refusal of the first bad chunk, or all codes."""
+    codes = []
+    for i in range(h.c):
+        chunk = chunk_codes(h, data, i)
+        if chunk is None:
+            return (10, i), None
+        codes += chunk
+    return None, codes
+
+
+# --- The readers ------------------------------------------------------------
+
+def check(level, data):
+    """Order 1 5 6 7 8 9 10. Gives (0, n), or the refusal and its detail."""
+    refusal, h = opening(level, data)
+    if refusal is None:
+        refusal = tables_refusal(h, data)
+    if refusal is None:
+        refusal, _ = all_codes(h, data)
+    return (0, h.n) if refusal is None else refusal
+
+
+def unpack(width, level, data, room):
+    """Order 1 5 6 7 8 14 4 9 10. Gives (0, n, patterns), or (number, detail, None)."""
+    refusal, h = opening(level, data)
+    if refusal is None and h.width != width:
+        refusal = (14, 0)
+    if refusal is None and room < h.n:
+        refusal = (4, h.n)
+    if refusal is None:
+        refusal = tables_refusal(h, data)
+    if refusal is None:
+        refusal, codes = all_codes(h, data)
+    if refusal is not None:
+        return refusal + (None,)
+    return 0, h.n, [restored(width, h.mode, h.k, q) for q in codes]
+
+
+def kind_of(width, p):
+    """0 a finite number, 1 an infinity, 2 a not-a-number ("told32", "told64")."""
+    m = FRACTION_BITS[width]
+    infinity = (1 << (width - 1)) - (1 << m)  # 7F800000 or 7FF0000000000000
+    o = p % (1 << (width - 1))
+    return 0 if o < infinity else 1 if o == infinity else 2
+
+
+def probe(width, level, data, index):
+    """Order 1 5 6 7 8 14 11 9 10. Gives (0, kind, pattern), or (number, detail, None).
+
+    By 10 it tests its own chunk alone, but that one whole.
+    """
+    refusal, h = opening(level, data)
+    if refusal is None and h.width != width:
+        refusal = (14, 0)
+    if refusal is None and index >= h.n:
+        refusal = (11, 0)
+    if refusal is None:
+        refusal = tables_refusal(h, data)
+    if refusal is None:
+        codes = chunk_codes(h, data, index // CHUNK)
+        if codes is None:
+            refusal = (10, index // CHUNK)
+    if refusal is not None:
+        return refusal + (None,)
+    p = restored(width, h.mode, h.k, codes[index % CHUNK])
+    return 0, kind_of(width, p), p
+
+
+# --- The writer -------------------------------------------------------------
+
+def spell(x):
+    """32 bits, lowest byte first."""
+    return (x % (1 << 32)).to_bytes(4, "little")
+
+
+def group_bytes(codes):
+    """The byte w, the codes of w bits each, then zero bits to the next byte."""
+    w = max(codes).bit_length()
+    bits = 0
+    for i, q in enumerate(codes):
+        bits |= q << (i * w)
+    return bytes([w]) + bits.to_bytes((w * len(codes) + 7) // 8, "little")
+
+
+def chunk_bytes(codes):
+    return b"".join(group_bytes(codes[i:i + GROUP]) for i in range(0, len(codes), GROUP))
+
+
+def stream(width, level, mode, k, values):
+    """The only stream of a level, an allowed setting and the values ("stream")."""
+    codes = [code_of(width, mode, k, p) for p in values]
+    chunks = [chunk_bytes(codes[i:i + CHUNK]) for i in range(0, len(codes), CHUNK)]
+    starts, total = [], 0
+    for chunk in chunks:
+        starts.append(total)
+        total += len(chunk)
+    c = len(chunks)
+    data_at = HEADER_BYTES + 4 * c
+    numbers = Header(major=1, written=level, needed=need(width, mode), width=width, mode=mode,
+                     k=k, n=len(codes), c=c, table_at=HEADER_BYTES, data_at=data_at, s=0,
+                     end=data_at + total)
+    return b"".join(map(spell, numbers)) + b"".join(map(spell, starts)) + b"".join(chunks)
+
+
+def writer_refusal(width, level, mode, k, values):
+    """Tests 1 2 3 of pack and length."""
+    if level not in LEVELS:
+        return (1, 0)
+    if not allowed_setting(width, mode, k) or need(width, mode) > level:
+        return (2, 0)
+    if len(values) > MOST_VALUES:
+        return (3, 0)
+    return None
+
+
+def pack(width, level, mode, k, values, room):
+    """Order 1 2 3 4. Gives (0, bytes written, bytes), or (number, detail, None)."""
+    refusal = writer_refusal(width, level, mode, k, values)
+    if refusal is not None:
+        return refusal + (None,)
+    data = stream(width, level, mode, k, values)
+    if room < len(data):
+        return 4, len(data), None
+    return 0, len(data), data
+
+
+def length(width, level, mode, k, values):
+    """Order 1 2 3. Gives (0, the bytes that pack would write), or the refusal."""
+    refusal = writer_refusal(width, level, mode, k, values)
+    if refusal is not None:
+        return refusal
+    return 0, len(stream(width, level, mode, k, values))
+
+
+def bound(width, t):
+    """Order 2 12 13. Gives (0, the largest allowed k with 2^k not above t), or the refusal."""
+    if width not in WIDTHS:
+        return 2, 0
+    if t == 0 or t >= 0x7FF0000000000000:
+        return 12, 0
+    e = t >> 52
+    x = e - 1023 if e != 0 else t.bit_length() - 1075
+    low, high = ALLOWED_K[width]
+    if x < low:
+        return 13, 0
+    return 0, min(x, high)
