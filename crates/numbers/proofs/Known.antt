@@ -1,53 +1,45 @@
--- The known values that document 01 marks *, each kind as one computed statement over its table: a row that is wrong would be left in the
--- list, and the error would name it. SLEEK's Table II stands in `bins`.
+-- The known values that document 01 marks *, as one computed statement over one table: a row that is wrong would be left in the list, and the
+-- error would name it. SLEEK's Table II stands in `bins`.
 use mathlib.Core.Path.{_≡_, refl}
 use mathlib.Core.Bool.{Bool, true, _&&_, cond}
 use mathlib.Core.List.{List, [], _∷_}
 use Prim.Native.Nat.{ℕ, zero, suc, _+_, _-_, _*_, _^_}
 use lib.Dec.{leb, eqb}
-use lib.IntN.{ℤ, negsuc}
+use lib.IntN.{ℤ, pos, negsuc}
 use Rattle.bins.proofs.Known.{wrong, toleranceRight}
 use Rattle.numbers.specs.Signed.{signedView, folded, unfolded, bitsOf}
 use Rattle.numbers.specs.Lossless.{rotated, field, minus, lowered, stepped, losslessCode, plus, raised, unstepped, unrotated, losslessRestored}
 
--- ---- lossless: width, fraction bits, pattern, code
+-- mode, width, fraction bits, k (0 in mode 0), pattern, code, pattern restored
+right : ℕ × ℕ × ℕ × ℤ × ℕ × ℕ × ℕ → Bool
+unfolding losslessCode folded signedView stepped lowered minus field rotated losslessRestored unrotated unstepped raised plus bitsOf unfolded toleranceRight
+right r =
+    cond (eqb (r .0) 0)
+    (eqb (losslessCode (r .1) (r .2) (r .4)) (r .5) && eqb (losslessRestored (r .1) (r .2) (r .5)) (r .6))
+    (toleranceRight (r .1, r .2, r .3, r .4, r .5, r .6))
 
-losslessRight : ℕ × ℕ × ℕ × ℕ → Bool
-unfolding losslessCode folded signedView stepped lowered minus field rotated losslessRestored unrotated unstepped raised plus bitsOf unfolded
-losslessRight r = eqb (losslessCode (r .0) (r .1) (r .2)) (r .3) && eqb (losslessRestored (r .0) (r .1) (r .3)) (r .2)
-
-losslessRows : List (ℕ × ℕ × ℕ × ℕ)
-losslessRows =
-    (32, 23, 0x00000000, 0)
-    ∷ (32, 23, 0x80000000, 2)
-    ∷ (32, 23, 0x00000001, 4)
-    ∷ (32, 23, 0x3F800000, 0x03FFFFFF)
-    ∷ (32, 23, 0xBF800000, 0x03FFFFFD)
-    ∷ (32, 23, 0x40000000, 0x01FFFFFF)
-    ∷ (32, 23, 0x40800000, 0x02000000)
-    ∷ (32, 23, 0x00800000, 0xFFFFFFFF)
-    ∷ (32, 23, 0x7F800000, 0xFE000000)
-    ∷ (64, 52, 0x3FF0000000000000, 2 ^ 55 - 1)
+markedRows : List (ℕ × ℕ × ℕ × ℤ × ℕ × ℕ × ℕ)
+markedRows =
+    (0, 32, 23, pos 0, 0x00000000, 0, 0x00000000)
+    ∷ (0, 32, 23, pos 0, 0x80000000, 2, 0x80000000)
+    ∷ (0, 32, 23, pos 0, 0x00000001, 4, 0x00000001)
+    ∷ (0, 32, 23, pos 0, 0x3F800000, 0x03FFFFFF, 0x3F800000)
+    ∷ (0, 32, 23, pos 0, 0xBF800000, 0x03FFFFFD, 0xBF800000)
+    ∷ (0, 32, 23, pos 0, 0x40000000, 0x01FFFFFF, 0x40000000)
+    ∷ (0, 32, 23, pos 0, 0x40800000, 0x02000000, 0x40800000)
+    ∷ (0, 32, 23, pos 0, 0x00800000, 0xFFFFFFFF, 0x00800000)
+    ∷ (0, 32, 23, pos 0, 0x7F800000, 0xFE000000, 0x7F800000)
+    ∷ (0, 64, 52, pos 0, 0x3FF0000000000000, 2 ^ 55 - 1, 0x3FF0000000000000)
+    -- 0.25 to 0.5, -0.75 to -1.0, 4194303.75 to 4194304, and infinity to itself, at k = -2
+    ∷ (1, 32, 23, negsuc 1, 0x3E800000, 2, 0x3F000000)
+    ∷ (1, 32, 23, negsuc 1, 0xBF400000, 5, 0xBF800000)
+    ∷ (1, 32, 23, negsuc 1, 0x4A7FFFFF, 16777216, 0x4A800000)
+    ∷ (1, 32, 23, negsuc 1, 0x7F800000, 1795162112, 0x7F800000)
     ∷ []
 
-lossless-known : wrong losslessRight losslessRows ≡ []
-unfolding wrong losslessRight losslessRows
-lossless-known = refl
-
--- ---- tolerance: width, fraction bits, k, pattern, code, pattern restored
-
--- 0.25 to 0.5, -0.75 to -1.0, 4194303.75 to 4194304, and infinity to itself, at k = -2
-toleranceRows : List (ℕ × ℕ × ℤ × ℕ × ℕ × ℕ)
-toleranceRows =
-    (32, 23, negsuc 1, 0x3E800000, 2, 0x3F000000)
-    ∷ (32, 23, negsuc 1, 0xBF400000, 5, 0xBF800000)
-    ∷ (32, 23, negsuc 1, 0x4A7FFFFF, 16777216, 0x4A800000)
-    ∷ (32, 23, negsuc 1, 0x7F800000, 1795162112, 0x7F800000)
-    ∷ []
-
-tolerance-known : wrong toleranceRight toleranceRows ≡ []
-unfolding wrong toleranceRight toleranceRows
-tolerance-known = refl
+marked-values : wrong right markedRows ≡ []
+unfolding wrong right markedRows
+marked-values = refl
 
 -- ---- "In effect exponent 0 stays 0, and in single precision 1..128 become -128..-1 and 129..255 become 1..127; in double, 1..1024 become
 -- -1024..-1 and 1025..2047 become 1..1023": the code of the pattern with the exponent e and nothing else, for every e
