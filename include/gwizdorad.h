@@ -14,6 +14,7 @@
  *   during the call and not after it. It allocates nothing, keeps nothing between calls and has no state, so
  *   any number of threads may call it at once, each with outputs of its own.
  * - An output must not overlap any other part lent to the same call.
+ * - During the call nobody else writes to a lent part, or reads an output.
  * - A part of no elements (count 0) is never read or written, and its pointer may be NULL. No other pointer
  *   may be: behind `pattern` and `code`, one element is lent.
  * - Pointers to uint32_t and uint64_t are aligned as C has it. Bytes may lie anywhere.
