@@ -46,9 +46,9 @@ static int32_t exponent_of(double tolerance)
 }
 
 /*
- * The CRC-32 of bytes, as zlib, gzip and PNG have it. Why one is needed: the library refuses a file that was cut, always,
- * and bytes that break a rule of the format. But the format has no checksum of its own. A bit of a code that was
- * altered on the way, and breaks no rule, is read as another value, and most single bits of a stream are such.
+ * The CRC-32 of bytes, as zlib and PNG have it. Why it is needed: the library refuses every file that was cut, and all
+ * bytes that break a rule of the format. But the format has no checksum of its own: a bit of a code that was altered on
+ * the way, and breaks no rule, is read as another value. Most bits of a stream are such.
  */
 static uint32_t checksum_of(const uint8_t *bytes, size_t length)
 {
@@ -79,8 +79,9 @@ static uint8_t *packed(const float *values, size_t n, int32_t k, size_t *length)
 }
 
 /*
- * The values of a stream, for the caller to free. The bytes may come from anywhere: they are compared with the checksum that
- * was kept of them before they are read. Without that nothing would be read out of bounds either, but a value could be wrong.
+ * The values of a stream, for the caller to free. The bytes may come from anywhere, so they are first compared with the
+ * checksum that was kept of them. Without that, what breaks a rule of the format would still be refused, but a value
+ * could be wrong.
  */
 static float *unpacked(const uint8_t *stream, size_t length, uint32_t checksum, size_t *n)
 {
@@ -118,8 +119,8 @@ int main(void)
     int32_t k = exponent_of(0.005);
     uint8_t *stream = packed(levels, CELLS, k, &length);
 
-    /* Take the checksum once, where the bytes are known to be right, and keep it apart from them: in a file beside theirs, or
-       in the list that names the file. Here both stay in memory. */
+    /* Take the checksum where the stream is packed, and keep it beside the stream: in a second file, or in the list
+       that names the file. Here both stay in memory. */
     uint32_t checksum = checksum_of(stream, length);
     float *back = unpacked(stream, length, checksum, &n);
 
@@ -130,8 +131,7 @@ int main(void)
     printf("tolerance: 2^%ld m = %g m\n", (long)k, ldexp(1, (int)k));
     printf("stream: %lu bytes, checksum %08lx\n", (unsigned long)length, (unsigned long)checksum);
 
-    /* What only the checksum sees: the last byte of this stream has bits of a code. With its lowest bit altered, no rule of the format is
-       broken. */
+    /* What only the checksum sees: the lowest bit of the last byte belongs to a code, and altered it breaks no rule. */
     stream[length - 1] ^= 1;
     printf("with one bit altered, gwz_check %s it, and the checksum %s\n",
            gwz_refusal(gwz_check(GWZ_HIGHEST_LEVEL, stream, length)) == GWZ_DONE ? "accepts" : "refuses",
