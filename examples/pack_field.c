@@ -1,5 +1,5 @@
 /*
- * Packs a small field within a tolerance and reads it back: a program to copy from.
+ * Packs a small field within a tolerance and reads it back, with a checksum beside the stream: a program to copy from.
  *
  *     cc -std=c99 -I include examples/pack_field.c target/lib/libgwizdorad.a -lm -o pack_field
  */
@@ -45,6 +45,22 @@ static int32_t exponent_of(double tolerance)
     return gwz_exponent(not_refused("bound", gwz_bound(32, pattern)));
 }
 
+/*
+ * The CRC-32 of bytes, as zlib and PNG have it. Why it is needed: the library refuses every file that was cut, and all
+ * bytes that break a rule of the format. But the format has no checksum of its own: a bit of a code that was altered on
+ * the way, and breaks no rule, is read as another value. Most bits of a stream are such.
+ */
+static uint32_t checksum_of(const uint8_t *bytes, size_t length)
+{
+    uint32_t crc = 0xFFFFFFFFu;
+    for (size_t i = 0; i < length; i++) {
+        crc ^= bytes[i];
+        for (int bit = 0; bit < 8; bit++)
+            crc = (crc & 1u) != 0 ? (crc >> 1) ^ 0xEDB88320u : crc >> 1;
+    }
+    return crc ^ 0xFFFFFFFFu;
+}
+
 /* The stream of n values, for the caller to free. */
 static uint8_t *packed(const float *values, size_t n, int32_t k, size_t *length)
 {
@@ -62,9 +78,15 @@ static uint8_t *packed(const float *values, size_t n, int32_t k, size_t *length)
     return stream;
 }
 
-/* The values of a stream, for the caller to free. The bytes may come from anywhere: what breaks a rule of the format is refused. */
-static float *unpacked(const uint8_t *stream, size_t length, size_t *n)
+/*
+ * The values of a stream, for the caller to free. The bytes may come from anywhere, so they are first compared with the
+ * checksum that was kept of them. Without that, what breaks a rule of the format would still be refused, but a value
+ * could be wrong.
+ */
+static float *unpacked(const uint8_t *stream, size_t length, uint32_t checksum, size_t *n)
 {
+    if (checksum_of(stream, length) != checksum)
+        stop("reading", "these are not the bytes that were packed: fetch the file again");
     *n = gwz_answer(not_refused("check", gwz_check(GWZ_HIGHEST_LEVEL, stream, length)));
     uint32_t *patterns = (uint32_t *)allocated(*n * sizeof *patterns + 1); /* + 1: a stream may hold no values */
     not_refused("unpack", gwz_unpack32(GWZ_HIGHEST_LEVEL, stream, length, patterns, *n));
@@ -96,14 +118,24 @@ int main(void)
     size_t length = 0, n = 0;
     int32_t k = exponent_of(0.005);
     uint8_t *stream = packed(levels, CELLS, k, &length);
-    float *back = unpacked(stream, length, &n);
+
+    /* Take the checksum where the stream is packed, and keep it beside the stream: in a second file, or in the list
+       that names the file. Here both stay in memory. */
+    uint32_t checksum = checksum_of(stream, length);
+    float *back = unpacked(stream, length, checksum, &n);
 
     if (n != CELLS)
         stop("unpack", "the stream holds another count of values");
     print_cells("packed, in metres:", levels);
     print_cells("read back:", back);
     printf("tolerance: 2^%ld m = %g m\n", (long)k, ldexp(1, (int)k));
-    printf("stream: %lu bytes\n", (unsigned long)length);
+    printf("stream: %lu bytes, checksum %08lx\n", (unsigned long)length, (unsigned long)checksum);
+
+    /* What only the checksum sees: the lowest bit of the last byte belongs to a code, and altered it breaks no rule. */
+    stream[length - 1] ^= 1;
+    printf("with one bit altered, gwz_check %s it, and the checksum %s\n",
+           gwz_refusal(gwz_check(GWZ_HIGHEST_LEVEL, stream, length)) == GWZ_DONE ? "accepts" : "refuses",
+           checksum_of(stream, length) == checksum ? "is the same" : "differs");
     free(back);
     free(stream);
     return 0;

@@ -14,19 +14,26 @@
  *   during the call and not after it. It allocates nothing, keeps nothing between calls and has no state, so
  *   any number of threads may call it at once, each with outputs of its own.
  * - An output must not overlap any other part lent to the same call.
+ * - During the call nobody else writes to a lent part, or reads an output.
  * - A part of no elements (count 0) is never read or written, and its pointer may be NULL. No other pointer
  *   may be: behind `pattern` and `code`, one element is lent.
  * - Pointers to uint32_t and uint64_t are aligned as C has it. Bytes may lie anywhere.
  *
- * Any content is safe to lend: bytes that break a rule of the format get a refusal, never a fault. The format has no
- * checksum: a flipped bit that breaks no rule is not seen, and changes values. Where that matters, keep a checksum
- * beside the file.
+ * Any content is safe to lend. Bytes that break a rule of the format get a refusal before a value is written, never a
+ * fault. A cut file (any proper beginning of a stream that is accepted) always gets one: 5, 8 or 9.
+ *
+ *
+ * WHAT IS NOT SEEN
+ *
+ * The format has no checksum. An altered bit of a code that breaks no rule is read as another value: of single bits
+ * flipped at random in streams of a harbour field, 94 % and more were accepted, nearly each with one wrong value
+ * (README.md has the figures). A file that travels needs a checksum around it; examples/pack_field.c keeps a CRC-32.
  *
  *
  * WHAT IS ANSWERED
  *
- * Every operation but the lossless codes answers one 64-bit result: a refusal number above 32 bits of detail, or 0 above 32 bits of
- * answer. Take it apart with gwz_refusal, then gwz_detail or gwz_answer (gwz_exponent after gwz_bound):
+ * Every operation but the lossless codes answers one 64-bit result: a refusal number above 32 bits of detail, or 0
+ * above 32 bits of answer. Take it apart with gwz_refusal, then gwz_detail or gwz_answer (gwz_exponent after gwz_bound):
  *
  *     uint64_t result = gwz_pack32(GWZ_HIGHEST_LEVEL, GWZ_LOSSLESS, 0, values, n, stream, room);
  *     if (gwz_refusal(result) != GWZ_DONE)
@@ -216,7 +223,8 @@ uint64_t gwz_bound(uint32_t width, uint64_t tolerance);
 
 /*
  * Checks a whole stream of either width, and hands out no values. Answers the count of values. What passes here,
- * gwz_unpack of its width reads, given room. Refusals, in order: 1 5 6 7 8 9 10.
+ * gwz_unpack of its width reads, given room. That the values are those that were packed, it cannot know: see WHAT IS
+ * NOT SEEN. Refusals, in order: 1 5 6 7 8 9 10.
  */
 uint64_t gwz_check(uint32_t level, const uint8_t *bytes, size_t len);
 
@@ -232,8 +240,8 @@ uint64_t gwz_unpack64(uint32_t level, const uint8_t *bytes, size_t len, uint64_t
 
 /*
  * Reads the one value at `index`, counted from 0, and writes its pattern. Answers GWZ_FINITE, GWZ_INFINITY or
- * GWZ_NOT_A_NUMBER. It reads the header, the tables and the value's own chunk: damage in another chunk's data
- * does not touch the answer.
+ * GWZ_NOT_A_NUMBER. It reads the header, both tables and the whole of the value's own chunk: damage in another chunk's
+ * data does not touch the answer.
  *
  * Refusals, in order: 1 5 6 7 8 14 11 9 10, the last for the value's own chunk only. *pattern is then as it was.
  */
