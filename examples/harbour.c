@@ -1,8 +1,9 @@
 /*
  * The field of the first run: packed, and read back and measured.
  *
- *     harbour pack FIELD FOLDER METRES    packs FIELD into FOLDER: lossless, within a tolerance, and a cut file
- *     harbour read FIELD FOLDER METRES    reads the three files back and compares them with FIELD
+ *     harbour pack FIELD FOLDER METRES       packs FIELD into FOLDER: lossless, within a tolerance, and a cut file
+ *     harbour read FIELD FOLDER METRES       reads the three files back and compares them with FIELD
+ *     harbour verdict FIELD FOLDER METRES    the same in three lines, with both streams cut at every length
  *
  * The exit status is 0 only where every file could be read or written, every call was answered as it must be,
  * and every cell came back as promised. examples/make_harbour.py says what the field is.
@@ -188,16 +189,40 @@ static void pack(const char *field_path, const char *folder, double metres)
 
 /* ---- harbour read */
 
+/* How the cells of a field came back. */
+struct measured {
+    int same, within;  /* cells that are the same bit for bit; dry ones that are, and wet ones at most the tolerance off */
+    int dry, same_dry; /* dry cells, and of these the same bit for bit */
+    double largest;    /* the largest distance of a wet cell */
+    size_t farthest;   /* the cell that has it */
+};
+
+static struct measured measured_of(const uint32_t *field, const uint32_t *back, double tolerance)
+{
+    struct measured all = {0, 0, 0, 0, 0, 0};
+    for (size_t i = 0; i < CELLS; i++) {
+        int same = back[i] == field[i], dry = is_dry(field[i]);
+        double distance = dry ? 0 : exact_distance(metres_of(field[i]), metres_of(back[i]));
+        all.same += same;
+        all.within += dry ? same : distance <= tolerance;
+        all.dry += dry;
+        all.same_dry += dry && same;
+        if (distance > all.largest) {
+            all.largest = distance;
+            all.farthest = i;
+        }
+    }
+    return all;
+}
+
 static void compare_lossless(const char *path, const uint32_t *field)
 {
     static uint32_t back[CELLS];
     static uint8_t stream[LONGEST];
-    int same = 0;
     unpacked(path, stream, back);
-    for (size_t i = 0; i < CELLS; i++)
-        same += back[i] == field[i];
-    printf("Lossless, read back: %d of %d cells are the same bit for bit\n", same, (int)CELLS);
-    if (same != CELLS)
+    struct measured all = measured_of(field, back, 0);
+    printf("Lossless, read back: %d of %d cells are the same bit for bit\n", all.same, (int)CELLS);
+    if (all.same != CELLS)
         stop("a cell of %s is not as it was", path);
 }
 
@@ -217,23 +242,13 @@ static void print_distance(double distance, double tolerance)
 /* Dry cells must be the same bits, wet ones at most 2^k off. */
 static void compare_within(const char *path, const uint32_t *field, const uint32_t *back, int32_t k)
 {
-    double largest = 0, tolerance = ldexp(1, (int)k);
-    int dry = 0, same_dry = 0;
-    size_t farthest = 0;
-    for (size_t i = 0; i < CELLS; i++) {
-        dry += is_dry(field[i]);
-        same_dry += is_dry(field[i]) && back[i] == field[i];
-        double distance = is_dry(field[i]) ? 0 : exact_distance(metres_of(field[i]), metres_of(back[i]));
-        if (distance > largest) {
-            largest = distance;
-            farthest = i;
-        }
-    }
-    printf("Within the tolerance, read back: %d of %d dry cells are the same bit for bit\n", same_dry, dry);
-    print_distance(largest, tolerance);
-    printf("The cell with that distance: row %lu, column %lu\n", (unsigned long)(farthest / COLUMNS),
-           (unsigned long)(farthest % COLUMNS));
-    if (same_dry != dry || largest > tolerance)
+    double tolerance = ldexp(1, (int)k);
+    struct measured all = measured_of(field, back, tolerance);
+    printf("Within the tolerance, read back: %d of %d dry cells are the same bit for bit\n", all.same_dry, all.dry);
+    print_distance(all.largest, tolerance);
+    printf("The cell with that distance: row %lu, column %lu\n", (unsigned long)(all.farthest / COLUMNS),
+           (unsigned long)(all.farthest % COLUMNS));
+    if (all.within != CELLS)
         stop("a cell of %s is not as promised", path);
 }
 
@@ -284,13 +299,54 @@ static void read_back(const char *field_path, const char *folder, double metres)
     print_refusal(cut.text);
 }
 
+/* ---- harbour verdict */
+
+/* How many of the cuts of a stream, one at each length below its own, are refused by check and by unpack, with the output as it was. */
+static size_t cuts_refused(const uint8_t *stream, size_t length)
+{
+    static uint32_t back[CELLS], untouched[CELLS];
+    size_t refused = 0;
+    memset(untouched, 0xA5, sizeof untouched);
+    for (size_t cut = 0; cut < length; cut++) {
+        memcpy(back, untouched, sizeof back);
+        refused += gwz_refusal(gwz_check(GWZ_HIGHEST_LEVEL, stream, cut)) != GWZ_DONE
+            && gwz_refusal(gwz_unpack32(GWZ_HIGHEST_LEVEL, stream, cut, back, CELLS)) != GWZ_DONE
+            && memcmp(back, untouched, sizeof back) == 0;
+    }
+    return refused;
+}
+
+/* Three lines, whatever they say; returns whether all is as promised. */
+static int verdict(const char *field_path, const char *folder, double metres)
+{
+    static uint32_t field[CELLS], back[CELLS];
+    static uint8_t lossless[LONGEST], tolerance[LONGEST];
+    double allowed = ldexp(1, (int)exponent_of(metres));
+    read_field(field_path, field);
+    size_t lossless_length = unpacked(path_of(folder, lossless_name).text, lossless, back);
+    struct measured exact = measured_of(field, back, 0);
+    size_t tolerance_length = unpacked(path_of(folder, tolerance_name).text, tolerance, back);
+    struct measured near = measured_of(field, back, allowed);
+    size_t cuts = lossless_length + tolerance_length;
+    size_t refused = cuts_refused(lossless, lossless_length) + cuts_refused(tolerance, tolerance_length);
+
+    printf("Cells kept: %d of %d lossless, bit for bit, and %d of %d within the tolerance; dry cells kept: %d of %d and %d of %d\n",
+           exact.same, (int)CELLS, near.within, (int)CELLS, exact.same_dry, exact.dry, near.same_dry, near.dry);
+    printf("Worst error: %.6f mm, %.4f of the tolerance of %.6f mm\n", 1000 * near.largest, near.largest / allowed, 1000 * allowed);
+    printf("Cut files refused: %lu of %lu, every length of both files; accepted: %lu\n", (unsigned long)refused, (unsigned long)cuts,
+           (unsigned long)(cuts - refused));
+    return exact.same == CELLS && near.within == CELLS && refused == cuts;
+}
+
 int main(int count, char **words)
 {
     if (count == 5 && strcmp(words[1], "pack") == 0)
         pack(words[2], words[3], strtod(words[4], NULL));
     else if (count == 5 && strcmp(words[1], "read") == 0)
         read_back(words[2], words[3], strtod(words[4], NULL));
+    else if (count == 5 && strcmp(words[1], "verdict") == 0)
+        return verdict(words[2], words[3], strtod(words[4], NULL)) ? 0 : 1;
     else
-        stop("usage: harbour pack|read FIELD FOLDER METRES");
+        stop("usage: harbour pack|read|verdict FIELD FOLDER METRES");
     return 0;
 }

@@ -1,0 +1,180 @@
+/*
+ * Gwizdorad's number rules for C and C++, alone: the codes of a binary32 or binary64 number, lossless or within a tolerance 2^k that is kept
+ * exactly, value by value, for a solver that has no stream. gwizdorad.h includes this, and adds the streams.
+ *
+ *     cc -std=c99 $(pkg-config --cflags gwizdorad_numbers) yours.c $(pkg-config --libs gwizdorad_numbers)
+ *
+ * The archive libgwizdorad_numbers.a has no code of the streams. libgwizdorad.a has the very same objects in it, so a program may link both,
+ * in either order.
+ *
+ * Values go in and out as bit patterns (memcpy takes a float or a double to its pattern and back). A function that can refuse answers one 64-bit
+ * result: a refusal number above 32 bits of detail, or 0 above 32 bits of answer. gwz_refusal, gwz_detail, gwz_answer and gwz_exponent take it
+ * apart. A refused call writes nothing.
+ *
+ *
+ * WHAT IS PROVED
+ *
+ * Every function of the archives is proved but the helpers, which are plain C: those marked GWZ_HELPER here and in gwizdorad.h, and gwz_version,
+ * gwz_format_major and gwz_highest_level. None of them reads or writes anything that is lent.
+ *
+ *
+ * HELPERS FOR OTHER LANGUAGES
+ *
+ * A function marked GWZ_HELPER is inline in C and C++, and nothing has to be linked for it. The archives and libgwizdorad.so have it as a
+ * symbol of the same name too, for languages that read no header, as Fortran (bind(c)) and Python (ctypes). A program of C sees its own
+ * inline one, and the two do not clash.
+ */
+#ifndef GWIZDORAD_NUMBERS_H
+#define GWIZDORAD_NUMBERS_H
+
+#include <stddef.h>
+#include <stdint.h>
+
+/* Of the header; gwz_version has that of the library that is linked. Until 1.0.0 a signature may change where the second number does. */
+#define GWZ_VERSION_MAJOR 0
+#define GWZ_VERSION_MINOR 7
+#define GWZ_VERSION_PATCH 0
+#define GWZ_VERSION "0.7.0"
+
+#ifndef GWZ_HELPER
+#define GWZ_HELPER static inline
+#endif
+
+#ifdef __cplusplus
+extern "C" {
+#endif
+
+/* The version of the library, as GWZ_VERSION is that of the header. */
+const char *gwz_version(void);
+
+/* The refusal numbers. The detail is 0 but for the three that say another. */
+enum gwz_refusal_number {
+    GWZ_DONE = 0,                 /* not refused: the low 32 bits are the answer */
+    GWZ_UNKNOWN_LEVEL = 1,        /* level not 8, 9 or 10 */
+    GWZ_NOT_ALLOWED = 2,          /* mode or k not allowed, or its need exceeds the level; bound: width not 32 or 64 */
+    GWZ_TOO_MANY_VALUES = 3,      /* more than GWZ_MOST_VALUES */
+    GWZ_TOO_SHORT = 4,            /* lent output too short; detail: the length needed, in that output's elements */
+    GWZ_NO_HEADER = 5,            /* fewer than GWZ_HEADER_BYTES bytes */
+    GWZ_OTHER_MAJOR = 6,          /* major not 1: another format */
+    GWZ_TOO_NEW = 7,              /* needed minor above the level; detail: the needed minor */
+    GWZ_BROKEN_HEADER = 8,        /* another header rule broken, as when the bytes end before the data */
+    GWZ_BROKEN_TABLE = 9,         /* chunk table or side table rule broken */
+    GWZ_BROKEN_CHUNK = 10,        /* a chunk breaks a rule; detail: the first such chunk (probe: the value's), counted from 0 */
+    GWZ_NO_SUCH_INDEX = 11,       /* index not below the count of values */
+    GWZ_NO_TOLERANCE = 12,        /* tolerance not a finite number above 0 */
+    GWZ_TOLERANCE_TOO_SMALL = 13, /* no allowed k is small enough */
+    GWZ_OTHER_WIDTH = 14          /* the stream has the other width */
+};
+
+/* The exponent k of a tolerance 2^k, for values of each width. */
+enum gwz_exponent_limit {
+    GWZ_SMALLEST_K32 = -150,
+    GWZ_LARGEST_K32 = 103,
+    GWZ_SMALLEST_K64 = -1075,
+    GWZ_LARGEST_K64 = 970
+};
+
+/* ---- Taking a result apart */
+
+/* The refusal number, or GWZ_DONE. */
+GWZ_HELPER uint32_t gwz_refusal(uint64_t result)
+{
+    return (uint32_t)(result >> 32);
+}
+
+/* The answer of a call that was not refused. */
+GWZ_HELPER uint32_t gwz_answer(uint64_t result)
+{
+    return (uint32_t)(result & 0xFFFFFFFFu);
+}
+
+/* The detail of a refusal. */
+GWZ_HELPER uint32_t gwz_detail(uint64_t result)
+{
+    return (uint32_t)(result & 0xFFFFFFFFu);
+}
+
+/* The exponent k that gwz_bound answered, which may be negative. */
+GWZ_HELPER int32_t gwz_exponent(uint64_t result)
+{
+    uint32_t bits = gwz_answer(result);
+    return bits <= 0x7FFFFFFFu ? (int32_t)bits : -1 - (int32_t)(0xFFFFFFFFu - bits);
+}
+
+/* A sentence for the person who meets the refusal: what is wrong, and what to do. */
+GWZ_HELPER const char *gwz_refusal_text(uint32_t number)
+{
+    switch (number) {
+    case GWZ_DONE:
+        return "Done: nothing was refused.";
+    case GWZ_UNKNOWN_LEVEL:
+        return "The level is not known: pass 8, 9 or 10.";
+    case GWZ_NOT_ALLOWED:
+        return "The setting is not allowed: check mode, k and width, or pass the higher level that the setting needs.";
+    case GWZ_TOO_MANY_VALUES:
+        return "There are more than 1048576 values: cut the list and pack each part as its own stream.";
+    case GWZ_TOO_SHORT:
+        return "The lent output is too short: lend as many elements as the detail says.";
+    case GWZ_NO_HEADER:
+        return "There are fewer than 48 bytes, so this is no whole stream: fetch the file again.";
+    case GWZ_OTHER_MAJOR:
+        return "The major number is not 1: this is another kind of file, or another format.";
+    case GWZ_TOO_NEW:
+        return "The stream is too new: read it at the level that the detail names, or update this program.";
+    case GWZ_BROKEN_HEADER:
+        return "The header is broken or the bytes end too early: the file was cut or damaged, fetch it again.";
+    case GWZ_BROKEN_TABLE:
+        return "The chunk table or the side table is broken: the file was cut, damaged or added to, fetch it again.";
+    case GWZ_BROKEN_CHUNK:
+        return "The chunk that the detail names is damaged: fetch the file again (of a single code: it is too large for k).";
+    case GWZ_NO_SUCH_INDEX:
+        return "There is no value at this index: indices run from 0 to the count of values less 1.";
+    case GWZ_NO_TOLERANCE:
+        return "The tolerance is not a finite number above 0: pass the pattern of a binary64 number that is.";
+    case GWZ_TOLERANCE_TOO_SMALL:
+        return "The tolerance is smaller than every allowed 2^k: pack lossless.";
+    case GWZ_OTHER_WIDTH:
+        return "The stream has the other width: call the function for 64 instead of 32, or for 32 instead of 64.";
+    default:
+        return "The refusal number is not known to this header: use the header that came with the library.";
+    }
+}
+
+/* ---- The number rules */
+
+/*
+ * Answers the largest allowed k with 2^k not above the tolerance: take it with gwz_exponent.
+ *
+ * width      32 or 64: the width of the values to be packed
+ * tolerance  the pattern of a binary64 number, for either width
+ *
+ * Refusals, in order: 2 12 13.
+ */
+uint64_t gwz_bound(uint32_t width, uint64_t tolerance);
+
+/* The lossless code of a pattern, and the pattern of a code. Each is answered as it is; nothing is refused. */
+uint32_t gwz_lossless_code32(uint32_t pattern);
+uint64_t gwz_lossless_code64(uint64_t pattern);
+uint32_t gwz_lossless_restored32(uint32_t code);
+uint64_t gwz_lossless_restored64(uint64_t code);
+
+/*
+ * Writes the code of a pattern under the tolerance 2^k, and answers 0. Refused with 2 where k is not allowed;
+ * *code is then as it was.
+ */
+uint64_t gwz_tolerance_code32(int32_t k, uint32_t pattern, uint32_t *code);
+uint64_t gwz_tolerance_code64(int32_t k, uint64_t pattern, uint64_t *code);
+
+/*
+ * Writes the pattern that a code restores under the tolerance 2^k, and answers 0. Refused with 2 where k is not
+ * allowed, and with 10 (detail 0: there is no chunk) where no pattern has a code so large; *pattern is then as
+ * it was.
+ */
+uint64_t gwz_tolerance_restored32(int32_t k, uint32_t code, uint32_t *pattern);
+uint64_t gwz_tolerance_restored64(int32_t k, uint64_t code, uint64_t *pattern);
+
+#ifdef __cplusplus
+}
+#endif
+
+#endif
