@@ -6,18 +6,20 @@ use mathlib.Core.List.{List}
 use Prim.Native.Nat.{ℕ, _^_, _≤_, _<_}
 use native.Mathlib.Omega.{arith}
 use lib.IntN.{ℤ}
-use lib.ListN.{length, getD}
+use lib.ListN.{length, drop, getD}
+use lib.Seq.{drop-at}
 use Rattle.numbers.specs.Answers.{codeAnswer, patternAnswer}
 use Rattle.blocks.specs.Bytes.{Below}
 use Rattle.blocks.proofs.Law.Truth.{le-or-lt}
 use Rattle.stream.specs.Setting.{knownLevel, knownWidth, settingOf, need}
+use Rattle.stream.specs.Stream.{values}
 use Rattle.stream.specs.Writing.{stream}
 use Rattle.stream.specs.Packing.{Sent}
 use Rattle.stream.specs.Operations.{unpackAnswer, unpackOut}
 use Rattle.stream.specs.declared.answers.Answer.the-variants.{Done}
 use Rattle.stream.specs.declared.answers.Probe32.{Probe32}
 use Rattle.stream.specs.declared.answers.Probe64.{Probe64}
-use Rattle.stream.proofs.Readers.{refused-check, refused-unpack, refused-probe32, refused-probe64, refused-untouched, written-values, past-n-untouched, check-higher, unpack-higher, probe-higher32, probe-higher64}
+use Rattle.stream.proofs.Readers.{refused-check, refused-unpack, refused-probe32, refused-probe64, refused-untouched, written-values, check-higher, unpack-higher, probe-higher32, probe-higher64}
 use Rattle.stream.proofs.Written.{refused-length, refused-pack, refused-pack-untouched, length-is-answered, the-stream-is-packed, it-is-read, it-is-too-new}
 use Rattle.gwizdorad_numbers.proofs.Theorems.{a-refused-code-is-not-written, a-refused-pattern-is-not-written}
 use Rattle.gwizdorad.specs.Result.{probeOut32, probeOut64}
@@ -80,10 +82,10 @@ module _ (W level mode : ℕ) (k : ℤ) (vs s : List ℕ) (o : Offered W level m
 
       go : (need (settingOf W mode k) ≤ L) ⊎ (L < need (settingOf W mode k)) → ReadBack W mode k vs s L back
       go (inl reaches) =
-          let done = it-is-read W level mode k vs (offered W level mode k vs o) s sent L known reaches back room .1 in
-          given-back reaches done
-          (unpacked W level mode k vs s (o .width) (o .patterns) packed L (length vs) back done)
-          (past-n-untouched W L s back (length vs) done)
+          let read = it-is-read W level mode k vs (offered W level mode k vs o) s sent L known reaches back room in
+          given-back reaches (read .1)
+          (unpacked W level mode k vs s (o .width) (o .patterns) packed L (length vs) back (read .1))
+          (ap (drop (length vs)) (read .2) ∙ drop-at (values s) (drop (length vs) back) (length vs) (as-many W level mode k vs s (o .width) (o .patterns) packed))
       go (inr exceeds) =
           let refused = it-is-too-new W level mode k vs (offered W level mode k vs o) s sent L known exceeds back in
           too-new exceeds (refused .1) (refused .2)

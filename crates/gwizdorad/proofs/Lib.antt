@@ -2,3 +2,4 @@
 pub mod Law
 pub mod Theorems
 pub mod Demands
+pub mod Settled

@@ -8,7 +8,7 @@ use Prim.Native.Nat.{ℕ, _+_, _*_, _^_, _≤_, _<_}
 use lib.Dec.{eqb}
 use lib.IntN.{ℤ}
 use lib.Ieee.{Format, binary32, binary64}
-use lib.ListN.{length, take, getD}
+use lib.ListN.{length, take, drop, getD}
 use Rattle.bins.specs.Tolerance.{binOf}
 use Rattle.numbers.specs.Answers.{codeAnswer, codeNumber, patternAnswer, patternNumber}
 use Rattle.numbers.specs.Bound.{boundAnswer}
@@ -97,7 +97,7 @@ pub data ReadBack (W mode : ℕ) (k : ℤ) (vs s : List ℕ) (L : ℕ) (back : L
   given-back : need (settingOf W mode k) ≤ L
       → unpackAnswer W L s (length back) ≡ Done (length vs)
       → ((i : ℕ) → i < length vs → ComesBack W mode k (getD vs i 0) (getD (unpackOut W L s back) i 0))
-      → ((i : ℕ) → length vs ≤ i → getD (unpackOut W L s back) i 0 ≡ getD back i 0)
+      → drop (length vs) (unpackOut W L s back) ≡ drop (length vs) back
       → ReadBack W mode k vs s L back
   too-new : L < need (settingOf W mode k)
       → unpackAnswer W L s (length back) ≡ Refused 7 (need (settingOf W mode k))

@@ -11,15 +11,15 @@ use Rattle.stream.specs.declared.answers.Answer.{Answer}
 use Rattle.stream.specs.declared.answers.Probe32.{Probe32}
 use Rattle.stream.specs.declared.answers.Probe64.{Probe64}
 
-one : {A : Type 0} {promised r r′ : A} → r ≡ promised → r′ ≡ promised → r ≡ r′
+pub one : {A : Type 0} {promised r r′ : A} → r ≡ promised → r′ ≡ promised → r ≡ r′
 one e e′ = e ∙ sym e′
 
 -- an answer, and a lent output afterwards, as one promise
-pub record Promised {A : Type 0} (answer : A) (out : List ℕ) (r : A) (now : List ℕ) : Type 0 where
+pub record Promised {A B : Type 0} (answer : A) (out : B) (r : A) (now : B) : Type 0 where
   pub answers : r ≡ answer
   pub leaves : now ≡ out
 
-both : {A : Type 0} {answer r r′ : A} {out now now′ : List ℕ} → Promised answer out r now → Promised answer out r′ now′ → (r ≡ r′) × (now ≡ now′)
+pub both : {A B : Type 0} {answer r r′ : A} {out now now′ : B} → Promised answer out r now → Promised answer out r′ now′ → (r ≡ r′) × (now ≡ now′)
 both p p′ = (one (p .answers) (p′ .answers), one (p .leaves) (p′ .leaves))
 
 -- ---- packing: the values vs of width W, at a level and a setting
