@@ -1,18 +1,20 @@
 //! Compares the listing program with the reference, each input by a run of
 //! the program.
 //!
-//! `listings PROGRAM [--quick | --long] [--seed N]`; exit status 0 when no
-//! text differed, 1 when one did, 2 for arguments it does not know.
+//! `listings [--quick | --long] [--seed N] COMMAND...`; COMMAND starts the
+//! program, by an emulator where that is needed, and is the rest of the line.
+//! Exit status 0 when no text differed, 1 when one did, 2 for arguments it does
+//! not know.
 
 use second::compare::{listings, Extent};
 use second::listing::listing;
 use std::io::{self, Write};
 use std::process::{Command, ExitCode, Stdio};
 
-const USAGE: &str = "usage: listings PROGRAM [--quick | --long] [--seed N]";
+const USAGE: &str = "usage: listings [--quick | --long] [--seed N] COMMAND...";
 
 struct Options {
-    program: String,
+    command: Vec<String>,
     seed: u64,
     extent: Extent,
 }
@@ -22,9 +24,9 @@ fn main() -> ExitCode {
         eprintln!("{USAGE}");
         return ExitCode::from(2);
     };
-    println!("seed {}, {:?} run of {}", options.seed, options.extent, options.program);
+    println!("seed {}, {:?} run of {}", options.seed, options.extent, options.command.join(" "));
     let inputs = listings::inputs(options.seed, options.extent);
-    let failed = inputs.iter().filter(|input| !agrees(&options.program, input)).count();
+    let failed = inputs.iter().filter(|input| !agrees(&options.command, input)).count();
     println!("{} passed, {failed} failed", inputs.len() - failed);
     if failed == 0 {
         ExitCode::SUCCESS
@@ -34,22 +36,27 @@ fn main() -> ExitCode {
 }
 
 fn options_of(mut arguments: impl Iterator<Item = String>) -> Option<Options> {
-    let mut options = Options { program: arguments.next()?, seed: 1, extent: Extent::Usual };
+    let mut options = Options { command: Vec::new(), seed: 1, extent: Extent::Usual };
     while let Some(argument) = arguments.next() {
         match argument.as_str() {
             "--quick" => options.extent = Extent::Quick,
             "--long" => options.extent = Extent::Long,
             "--seed" => options.seed = arguments.next()?.parse().ok()?,
-            _ => return None,
+            option if option.starts_with('-') => return None,
+            _ => {
+                options.command.push(argument);
+                options.command.extend(arguments);
+                return Some(options);
+            }
         }
     }
-    Some(options)
+    None
 }
 
 /// Whether the program prints what the reference does; says where it does not.
-fn agrees(program: &str, input: &[u8]) -> bool {
+fn agrees(command: &[String], input: &[u8]) -> bool {
     let wanted = listing(input);
-    match printed(program, input) {
+    match printed(command, input) {
         Ok(text) if text == wanted.as_bytes() => true,
         Ok(text) => {
             println!("difference at an input of {} bytes: {}", input.len(), hex(input));
@@ -57,14 +64,16 @@ fn agrees(program: &str, input: &[u8]) -> bool {
             false
         }
         Err(error) => {
-            println!("{program} could not be run: {error}");
+            println!("{} could not be run: {error}", command.join(" "));
             false
         }
     }
 }
 
-fn printed(program: &str, input: &[u8]) -> io::Result<Vec<u8>> {
-    let mut child = Command::new(program).stdin(Stdio::piped()).stdout(Stdio::piped()).spawn()?;
+fn printed(command: &[String], input: &[u8]) -> io::Result<Vec<u8>> {
+    let mut starting = Command::new(&command[0]);
+    starting.args(&command[1..]).stdin(Stdio::piped()).stdout(Stdio::piped());
+    let mut child = starting.spawn()?;
     // The program stops reading one byte past the longest input, so the rest of a longer one may not be taken.
     let written = child.stdin.take().expect("a pipe").write_all(input);
     if let Err(error) = written {

@@ -3,6 +3,7 @@
 //!
 //! * [`call`]: one call with its whole input; [`outcome`]: what it leaves;
 //!   [`operations`]: what an implementation offers, and makes of a call.
+//! * [`caller`]: a library at the other end of a pipe.
 //! * [`judge`]: compares and counts; `shrink`: shortens a differing input.
 //! * [`random`]: the seeded generator of patterns and lists.
 //! * `known`, `rules`, `lists`, `orders`, `damage`, `tables`, `groups`: the
@@ -10,6 +11,7 @@
 //! * [`listings`]: the inputs for the listing program, which is run apart.
 
 pub mod call;
+pub mod caller;
 pub mod judge;
 pub mod known;
 pub mod listings;

@@ -4,8 +4,9 @@ use second::bench::codec::{Setting, SETTINGS};
 use second::bench::fields::{special_values, Cell, Field, Sample, FIELDS, VALUES};
 use second::bench::others::{lost, Lost};
 use second::bench::picture::{letter_places, overlap, picture};
-use second::bench::report::CSV_HEADER;
-use second::bench::timing::{timed, Contender, Operation, Space, Watch, Who};
+use second::bench::report::{csv, CSV_HEADER};
+use second::bench::rows::Row;
+use second::bench::timing::{timed, Contender, Operation, Space, Timing, Watch, Who};
 use std::cell::Cell as Counter;
 use std::path::PathBuf;
 
@@ -117,10 +118,14 @@ fn the_picture_is_drawn_from_results_alone() {
 
 #[test]
 fn a_mark_whose_compressor_lost_values_is_crossed() {
-    let crosses = |lost: u32| {
-        let line = format!("32,1,noisy,zfp,pack,4194304,3600000,0.004,0.003,{lost}");
-        let svg = picture(&format!("{CSV_HEADER}\n{line}\n")).unwrap();
-        svg.matches("stroke=\"#111\"").count()
+    let crosses = |lost: usize| {
+        let who = Who::Zfp;
+        let pack = Timing { who, operation: Operation::Pack, median: 0.004, minimum: 0.003 };
+        let (sizes, losses) = (vec![(who, 4000)], vec![(who, lost)]);
+        let (field, timings) = (String::from("noisy"), vec![pack]);
+        let results = csv(&[Row { width: 32, mode: 1, field, n: 1024, sizes, losses, timings }]);
+        assert!(results.ends_with(&format!(",{lost}\n")), "{results}");
+        picture(&results).unwrap().matches("stroke=\"#111\"").count()
     };
     // Two strokes in the panel, and two in the legend.
     assert_eq!([crosses(0), crosses(7)], [0, 4]);

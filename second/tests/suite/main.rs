@@ -2,6 +2,7 @@
 
 mod bench;
 mod big;
+mod caller;
 mod damage;
 mod example;
 mod harness;

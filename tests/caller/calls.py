@@ -1,0 +1,55 @@
+#!/usr/bin/env python3
+"""Every method of Caller once, and its errors.
+
+    tests/caller/calls.py COMMAND...         the command that starts caller.c's program
+"""
+
+import sys
+
+from caller import Caller, CallerError
+
+# The example of document 01: three values of width 32, lossless, at level 8.
+VALUES = [0x3F800000, 0x3F800000, 0x3F800001]
+
+
+def good_calls(library):
+    number, length = library.length(32, 8, 0, 0, VALUES)
+    assert number == 0
+    done = library.pack(32, 8, 0, 0, VALUES, length + 3)
+    stream = done[2]
+    assert done[:2] == (0, length) and len(stream) == length
+    assert library.pack(32, 8, 0, 0, VALUES, length - 1) == (4, length, None)
+    assert library.check(8, stream) == (0, 3) and library.check(7, stream) == (1, 0)
+    assert library.unpack(32, 8, stream, 3) == (0, 3, VALUES)
+    assert library.unpack(32, 8, stream, 2) == (4, 3, None) and library.unpack(64, 10, stream, 3) == (14, 0, None)
+    assert library.probe(32, 8, stream, 2) == (0, 0, VALUES[2]) and library.probe(32, 8, stream, 3) == (11, 0, None)
+    doubles = [0x7FF0 << 48, 1, (1 << 64) - 1]
+    stream = library.pack(64, 10, 1, -20, doubles, 100)[2]
+    assert library.unpack(64, 10, stream, 3) == (0, 3, [0x7FF0 << 48, 0, (1 << 64) - 1])
+    assert library.probe(64, 10, stream, 2) == (0, 2, (1 << 64) - 1)
+    assert library.bound(32, 0x3EB0 << 48) == (0, -20) and library.bound(64, 0x4000 << 48) == (0, 1) and library.bound(16, 1) == (2, 0)
+
+
+def fails(action):
+    try:
+        action()
+    except CallerError:
+        return True
+    return False
+
+
+def main():
+    command = sys.argv[1:]
+    with Caller(command) as library:
+        good_calls(library)
+    # At what is no call the program ends, and no answer is made up.
+    library = Caller(command)
+    assert fails(lambda: library.call("no_function", b"")) and fails(library.close)
+    # Programs that answer with too little, too much, or a buffer of another length.
+    for said in ("head -c 15 /dev/zero", "head -c 17 /dev/zero; cat >/dev/null", "head -c 80 >/dev/null; printf 0123456789abcdef"):
+        library = Caller(["sh", "-c", said])
+        assert fails(lambda: (library.bound(32, 1), library.close())), said
+
+
+if __name__ == "__main__":
+    main()
