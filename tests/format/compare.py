@@ -1,63 +1,24 @@
 #!/usr/bin/env python3
 """That docs/FORMAT.md is complete: reader.py was written from that page alone, with nothing else seen.
 
-    tests/format/compare.py SHARED-LIBRARY [STREAMS] [SEED]
+    tests/format/compare.py STREAMS SEED COMMAND...      COMMAND starts the library behind a pipe (tests/caller)
 
 It and the library get the same streams, clean and damaged, and have to answer the same: check, unpack and probe with
 number, detail and every value; and pack, length and bound. The last line is 'N passed, M failed', a stream each.
 """
 
-import ctypes
+import pathlib
 import random
 import sys
 
 import reader
 
+sys.path.append(str(pathlib.Path(__file__).resolve().parent.parent / "caller"))
+from caller import Caller  # noqa: E402  the folder has to be named first
+
 HEADER_WORDS = 12
 INTERESTING = [0, 1, 2, 7, 8, 9, 10, 11, 31, 32, 33, 48, 52, 63, 64, 65, 1023, 1024, 1025, 1048576, 1048577,
                2**31 - 1, 2**31, 2**32 - 2, 2**32 - 1]
-ELEMENT = {32: ctypes.c_uint32, 64: ctypes.c_uint64}
-
-
-class Library:
-    """The library's calls, with the answers in the shape of reader.py's."""
-
-    def __init__(self, path):
-        self.calls = ctypes.CDLL(path)
-
-    def call(self, name, *arguments):
-        function = getattr(self.calls, name)
-        function.restype = ctypes.c_uint64
-        result = function(*arguments)
-        return result >> 32, result & 0xFFFFFFFF
-
-    def check(self, level, data):
-        return self.call("gwz_check", ctypes.c_uint32(level), data, ctypes.c_size_t(len(data)))
-
-    def unpack(self, width, level, data, room):
-        out = (ELEMENT[width] * max(room, 1))()
-        number, detail = self.call(f"gwz_unpack{width}", ctypes.c_uint32(level), data, ctypes.c_size_t(len(data)), out, ctypes.c_size_t(room))
-        return number, detail, list(out[:detail]) if number == 0 else None
-
-    def probe(self, width, level, data, index):
-        pattern = ELEMENT[width]()
-        number, detail = self.call(f"gwz_probe{width}", ctypes.c_uint32(level), data, ctypes.c_size_t(len(data)), ctypes.c_uint64(index),
-                                   ctypes.byref(pattern))
-        return number, detail, pattern.value if number == 0 else None
-
-    def pack(self, width, level, mode, k, values, room):
-        out = (ctypes.c_uint8 * max(room, 1))()
-        number, detail = self.call(f"gwz_pack{width}", ctypes.c_uint32(level), ctypes.c_uint32(mode), ctypes.c_int32(k),
-                                   (ELEMENT[width] * len(values))(*values), ctypes.c_size_t(len(values)), out, ctypes.c_size_t(room))
-        return number, detail, bytes(out[:detail]) if number == 0 else None
-
-    def length(self, width, level, mode, k, values):
-        return self.call(f"gwz_length{width}", ctypes.c_uint32(level), ctypes.c_uint32(mode), ctypes.c_int32(k),
-                         (ELEMENT[width] * len(values))(*values), ctypes.c_size_t(len(values)))
-
-    def bound(self, width, tolerance):
-        number, detail = self.call("gwz_bound", ctypes.c_uint32(width), ctypes.c_uint64(tolerance))
-        return number, detail - 2**32 if number == 0 and detail >= 2**31 else detail
 
 
 # ---- what is packed
@@ -134,7 +95,7 @@ def differences(pick, library):
     room = reader.length(width, level, mode, k, values)[1] + pick.choice([0, 0, 0, -1, 5])
     calls = [("pack", width, level, mode, k, values, max(room, 0)), ("length", width, level, mode, k, values),
              ("bound", pick.choice([32, 64, 64, 16]), pick.choice([pick.randrange(2**63), pick.randrange(2**64), pick.randrange(2**54), 1, 0]))]
-    data = damaged(pick, library.pack(width, 10, mode, k, values, 2**17)[2])
+    data = damaged(pick, library.pack(width, 10, mode, k, values, 2**14)[2])
     acting, n = pick.choice([8, 9, 10, 10, 10, 10, pick.choice([0, 7, 11, 2**32 - 1])]), len(values)
     other = width if pick.random() < 0.95 else 96 - width
     calls += [("check", acting, data), ("unpack", other, acting, data, max(n + pick.choice([0, 0, 0, 1, -1]), 0))]
@@ -144,15 +105,13 @@ def differences(pick, library):
 
 
 def main():
-    library = Library(sys.argv[1])
-    streams = int(sys.argv[2]) if len(sys.argv) > 2 else 20000
-    pick = random.Random(int(sys.argv[3]) if len(sys.argv) > 3 else 1)
-    failed = 0
-    for _ in range(streams):
-        found = differences(pick, library)
-        failed += bool(found)
-        for call, page, answer in found[:1] if failed <= 10 else []:
-            print(f"{call[0]}{str(call[1:])[:300]}\n  by the page: {str(page)[:300]}\n  the library: {str(answer)[:300]}")
+    streams, pick, failed = int(sys.argv[1]), random.Random(int(sys.argv[2])), 0
+    with Caller(sys.argv[3:]) as library:
+        for _ in range(streams):
+            found = differences(pick, library)
+            failed += bool(found)
+            for call, page, answer in found[:1] if failed <= 10 else []:
+                print(f"{call[0]}{str(call[1:])[:300]}\n  by the page: {str(page)[:300]}\n  the library: {str(answer)[:300]}")
     print(f"{streams - failed} passed, {failed} failed")
     sys.exit(1 if failed else 0)
 
