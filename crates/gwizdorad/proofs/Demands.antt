@@ -11,7 +11,8 @@ use lib.Seq.{drop-at}
 use Rattle.numbers.specs.Answers.{codeAnswer, patternAnswer}
 use Rattle.blocks.specs.Bytes.{Below}
 use Rattle.blocks.proofs.Law.Truth.{le-or-lt}
-use Rattle.stream.specs.Setting.{knownLevel, knownWidth, settingOf, need}
+use Rattle.stream.specs.Setting.{knownLevel, knownWidth, settingOf, need, groupSize}
+use Rattle.stream.specs.Chunk.{groupsIn}
 use Rattle.stream.specs.Stream.{values}
 use Rattle.stream.specs.Writing.{stream}
 use Rattle.stream.specs.Packing.{Sent}
@@ -19,35 +20,27 @@ use Rattle.stream.specs.Operations.{unpackAnswer, unpackOut}
 use Rattle.stream.specs.declared.answers.Answer.the-variants.{Done}
 use Rattle.stream.specs.declared.answers.Probe32.{Probe32}
 use Rattle.stream.specs.declared.answers.Probe64.{Probe64}
-use Rattle.stream.proofs.Readers.{refused-check, refused-unpack, refused-probe32, refused-probe64, refused-untouched, written-values, check-higher, unpack-higher, probe-higher32, probe-higher64}
-use Rattle.stream.proofs.Written.{refused-length, refused-pack, refused-pack-untouched, length-is-answered, the-stream-is-packed, it-is-read, it-is-too-new}
+use Rattle.stream.proofs.Readers.{check-order, unpack-order, probe-order, refused-check, refused-unpack, refused-probe32, refused-probe64, refused-untouched, written-values, probe-as-unpack32, probe-as-unpack64, check-higher, unpack-higher, probe-higher32, probe-higher64}
+use Rattle.stream.proofs.Written.{length-order, pack-order, refused-length, refused-pack, refused-pack-untouched, accepted-leaves, length-is-answered, packed-length-bound, the-stream-is-packed, it-is-read, it-is-too-new}
 use Rattle.gwizdorad_numbers.proofs.Theorems.{a-refused-code-is-not-written, a-refused-pattern-is-not-written}
 use Rattle.gwizdorad.specs.Result.{probeOut32, probeOut64}
 use Rattle.gwizdorad.specs.Demands.{Demand1, ComesBack, Packed, Demand2, Offered, ReadBack, given-back, too-new, Demand3}
-use Rattle.gwizdorad.proofs.Law.Demand.{bound-at, offered, is-sent, as-many, come-back}
+use Rattle.gwizdorad.proofs.Theorems.{probe32-leaves-what-unpack-leaves, probe64-leaves-what-unpack-leaves}
+use Rattle.gwizdorad.proofs.Law.Demand.{unknown-width, lossless-at, within-at, bound-at, offered, is-sent, as-many, come-back}
 
 pub demand-1 : Demand1
 unfolding probeOut32 probeOut64
 demand-1 =
     record {
-      pack = λ W level mode k vs out number detail e. (
-        refused-pack W level mode k vs (length out) number detail e,
-        refused-pack-untouched W level mode k vs out number detail e,
-      );
+      order = record { pack = pack-order; length-of = length-order; check = check-order; unpack = unpack-order; probe = probe-order };
+      pack = λ W level mode k vs out number detail.
+          (refused-pack W level mode k vs (length out) number detail, refused-pack-untouched W level mode k vs out number detail);
       length-of = refused-length;
       check = refused-check;
-      unpack = λ W level s out number detail e. (
-        refused-unpack W level s (length out) number detail e,
-        refused-untouched W level s out number detail e,
-      );
-      probe32 = λ level s i number detail e. (
-        refused-probe32 level s i number detail e,
-        λ old. ap (λ (a : Probe32). probeOut32 a old) e,
-      );
-      probe64 = λ level s i number detail e. (
-        refused-probe64 level s i number detail e,
-        λ old. ap (λ (a : Probe64). probeOut64 a old) e,
-      );
+      unpack = λ W L s out number detail. (refused-unpack W L s (length out) number detail, refused-untouched W L s out number detail);
+      probe32 = λ L s i old number detail. (refused-probe32 L s i number detail, λ e. ap (λ (a : Probe32). probeOut32 a old) e);
+      probe64 = λ L s i old number detail. (refused-probe64 L s i number detail, λ e. ap (λ (a : Probe64). probeOut64 a old) e);
+      bound = unknown-width;
       code = λ W m k p old refused. a-refused-code-is-not-written (codeAnswer W m k p) old refused;
       pattern = λ W m k c old refused. a-refused-pattern-is-not-written (patternAnswer W m k c) old refused;
     }
@@ -66,9 +59,16 @@ module _ (W level mode : ℕ) (k : ℤ) (vs s : List ℕ) (width : knownWidth W 
 pub demand-2 : Demand2
 demand-2 =
     record {
+      layout = accepted-leaves;
       values = λ W level mode k vs s width patterns packed L n back done.
           (counted W level mode k vs s width patterns packed L n back done, unpacked W level mode k vs s width patterns packed L n back done);
-      bound = λ W t width. bound-at t W width;
+      probe32 = λ L s back n i old bytes done below.
+          (probe-as-unpack32 L s back n i done below, probe32-leaves-what-unpack-leaves L s bytes back n i old done below);
+      probe64 = λ L s back n i old bytes done below.
+          (probe-as-unpack64 L s back n i done below, probe64-leaves-what-unpack-leaves L s bytes back n i old done below);
+      lossless = λ W p. lossless-at p W;
+      within = within-at;
+      bound = λ W t. bound-at t W;
     }
 
 -- what a reader makes of it
@@ -91,12 +91,14 @@ module _ (W level mode : ℕ) (k : ℤ) (vs s : List ℕ) (o : Offered W level m
           too-new exceeds (refused .1) (refused .2)
 
 pub demand-3 : Demand3
+unfolding groupsIn groupSize
 demand-3 =
     record {
       packs = λ W level mode k vs o.
           let p = offered W level mode k vs o in (
             length (stream level (settingOf W mode k) vs),
             length-is-answered W level mode k vs p (o .known),
+            packed-length-bound W level mode k vs p,
             λ out room. the-stream-is-packed W level mode k vs p (o .known) out room .0,
           );
       reads = read-back;

@@ -1,22 +1,29 @@
 -- The three demands, to be read aloud. proofs/Demands.antt proves them: `demand-1 : Demand1`, `demand-2 : Demand2`, `demand-3 : Demand3`.
 -- They speak of what the operations answer and leave: `packAnswer` and `packOut` of specs/Operations.antt in the crate `stream`, and their
--- like. The promise of each operation is an equation with these.
+-- like. The promise of each operation is an equation with these; C gets the answer as one number, of which nothing is cut (`Spelled`).
+-- W is a width, 32 or 64; vs a list of values, patterns of W bits; s any bytes; `level` is the writer's level and L the reader's.
 use mathlib.Core.Path.{_≡_}
-use mathlib.Core.Bool.{true, cond}
-use mathlib.Core.List.{List}
-use Prim.Native.Nat.{ℕ, _+_, _*_, _^_, _≤_, _<_}
+use mathlib.Core.Logic.{_↔_}
+use mathlib.Core.Bool.{true, false, cond}
+use mathlib.Core.List.{List, [], _∷_, _++_}
+use Prim.Native.Nat.{ℕ, _+_, _*_, _/_, _^_, _≤_, _<_}
 use lib.Dec.{eqb}
 use lib.IntN.{ℤ}
 use lib.Ieee.{Format, binary32, binary64}
-use lib.ListN.{length, take, drop, getD}
+use lib.ListN.{length, take, drop, getD, replicate}
 use Rattle.bins.specs.Tolerance.{binOf}
+use Rattle.numbers.specs.Lossless.{losslessCode, losslessRestored}
 use Rattle.numbers.specs.Answers.{codeAnswer, codeNumber, patternAnswer, patternNumber}
 use Rattle.numbers.specs.Bound.{boundAnswer}
 use Rattle.numbers.specs.Theorem.{Returned, BoundFor}
+use Rattle.numbers.specs.declared.bound.BoundAnswer.the-variants.{UnknownWidth}
+use Rattle.numbers.specs.declared.tolerance.CodeAnswer.the-variants as code
+use Rattle.numbers.specs.declared.tolerance.PatternAnswer.the-variants as pattern
 use Rattle.blocks.specs.Bytes.{Below}
 use Rattle.stream.specs.Setting.{knownLevel, knownWidth, fractionBits, allowedSetting, settingOf, need}
-use Rattle.stream.specs.Rows.{Decides}
-use Rattle.stream.specs.Writing.{Side, addSides, WellFormedSides}
+use Rattle.stream.specs.Rows.{Decides, numbersOf}
+use Rattle.stream.specs.Header.{headerOf, chunksIn}
+use Rattle.stream.specs.Writing.{stream, Side, addSides, WellFormedSides}
 use Rattle.stream.specs.Probe.{shown32, shown64}
 use Rattle.stream.specs.Operations.{checkRows, checkAnswer, unpackRows, unpackAnswer, unpackOut, probeRows, probeAnswer32, probeAnswer64, lengthRows, lengthAnswer, packRows, packAnswer, packOut}
 use Rattle.stream.specs.declared.answers.Answer.the-variants.{Done, Refused}
@@ -26,62 +33,93 @@ use Rattle.gwizdorad_numbers.specs.Result.{codeOut, patternOut}
 use Rattle.gwizdorad.specs.Result.{probeOut32, probeOut64}
 
 -- ---- Demand 1: "Every entry point takes every input, ends, and touches nothing outside what it was lent." That is what the check of each
--- function says, and that no public one asks anything of its caller. "Bad input gets one refusal, the first in the stated order, with its
--- stated detail. A refused call changes nothing it was lent." Of an operation's rows, which stand in document 01's order, the refusal is the one
--- that `Decides`: it is given, and none before it.
+-- function says, and that no entry point has a `requires`: these are the public functions of `numbers`, `stream` and the two crates for C.
+-- (`bins` and `blocks` are inner libraries, which no user reaches.) "Bad input gets one refusal, the first in the stated order, with its stated
+-- detail. A refused call changes nothing it was lent." Of an operation's rows the refusal is the one that `Decides`: it is given, and none
+-- before it.
+
+-- "Pack: 1 2 3 4. Length: 1 2 3. Check: 1 5 6 7 8 9 10. Unpack: 1 5 6 7 8 14 4 9 10. Probe: 1 5 6 7 8 14 11 9 10": 10 once for each chunk, in
+-- probe for its own
+pub record StatedOrder : Type 0 where
+  pub pack : (W level mode : ℕ) (k : ℤ) (vs : List ℕ) (room : ℕ) → numbersOf (packRows W level mode k vs room) ≡ 1 ∷ 2 ∷ 3 ∷ 4 ∷ []
+  pub length-of : (W level mode : ℕ) (k : ℤ) (n : ℕ) → numbersOf (lengthRows W level mode k n) ≡ 1 ∷ 2 ∷ 3 ∷ []
+  pub check : (L : ℕ) (s : List ℕ) → numbersOf (checkRows L s) ≡ 1 ∷ 5 ∷ 6 ∷ 7 ∷ 8 ∷ 9 ∷ replicate (headerOf s .chunks) 10
+  pub unpack : (W L : ℕ) (s : List ℕ) (room : ℕ) → numbersOf (unpackRows W L s room) ≡ 1 ∷ 5 ∷ 6 ∷ 7 ∷ 8 ∷ 14 ∷ 4 ∷ 9 ∷ replicate (headerOf s .chunks) 10
+  pub probe : (W L : ℕ) (s : List ℕ) (i : ℕ) → numbersOf (probeRows W L s i) ≡ 1 ∷ 5 ∷ 6 ∷ 7 ∷ 8 ∷ 14 ∷ 11 ∷ 9 ∷ 10 ∷ []
 
 pub record Demand1 : Type 0 where
-  -- the values vs of width W, packed into `out`
-  pub pack : (W level mode : ℕ) (k : ℤ) (vs out : List ℕ) (number detail : ℕ) → packAnswer W level mode k vs (length out) ≡ Refused number detail
-      → Decides (packRows W level mode k vs (length out)) number detail × (packOut W level mode k vs out ≡ out)
-  pub length-of : (W level mode : ℕ) (k : ℤ) (vs : List ℕ) (number detail : ℕ) → lengthAnswer W level mode k vs ≡ Refused number detail
-      → Decides (lengthRows W level mode k (length vs)) number detail
-  -- any bytes s
-  pub check : (level : ℕ) (s : List ℕ) (number detail : ℕ) → checkAnswer level s ≡ Refused number detail → Decides (checkRows level s) number detail
-  pub unpack : (W level : ℕ) (s out : List ℕ) (number detail : ℕ) → unpackAnswer W level s (length out) ≡ Refused number detail
-      → Decides (unpackRows W level s (length out)) number detail × (unpackOut W level s out ≡ out)
-  -- the pattern that is lent to probe
-  pub probe32 : (level : ℕ) (s : List ℕ) (i number detail : ℕ) → probeAnswer32 level s i ≡ p32.Refused number detail
-      → Decides (probeRows 32 level s i) number detail × ((old : ℕ) → probeOut32 (probeAnswer32 level s i) old ≡ old)
-  pub probe64 : (level : ℕ) (s : List ℕ) (i number detail : ℕ) → probeAnswer64 level s i ≡ p64.Refused number detail
-      → Decides (probeRows 64 level s i) number detail × ((old : ℕ) → probeOut64 (probeAnswer64 level s i) old ≡ old)
-  -- the number rules: a code, and a pattern, where the answer is not 0
+  pub order : StatedOrder
+  -- the values vs, packed into `out`
+  pub pack : (W level mode : ℕ) (k : ℤ) (vs out : List ℕ) (number detail : ℕ)
+      → (packAnswer W level mode k vs (length out) ≡ Refused number detail ↔ Decides (packRows W level mode k vs (length out)) number detail)
+      × (packAnswer W level mode k vs (length out) ≡ Refused number detail → packOut W level mode k vs out ≡ out)
+  pub length-of : (W level mode : ℕ) (k : ℤ) (vs : List ℕ) (number detail : ℕ)
+      → lengthAnswer W level mode k vs ≡ Refused number detail ↔ Decides (lengthRows W level mode k (length vs)) number detail
+  pub check : (L : ℕ) (s : List ℕ) (number detail : ℕ) → checkAnswer L s ≡ Refused number detail ↔ Decides (checkRows L s) number detail
+  pub unpack : (W L : ℕ) (s out : List ℕ) (number detail : ℕ)
+      → (unpackAnswer W L s (length out) ≡ Refused number detail ↔ Decides (unpackRows W L s (length out)) number detail)
+      × (unpackAnswer W L s (length out) ≡ Refused number detail → unpackOut W L s out ≡ out)
+  -- probe is lent one pattern, which was `old`
+  pub probe32 : (L : ℕ) (s : List ℕ) (i old number detail : ℕ)
+      → (probeAnswer32 L s i ≡ p32.Refused number detail ↔ Decides (probeRows 32 L s i) number detail)
+      × (probeAnswer32 L s i ≡ p32.Refused number detail → probeOut32 (probeAnswer32 L s i) old ≡ old)
+  pub probe64 : (L : ℕ) (s : List ℕ) (i old number detail : ℕ)
+      → (probeAnswer64 L s i ≡ p64.Refused number detail ↔ Decides (probeRows 64 L s i) number detail)
+      × (probeAnswer64 L s i ≡ p64.Refused number detail → probeOut64 (probeAnswer64 L s i) old ≡ old)
+  -- the number rules: 2 for a width that is not known (12 and 13 are part of demand 2); a code and a pattern, where the number is not 0
+  pub bound : (W t : ℕ) → knownWidth W ≡ false → boundAnswer W t ≡ UnknownWidth
   pub code : (W m : ℕ) (k : ℤ) (p old : ℕ) → (codeNumber (codeAnswer W m k p) ≡ 0 → ⊥) → codeOut (codeAnswer W m k p) old ≡ old
   pub pattern : (W m : ℕ) (k : ℤ) (c old : ℕ) → (patternNumber (patternAnswer W m k c) ≡ 0 → ⊥) → patternOut (patternAnswer W m k c) old ≡ old
 
--- ---- Demand 2: "Lossless packing restores every bit pattern. Under tolerance 2^k, a value whose magnitude is below the threshold returns at
--- most 2^k off, exactly; all else returns bit for bit, infinities and not-a-numbers too."
+-- ---- Demand 2: "Codes and streams are those of IEEE 754, the published SLEEK rules and document 01. Lossless packing restores every bit
+-- pattern. Under tolerance 2^k, a value whose magnitude is below the threshold returns at most 2^k off, exactly; all else returns bit for bit,
+-- infinities and not-a-numbers too."
 
 -- "IEEE 754 decides what a bit pattern means": the format of a width
 unfoldable pub formatOf : ℕ → Format
 formatOf W = cond (eqb W 32) binary32 binary64
 
--- How a pattern p comes back as q. `Returned` is the tolerance in the words of IEEE 754; the bin E = 2^(k+1) is 2 ^ binOf units there.
+-- How a pattern p comes back as q. `Returned` is the tolerance in the words of IEEE 754. It counts in units of 2^-149 or 2^-1074, where the bin
+-- E = 2^(k+1) is 2 ^ binOf: twice the distance is at most E, so the distance is at most 2^k.
 pub record ComesBack (W mode : ℕ) (k : ℤ) (p q : ℕ) : Type 0 where
   pub lossless : mode ≡ 0 → q ≡ p
   pub within : mode ≡ 1 → Returned (formatOf W) (binOf W (fractionBits W) k) p q
 
--- s is what pack has left of the values vs, with any well-formed side parts added, or none
+-- s is the bytes b, or b with well-formed side parts added
+pub data Sided (b s : List ℕ) : Type 0 where
+  plain : s ≡ b → Sided b s
+  with-parts : (parts : List Side) → WellFormedSides (length b + 12 * length parts) parts → s ≡ addSides b parts → Sided b s
+
+-- s is what pack has left of the values vs, as it is or with side parts added
 pub record Packed (W level mode : ℕ) (k : ℤ) (vs s : List ℕ) : Type 0 where
   pub out : List ℕ
-  pub n : ℕ
-  pub done : packAnswer W level mode k vs (length out) ≡ Done n
-  pub sides : List Side
-  pub well-formed : WellFormedSides (n + 12 * length sides) sides
-  pub bytes : s ≡ addSides (take n (packOut W level mode k vs out)) sides
+  pub size : ℕ
+  pub done : packAnswer W level mode k vs (length out) ≡ Done size
+  pub given : Sided (take size (packOut W level mode k vs out)) s
 
 pub record Demand2 : Type 0 where
+  -- pack leaves the stream that document 01 lays out (`stream`, with its codes), and past it nothing is altered
+  pub layout : (W level mode : ℕ) (k : ℤ) (vs out : List ℕ) (size : ℕ) → packAnswer W level mode k vs (length out) ≡ Done size
+      → (size ≡ length (stream level (settingOf W mode k) vs)) × (packOut W level mode k vs out ≡ stream level (settingOf W mode k) vs ++ drop size out)
   -- what was packed and is unpacked, whatever the levels
   pub values : (W level mode : ℕ) (k : ℤ) (vs s : List ℕ) → knownWidth W ≡ true → Below (2 ^ W) vs → Packed W level mode k vs s
       → (L n : ℕ) (back : List ℕ) → unpackAnswer W L s (length back) ≡ Done n
       → (n ≡ length vs) × ((i : ℕ) → i < n → ComesBack W mode k (getD vs i 0) (getD (unpackOut W L s back) i 0))
-  -- the k of a tolerance
+  -- of any bytes, probe shows the value that unpack leaves, and its pattern is the one that is written
+  pub probe32 : (L : ℕ) (s back : List ℕ) (n i old : ℕ) → Below 256 s → unpackAnswer 32 L s (length back) ≡ Done n → i < n
+      → (probeAnswer32 L s i ≡ shown32 (getD (unpackOut 32 L s back) i 0)) × (probeOut32 (probeAnswer32 L s i) old ≡ getD (unpackOut 32 L s back) i 0)
+  pub probe64 : (L : ℕ) (s back : List ℕ) (n i old : ℕ) → Below 256 s → unpackAnswer 64 L s (length back) ≡ Done n → i < n
+      → (probeAnswer64 L s i ≡ shown64 (getD (unpackOut 64 L s back) i 0)) × (probeOut64 (probeAnswer64 L s i) old ≡ getD (unpackOut 64 L s back) i 0)
+  -- the number rules alone: a pattern, its code, and the pattern that the code restores; and the k of a tolerance
+  pub lossless : (W p : ℕ) → knownWidth W ≡ true → p < 2 ^ W → losslessRestored W (fractionBits W) (losslessCode W (fractionBits W) p) ≡ p
+  pub within : (W : ℕ) (k : ℤ) (p c : ℕ) → knownWidth W ≡ true → p < 2 ^ W → codeAnswer W (fractionBits W) k p ≡ code.Code c
+      → (q : ℕ) × (patternAnswer W (fractionBits W) k c ≡ pattern.Pattern q) × Returned (formatOf W) (binOf W (fractionBits W) k) p q
   pub bound : (W t : ℕ) → knownWidth W ≡ true → BoundFor W (fractionBits W) t (boundAnswer W t)
 
 -- ---- Demand 3: "Pack a list within the limit at level 8, 9 or 10, with a setting that level allows and enough room, and give the stream any
 -- well-formed side parts. The reader for its width, told to act as level 8, 9 or 10 and lent room for the values, gives back what demand 2
 -- says, or refuses as too new and names the needed level: exactly when that, as a number, exceeds its own. And bytes accepted by one level are
--- accepted by each higher one with the same values."
+-- accepted by each higher one with the same values." The need is 10 for width 64, else 9 in mode 1, else 8; too new is refusal 7.
 
 -- a list within the limit, of patterns of a width, and a level that allows the setting
 pub record Offered (W level mode : ℕ) (k : ℤ) (vs : List ℕ) : Type 0 where
@@ -105,15 +143,17 @@ pub data ReadBack (W mode : ℕ) (k : ℤ) (vs s : List ℕ) (L : ℕ) (back : L
       → ReadBack W mode k vs s L back
 
 pub record Demand3 : Type 0 where
-  -- enough room is what the length call answers
+  -- enough room is what the length call answers, which is never above the limit that document 01 states
   pub packs : (W level mode : ℕ) (k : ℤ) (vs : List ℕ) → Offered W level mode k vs
-      → (n : ℕ) × (lengthAnswer W level mode k vs ≡ Done n) × ((out : List ℕ) → n ≤ length out → packAnswer W level mode k vs (length out) ≡ Done n)
+      → (size : ℕ) × (lengthAnswer W level mode k vs ≡ Done size)
+      × (size ≤ 48 + 4 * chunksIn (length vs) + (length vs + 31) / 32 + length vs * W / 8)
+      × ((out : List ℕ) → size ≤ length out → packAnswer W level mode k vs (length out) ≡ Done size)
   pub reads : (W level mode : ℕ) (k : ℤ) (vs s : List ℕ) → Offered W level mode k vs → Packed W level mode k vs s
       → (L : ℕ) → knownLevel L ≡ true → (back : List ℕ) → length vs ≤ length back → ReadBack W mode k vs s L back
   -- any bytes s
-  pub higher : (level level′ : ℕ) (s : List ℕ) → level ≤ level′ → knownLevel level′ ≡ true
-      → ((n : ℕ) → checkAnswer level s ≡ Done n → checkAnswer level′ s ≡ Done n)
-      × ((W : ℕ) (out : List ℕ) (n : ℕ) → unpackAnswer W level s (length out) ≡ Done n
-      → (unpackAnswer W level′ s (length out) ≡ Done n) × (unpackOut W level′ s out ≡ unpackOut W level s out))
-      × ((i p : ℕ) → probeAnswer32 level s i ≡ shown32 p → probeAnswer32 level′ s i ≡ shown32 p)
-      × ((i p : ℕ) → probeAnswer64 level s i ≡ shown64 p → probeAnswer64 level′ s i ≡ shown64 p)
+  pub higher : (L L′ : ℕ) (s : List ℕ) → L ≤ L′ → knownLevel L′ ≡ true
+      → ((n : ℕ) → checkAnswer L s ≡ Done n → checkAnswer L′ s ≡ Done n)
+      × ((W : ℕ) (out : List ℕ) (n : ℕ) → unpackAnswer W L s (length out) ≡ Done n
+      → (unpackAnswer W L′ s (length out) ≡ Done n) × (unpackOut W L′ s out ≡ unpackOut W L s out))
+      × ((i p : ℕ) → probeAnswer32 L s i ≡ shown32 p → probeAnswer32 L′ s i ≡ shown32 p)
+      × ((i p : ℕ) → probeAnswer64 L s i ≡ shown64 p → probeAnswer64 L′ s i ≡ shown64 p)

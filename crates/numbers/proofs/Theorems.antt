@@ -1,10 +1,11 @@
 -- The theorems of the number rules, each stated once over the width W and the fraction bits m, and at the end for binary32 and binary64.
 -- The proofs are citations of the laws in proofs/Law/, here and in `bins`. The words are those of specs/, here and there.
-use mathlib.Core.Path.{_≡_, refl, sym, ap, _∙_}
-use mathlib.Core.Bool.{true, false, cond}
+use mathlib.Core.Path.{_≡_, refl, sym, ap, subst, _∙_}
+use mathlib.Core.Bool.{Bool, true, false, cond}
 use Prim.Native.Nat.{ℕ, _+_, _-_, _*_, _/_, _%_, _^_, _≤_, _<_}
 use native.Mathlib.Nat.{mod-lt, le-refl}
 use native.Mathlib.Omega.{arith}
+use borrow.Author.Tests.{le-leb}
 use lib.Dec.{leb, eqb, lit<, lit≤}
 use lib.IntN.{ℤ}
 use lib.Pow.{pow-pos}
@@ -12,6 +13,9 @@ use lib.Ieee.{binary32, binary64, inf, nan, ofBits}
 use lib.Ieee.Exact.{HasValue}
 use Rattle.bins.specs.declared.bin.BinAnswer.the-variants.{Bin, NotAllowed}
 use Rattle.numbers.specs.declared.bound.BoundAnswer.the-variants.{Exponent, NoTolerance, TooSmall}
+use Rattle.numbers.specs.declared.tolerance.CodeAnswer.the-variants as code
+use Rattle.numbers.specs.declared.tolerance.PatternAnswer.the-variants as pattern
+use Rattle.numbers.specs.Answers.{codeAnswer, patternAnswer}
 use Rattle.numbers.specs.Lossless.{losslessCode, losslessRestored}
 use Rattle.bins.specs.Tolerance.{kOffset, lastBin, allowedK, binOf, sign, ordinal, magnitude, restoredOrdinal, toleranceCode, toleranceRestored, largestU}
 use Rattle.bins.specs.Answers.{binAnswer}
@@ -111,6 +115,15 @@ module _ (W m : ℕ) (format : Format W m) where
         rw (Tolerance.code-half W m (format .room) j in-range p h)
         (Tolerance.code-largest W m (format .room) j in-range (ordinal W p) (mod-lt p (pow-pos (W - 1))))
 
+  -- a k that has a code is allowed
+  pub a-coded-k-is-allowed : (k : ℤ) (p c : ℕ) → codeAnswer W m k p ≡ code.Code c → allowedK W m k ≡ true
+  unfolding codeAnswer
+  a-coded-k-is-allowed k p c e = go (allowedK W m k) refl
+    where
+      go : (b : Bool) → allowedK W m k ≡ b → allowedK W m k ≡ true
+      go true is = is
+      go false is = let z : code.NotAllowed ≡ code.Code c = rw is at e in cc
+
   module _ (k : ℤ) (is-allowed : allowedK W m k ≡ true) where
     pub an-allowed-k-has-a-bin : binOf W m k ≤ lastBin W m
     an-allowed-k-has-a-bin = bin-small W m k (format .least) (format .order) is-allowed
@@ -129,6 +142,19 @@ module _ (W m : ℕ) (format : Format W m) where
               (let near = Tolerance.returns-close m j (ordinal W p) l in omega (arith, near .0, near .1));
           exact = Tolerance.pattern-returns W m (format .room) j an-allowed-k-has-a-bin p h;
         }
+
+    -- so of the answers for a k: a pattern's code is restored within the tolerance
+    pub a-code-is-restored : (p c : ℕ) → p < 2 ^ W → codeAnswer W m k p ≡ code.Code c
+        → (q : ℕ) × (patternAnswer W m k c ≡ pattern.Pattern q) × Within W m (binOf W m k) p q
+    unfolding codeAnswer patternAnswer
+    a-code-is-restored p c h e =
+        let coded : code.Code (toleranceCode W m (binOf W m k) p) ≡ code.Code c = rw is-allowed at e in
+        let is : toleranceCode W m (binOf W m k) p ≡ c = cc in
+        let least : c / 2 ≤ largestU W m (binOf W m k) = subst (λ (c : ℕ). c / 2 ≤ largestU W m (binOf W m k)) is (no-u-is-larger (binOf W m k) an-allowed-k-has-a-bin p h) in (
+          toleranceRestored W m (binOf W m k) c,
+          rw (is-allowed, le-leb (c / 2) (largestU W m (binOf W m k)) least),
+          subst (λ (c : ℕ). Within W m (binOf W m k) p (toleranceRestored W m (binOf W m k) c)) is (every-pattern-returns-within p h),
+        )
 
     -- infinities and not-a-numbers too: their ordinals are those from the largest exponent on
     pub specials-return : (p : ℕ) → p < 2 ^ W → (2 ^ (W - 1 - m) - 1) * 2 ^ m ≤ ordinal W p

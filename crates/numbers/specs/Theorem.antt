@@ -48,7 +48,8 @@ pub record Returned (f : Ieee.Format) (j p q : ℕ) : Type 0 where
       → (y : ℕ) × Reads f q negative y × (2 * distance x y ≤ 2 ^ j)
   pub same : ((negative : Bool) (x : ℕ) → Reads f p negative x → threshold (Ieee.prec f - 1) j ≤ x) → q ≡ p
 
--- "2^k not above it", for the number x times 2^-1074: both sides count in halves of that unit, in which 2^k is 2 ^ (k + 1075).
+-- "2^k not above it", for the number x times 2^-1074 and an allowed k of either width: both sides count in halves of that unit, in which 2^k is
+-- 2 ^ (k + 1075).
 abbrev pub Reaches : ℕ → ℤ → Type 0
 Reaches x k = 2 ^ binOf 64 52 k ≤ 2 * x
 

@@ -1,18 +1,19 @@
 -- What is demanded of reading, as theorems about the promises: `checkAnswer`, `unpackAnswer`, `unpackOut` and `probeAnswer32` (64) are what
 -- the operations are proved to answer and to leave in the output.
 use mathlib.Core.Path.{_≡_, sym, ap, _∙_}
+use mathlib.Core.Logic.{_↔_}
 use mathlib.Core.Bool.{true}
-use mathlib.Core.List.{List, _++_}
+use mathlib.Core.List.{List, [], _∷_, _++_}
 use Prim.Native.Nat.{ℕ, _+_, _-_, _/_, _≤_, _<_}
 use native.Mathlib.Omega.{arith}
-use lib.ListN.{length, drop, set, getD, List·getD-append}
+use lib.ListN.{length, drop, set, getD, replicate, List·getD-append}
 use lib.Seq.{getD-append-add, getD-drop}
 use Rattle.stream.specs.Setting.{knownLevel}
 use Rattle.stream.specs.Header.{headerOf}
 use Rattle.stream.specs.Stream.{values, valueAt}
-use Rattle.stream.specs.Rows.{first, Decides, answer, after}
+use Rattle.stream.specs.Rows.{first, Decides, numbersOf, answer, after}
 use Rattle.stream.specs.Probe.{shown32, shown64, probed32, probed64}
-use Rattle.stream.specs.Operations.{openingRows, tableRows, checkRows, checkAnswer, unpackRows, unpackAnswer, unpackOut, probeRows, probeAnswer32, probeAnswer64}
+use Rattle.stream.specs.Operations.{headerRows, openingRows, tableRows, contentRows, widthRow, roomRow, indexRow, ownRows, checkRows, checkAnswer, unpackRows, unpackAnswer, unpackOut, probeRows, probeAnswer32, probeAnswer64}
 use Rattle.stream.specs.Theorem.{Apart, InChunk}
 use Rattle.stream.specs.declared.answers.Answer.the-variants.{Done, Refused}
 use Rattle.stream.specs.declared.answers.Probe32.the-variants as p32
@@ -21,34 +22,54 @@ use Rattle.stream.specs.declared.answers.Step.{Step}
 use Rattle.stream.specs.declared.answers.Step.the-variants.{Pass}
 use Rattle.stream.proofs.Law.Values.OtherChunks.{byte-apart, probe-same, value-same}
 use Rattle.stream.proofs.Law.Header.Layout.{laid-out}
-use Rattle.stream.proofs.Law.Rows.First.{decides}
+use Rattle.stream.proofs.Law.Rows.First.{decides, decided}
+use Rattle.stream.proofs.Law.Rows.Chunks.{chunk-numbers, own-number}
 use Rattle.stream.proofs.Law.Rows.Passed.{opening, tables, unpacking}
 use Rattle.stream.proofs.Law.Values.ThreeReaders.{done-pass, refused-stop, refused-stop32, refused-stop64, shown-pass32, shown-pass64, unpack-check, counted, probe-passes, probe-value, higher-check, higher-unpack, higher-probe}
 
--- ---- a refusal is the first row that is given
+-- ---- a refusal is the first row that is given: "given exactly when"
 
-pub refused-check : (level : ℕ) (s : List ℕ) (number detail : ℕ) → checkAnswer level s ≡ Refused number detail → Decides (checkRows level s) number detail
-unfolding checkAnswer
-refused-check level s number detail e =
-    decides (checkRows level s) number detail (refused-stop (first (checkRows level s)) (headerOf s .count) number detail e)
+pub refused-check : (level : ℕ) (s : List ℕ) (number detail : ℕ) → checkAnswer level s ≡ Refused number detail ↔ Decides (checkRows level s) number detail
+unfolding checkAnswer answer
+refused-check level s number detail = (
+  λ e. decides (checkRows level s) number detail (refused-stop (first (checkRows level s)) (headerOf s .count) number detail e),
+  λ d. ap (λ (a : Step). answer a (headerOf s .count)) (decided (checkRows level s) number detail d),
+)
 
-pub refused-unpack : (W level : ℕ) (s : List ℕ) (room number detail : ℕ) → unpackAnswer W level s room ≡ Refused number detail
-    → Decides (unpackRows W level s room) number detail
-unfolding unpackAnswer
-refused-unpack W level s room number detail e =
-    decides (unpackRows W level s room) number detail (refused-stop (first (unpackRows W level s room)) (headerOf s .count) number detail e)
+pub refused-unpack : (W level : ℕ) (s : List ℕ) (room : ℕ) (number detail : ℕ) → unpackAnswer W level s room ≡ Refused number detail ↔ Decides (unpackRows W level s room) number detail
+unfolding unpackAnswer answer
+refused-unpack W level s room number detail = (
+  λ e. decides (unpackRows W level s room) number detail (refused-stop (first (unpackRows W level s room)) (headerOf s .count) number detail e),
+  λ d. ap (λ (a : Step). answer a (headerOf s .count)) (decided (unpackRows W level s room) number detail d),
+)
 
-pub refused-probe32 : (level : ℕ) (s : List ℕ) (i number detail : ℕ) → probeAnswer32 level s i ≡ p32.Refused number detail
-    → Decides (probeRows 32 level s i) number detail
-unfolding probeAnswer32
-refused-probe32 level s i number detail e =
-    decides (probeRows 32 level s i) number detail (refused-stop32 (first (probeRows 32 level s i)) (valueAt s i) number detail e)
+pub refused-probe32 : (level : ℕ) (s : List ℕ) (i : ℕ) (number detail : ℕ) → probeAnswer32 level s i ≡ p32.Refused number detail ↔ Decides (probeRows 32 level s i) number detail
+unfolding probeAnswer32 probed32
+refused-probe32 level s i number detail = (
+  λ e. decides (probeRows 32 level s i) number detail (refused-stop32 (first (probeRows 32 level s i)) (valueAt s i) number detail e),
+  λ d. ap (λ (a : Step). probed32 a (valueAt s i)) (decided (probeRows 32 level s i) number detail d),
+)
 
-pub refused-probe64 : (level : ℕ) (s : List ℕ) (i number detail : ℕ) → probeAnswer64 level s i ≡ p64.Refused number detail
-    → Decides (probeRows 64 level s i) number detail
-unfolding probeAnswer64
-refused-probe64 level s i number detail e =
-    decides (probeRows 64 level s i) number detail (refused-stop64 (first (probeRows 64 level s i)) (valueAt s i) number detail e)
+pub refused-probe64 : (level : ℕ) (s : List ℕ) (i : ℕ) (number detail : ℕ) → probeAnswer64 level s i ≡ p64.Refused number detail ↔ Decides (probeRows 64 level s i) number detail
+unfolding probeAnswer64 probed64
+refused-probe64 level s i number detail = (
+  λ e. decides (probeRows 64 level s i) number detail (refused-stop64 (first (probeRows 64 level s i)) (valueAt s i) number detail e),
+  λ d. ap (λ (a : Step). probed64 a (valueAt s i)) (decided (probeRows 64 level s i) number detail d),
+)
+
+-- ---- the stated order: "Check: 1 5 6 7 8 9 10. Unpack: 1 5 6 7 8 14 4 9 10. Probe: 1 5 6 7 8 14 11 9 10", with a row 10 for each chunk
+
+pub check-order : (level : ℕ) (s : List ℕ) → numbersOf (checkRows level s) ≡ 1 ∷ 5 ∷ 6 ∷ 7 ∷ 8 ∷ 9 ∷ replicate (headerOf s .chunks) 10
+unfolding checkRows openingRows headerRows contentRows tableRows numbersOf
+check-order level s = ap (λ (l : List ℕ). 1 ∷ 5 ∷ 6 ∷ 7 ∷ 8 ∷ 9 ∷ l) (chunk-numbers (headerOf s) s)
+
+pub unpack-order : (W level : ℕ) (s : List ℕ) (room : ℕ) → numbersOf (unpackRows W level s room) ≡ 1 ∷ 5 ∷ 6 ∷ 7 ∷ 8 ∷ 14 ∷ 4 ∷ 9 ∷ replicate (headerOf s .chunks) 10
+unfolding unpackRows openingRows headerRows widthRow roomRow contentRows tableRows numbersOf
+unpack-order W level s room = ap (λ (l : List ℕ). 1 ∷ 5 ∷ 6 ∷ 7 ∷ 8 ∷ 14 ∷ 4 ∷ 9 ∷ l) (chunk-numbers (headerOf s) s)
+
+pub probe-order : (W level : ℕ) (s : List ℕ) (i : ℕ) → numbersOf (probeRows W level s i) ≡ 1 ∷ 5 ∷ 6 ∷ 7 ∷ 8 ∷ 14 ∷ 11 ∷ 9 ∷ 10 ∷ []
+unfolding probeRows openingRows headerRows widthRow indexRow ownRows tableRows numbersOf
+probe-order W level s i = ap (λ (l : List ℕ). 1 ∷ 5 ∷ 6 ∷ 7 ∷ 8 ∷ 14 ∷ 11 ∷ 9 ∷ l) (own-number (headerOf s) s (i / 1024))
 
 -- ---- unpack's output
 

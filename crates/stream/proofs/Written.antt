@@ -1,7 +1,7 @@
 -- What is written, and that it is read back: the theorems on packed streams, plain or with well-formed side parts behind the data, for
 -- any width that document 01 knows. The proofs are citations of the laws in proofs/Law/. The words are those of specs/.
 use mathlib.Core.Path.{_≡_, refl, sym, ap, subst, _∙_}
-use mathlib.Core.Logic.{_⊎_, inl, inr}
+use mathlib.Core.Logic.{_⊎_, inl, inr, _↔_}
 use mathlib.Core.Bool.{true, cond}
 use mathlib.Core.List.{List, [], _∷_, _++_, map}
 use Prim.Native.Nat.{ℕ, _+_, _-_, _*_, _/_, _^_, _≤_, _<_}
@@ -16,7 +16,7 @@ use Rattle.numbers.specs.Theorem.{Within}
 use Rattle.blocks.specs.Bytes.{Below}
 use Rattle.stream.specs.Setting.{knownLevel, knownWidth, fractionBits, binFor, settingOf, need, groupSize, codeAt, patternAt, codesOf, patternsOf}
 use Rattle.stream.specs.Chunk.{groupsIn}
-use Rattle.stream.specs.Rows.{row, first, Decides, answer, after}
+use Rattle.stream.specs.Rows.{row, first, Decides, numbersOf, answer, after}
 use Rattle.stream.specs.Header.{word, headerOf, chunksIn, settingRight, layoutRight}
 use Rattle.stream.specs.Tables.{chunkTableRight, sideTableRight}
 use Rattle.stream.specs.Stream.{chunkState, values}
@@ -24,12 +24,13 @@ use Rattle.stream.specs.Writing.{headerNumbers, endOf, stream, Side, add
 use Rattle.stream.specs.Packing.{Packable, Sent, mostBytes}
 use Rattle.stream.specs.Operations.{checkRows, checkAnswer, unpackRows, unpackAnswer, unpackOut, probeRows, lengthRows, lengthAnswer, packRows, packAnswer, packOut}
 use Rattle.stream.specs.declared.answers.Answer.the-variants.{Done, Refused}
+use Rattle.stream.specs.declared.answers.Step.{Step}
 use Rattle.stream.specs.declared.answers.Step.the-variants.{Pass, Stop}
 use Rattle.stream.specs.declared.chunk.ChunkAnswer.the-variants.{Good}
 use Rattle.stream.specs.declared.header.Header.{Header}
 use Rattle.blocks.proofs.Law.Truth.{le-or-lt}
 use Rattle.stream.proofs.Law.Plain.Truth.{and-right}
-use Rattle.stream.proofs.Law.Rows.First.{opened-both, decides}
+use Rattle.stream.proofs.Law.Rows.First.{opened-both, decides, decided}
 use Rattle.stream.proofs.Law.Values.ThreeReaders.{done-pass, refused-stop}
 use Rattle.stream.proofs.Law.Written.Pieces.{end-most}
 use Rattle.stream.proofs.Law.Rows.Packing.{length-passed, rows-pass, room-enough, length-stream, length-done, pack-done}
@@ -44,20 +45,31 @@ unfolding packAnswer packOut after
 refused-pack-untouched W level mode k vs out number detail e =
     rw (refused-stop (first (packRows W level mode k vs (length out))) (length (stream level (settingOf W mode k) vs)) number detail e)
 
--- a refusal is the first row that is given
-pub refused-length : (W level mode : ℕ) (k : ℤ) (vs : List ℕ) (number detail : ℕ) → lengthAnswer W level mode k vs ≡ Refused number detail
-    → Decides (lengthRows W level mode k (length vs)) number detail
-unfolding lengthAnswer
-refused-length W level mode k vs number detail e =
+-- a refusal is the first row that is given: "given exactly when"
+pub refused-length : (W level mode : ℕ) (k : ℤ) (vs : List ℕ) (number detail : ℕ)
+    → lengthAnswer W level mode k vs ≡ Refused number detail ↔ Decides (lengthRows W level mode k (length vs)) number detail
+unfolding lengthAnswer answer
+refused-length W level mode k vs number detail =
     let rows = lengthRows W level mode k (length vs) in
-    decides rows number detail (refused-stop (first rows) (length (stream level (settingOf W mode k) vs)) number detail e)
+    let size = length (stream level (settingOf W mode k) vs) in
+    (λ e. decides rows number detail (refused-stop (first rows) size number detail e), λ d. ap (λ (a : Step). answer a size) (decided rows number detail d))
 
-pub refused-pack : (W level mode : ℕ) (k : ℤ) (vs : List ℕ) (room number detail : ℕ) → packAnswer W level mode k vs room ≡ Refused number detail
-    → Decides (packRows W level mode k vs room) number detail
-unfolding packAnswer
-refused-pack W level mode k vs room number detail e =
+pub refused-pack : (W level mode : ℕ) (k : ℤ) (vs : List ℕ) (room number detail : ℕ)
+    → packAnswer W level mode k vs room ≡ Refused number detail ↔ Decides (packRows W level mode k vs room) number detail
+unfolding packAnswer answer
+refused-pack W level mode k vs room number detail =
     let rows = packRows W level mode k vs room in
-    decides rows number detail (refused-stop (first rows) (length (stream level (settingOf W mode k) vs)) number detail e)
+    let size = length (stream level (settingOf W mode k) vs) in
+    (λ e. decides rows number detail (refused-stop (first rows) size number detail e), λ d. ap (λ (a : Step). answer a size) (decided rows number detail d))
+
+-- the stated order: "Pack: 1 2 3 4. Length: 1 2 3"
+pub length-order : (W level mode : ℕ) (k : ℤ) (n : ℕ) → numbersOf (lengthRows W level mode k n) ≡ 1 ∷ 2 ∷ 3 ∷ []
+unfolding lengthRows numbersOf
+length-order W level mode k n = refl
+
+pub pack-order : (W level mode : ℕ) (k : ℤ) (vs : List ℕ) (room : ℕ) → numbersOf (packRows W level mode k vs room) ≡ 1 ∷ 2 ∷ 3 ∷ 4 ∷ []
+unfolding packRows lengthRows numbersOf
+pack-order W level mode k vs room = refl
 
 -- what an accepted pack says of its call, and what it leaves
 module _ (W level mode : ℕ) (k : ℤ) (vs out : List ℕ) (n : ℕ) (done : packAnswer W level mode k vs (length out) ≡ Done n) where
@@ -85,6 +97,11 @@ module _ (W level mode : ℕ) (k : ℤ) (vs out : List ℕ) (n : ℕ) (done : pa
   accepted-bytes =
       rw (passes .0)
       (take-at (stream level (settingOf W mode k) vs) (drop (length (stream level (settingOf W mode k) vs)) out) n (passes .1))
+
+  -- pack leaves the stream of document 01, and alters nothing past it
+  pub accepted-leaves : (n ≡ length (stream level (settingOf W mode k) vs)) × (packOut W level mode k vs out ≡ stream level (settingOf W mode k) vs ++ drop n out)
+  unfolding packOut after
+  accepted-leaves = (sym (passes .1), rw (passes .0, passes .1))
 
   pub accepted-is-sent : (ps : List Side) → WellFormedSides (n + 12 * length ps) ps
       → Sent level (settingOf W mode k) vs (addSides (take n (packOut W level mode k vs out)) ps)

@@ -22,13 +22,18 @@ unfoldable pub noneGiven : List Row → Bool
 noneGiven [] = true
 noneGiven (row number given detail ∷ rows) = not given && noneGiven rows
 
--- "one refusal, the first in the stated order, with its stated detail": this row is given, and none before it. That `first` finds just that
--- row is a theorem (`refused-check` and its like).
+-- "one refusal, the first in the stated order, with its stated detail": this row is given, and none before it. That an operation refuses
+-- exactly so is a theorem for each (`refused-check` and its like).
 pub record Decides (rows : List Row) (number detail : ℕ) : Type 0 where
   pub before : List Row
   pub later : List Row
   pub listed : rows ≡ before ++ row number true detail ∷ later
   pub earlier : noneGiven before ≡ true
+
+-- the numbers of rows, in their order
+unfoldable pub numbersOf : List Row → List ℕ
+numbersOf [] = []
+numbersOf (row number given detail ∷ rows) = number ∷ numbersOf rows
 
 -- the rows f i, f (i + 1), .., k of them
 unfoldable pub rowsFrom : (ℕ → Row) → ℕ → ℕ → List Row

@@ -1,4 +1,4 @@
--- The words that the theorems of proofs/Theorems.antt and proofs/Demands.antt are stated in.
+-- The words that the theorems of proofs/Theorems.antt, Readers.antt and Cut.antt are stated in.
 use mathlib.Core.Path.{_≡_}
 use mathlib.Core.Bool.{cond}
 use mathlib.Core.List.{List, [], _∷_, _++_}

@@ -1,25 +1,33 @@
 -- What the demands ask beyond the theorems of the crates below: the tolerance by the width, and the values of a packed stream.
-use mathlib.Core.Path.{_≡_, sym, ap, subst}
+use mathlib.Core.Path.{_≡_, sym, ap, subst, _∙_}
 use mathlib.Core.Logic.{_⊎_, inl, inr}
-use mathlib.Core.Bool.{true}
+use mathlib.Core.Bool.{true, false}
 use mathlib.Core.List.{List}
-use Prim.Native.Nat.{ℕ, _^_, _<_}
+use Prim.Native.Nat.{ℕ, _+_, _*_, _^_, _<_}
 use native.Mathlib.Nat.{lt-of-le-of-lt}
 use borrow.Author.Tests.{leb-true, eqb-true}
 use lib.Dec.{leb, eqb, lit<}
 use lib.IntN.{ℤ}
-use lib.ListN.{length, getD}
+use lib.ListN.{length, take, getD}
 use Rattle.bins.specs.Tolerance.{allowedK, binOf}
+use Rattle.numbers.specs.Lossless.{losslessCode, losslessRestored}
+use Rattle.numbers.specs.Answers.{codeAnswer, patternAnswer}
 use Rattle.numbers.specs.Bound.{boundAnswer}
-use Rattle.numbers.specs.Theorem.{Within, Returned, BoundFor}
-use Rattle.numbers.proofs.Theorems.{format-32, format-64, an-allowed-k-has-a-bin, binary32-returned, binary64-returned, bound-for-binary32, bound-for-binary64}
+use Rattle.numbers.specs.Theorem.{Format, Within, Returned, BoundFor}
+use Rattle.numbers.specs.declared.bound.BoundAnswer.the-variants.{UnknownWidth}
+use Rattle.numbers.specs.declared.tolerance.CodeAnswer.the-variants as code
+use Rattle.numbers.specs.declared.tolerance.PatternAnswer.the-variants as pattern
+use Rattle.numbers.proofs.Theorems.{format-32, format-64, every-pattern-is-restored, a-coded-k-is-allowed, an-allowed-k-has-a-bin, a-code-is-restored, binary32-returned, binary64-returned, bound-for-binary32, bound-for-binary64}
 use Rattle.blocks.specs.Bytes.{Below}
 use Rattle.stream.specs.Setting.{knownLevel, knownWidth, fractionBits, allowedSetting, settingOf}
 use Rattle.stream.specs.Stream.{values}
+use Rattle.stream.specs.Writing.{WellFormedSides}
 use Rattle.stream.specs.Packing.{Packable, Sent}
-use Rattle.stream.proofs.Law.Plain.Truth.{and-right, either}
-use Rattle.stream.proofs.Written.{accepted-list, accepted-is-sent, as-many-values, lossless-values, tolerance-values}
-use Rattle.gwizdorad.specs.Demands.{formatOf, ComesBack, Packed, Offered}
+use Rattle.stream.specs.Operations.{packAnswer, packOut}
+use Rattle.stream.specs.declared.answers.Answer.the-variants.{Done}
+use Rattle.stream.proofs.Law.Plain.Truth.{and-right, either, or-false}
+use Rattle.stream.proofs.Written.{accepted-list, accepted-bytes, accepted-leaves, accepted-is-sent, the-plain-stream, as-many-values, lossless-values, tolerance-values}
+use Rattle.gwizdorad.specs.Demands.{formatOf, ComesBack, Sided, plain, with-parts, Packed, Offered}
 
 -- ---- demand 2: a known width is 32 or 64
 
@@ -46,6 +54,29 @@ pub bound-at : (t W : ℕ) → knownWidth W ≡ true → BoundFor W (fractionBit
 unfolding fractionBits boundAnswer
 bound-at t = of-a-width (λ (W : ℕ). BoundFor W (fractionBits W) t (boundAnswer W t)) (bound-for-binary32 t) (bound-for-binary64 t)
 
+-- the number rules
+pub lossless-at : (p W : ℕ) → knownWidth W ≡ true → p < 2 ^ W → losslessRestored W (fractionBits W) (losslessCode W (fractionBits W) p) ≡ p
+unfolding fractionBits
+lossless-at p =
+    of-a-width (λ (W : ℕ). p < 2 ^ W → losslessRestored W (fractionBits W) (losslessCode W (fractionBits W) p) ≡ p)
+    (every-pattern-is-restored 32 23 format-32 p) (every-pattern-is-restored 64 52 format-64 p)
+
+format-at : (W : ℕ) → knownWidth W ≡ true → Format W (fractionBits W)
+unfolding fractionBits
+format-at = of-a-width (λ (W : ℕ). Format W (fractionBits W)) format-32 format-64
+
+pub within-at : (W : ℕ) (k : ℤ) (p c : ℕ) → knownWidth W ≡ true → p < 2 ^ W → codeAnswer W (fractionBits W) k p ≡ code.Code c
+    → (q : ℕ) × (patternAnswer W (fractionBits W) k c ≡ pattern.Pattern q) × Returned (formatOf W) (binOf W (fractionBits W) k) p q
+within-at W k p c width h e =
+    let allowed = a-coded-k-is-allowed W (fractionBits W) (format-at W width) k p c e in
+    let r = a-code-is-restored W (fractionBits W) (format-at W width) k allowed p c h e in
+    (r .0, r .1, returned k p (r .0) W width allowed (r .2))
+
+-- a width that is not known
+pub unknown-width : (W t : ℕ) → knownWidth W ≡ false → boundAnswer W t ≡ UnknownWidth
+unfolding knownWidth boundAnswer
+unknown-width W t e = let neither = or-false (eqb W 32) (eqb W 64) e in rw (neither .0, neither .1)
+
 allowed-in-mode-1 : (W mode : ℕ) (k : ℤ) → mode ≡ 1 → allowedSetting W mode k ≡ true → allowedK W (fractionBits W) k ≡ true
 unfolding allowedSetting
 allowed-in-mode-1 W mode k is e = rw is at e
@@ -66,14 +97,24 @@ offered W level mode k vs o =
 
 -- ---- the values of a packed stream
 
+module _ (W level mode : ℕ) (k : ℤ) (vs out : List ℕ) (size : ℕ) (done : packAnswer W level mode k vs (length out) ≡ Done size)
+    (packable : Packable W level mode k vs) where
+  whole : length (take size (packOut W level mode k vs out)) ≡ size
+  whole = ap length (accepted-bytes W level mode k vs out size done) ∙ sym (accepted-leaves W level mode k vs out size done .0)
+
+  sided-is-sent : (s : List ℕ) → Sided (take size (packOut W level mode k vs out)) s → Sent level (settingOf W mode k) vs s
+  sided-is-sent s (plain is) =
+      subst (λ (b : List ℕ). Sent level (settingOf W mode k) vs b) (sym (is ∙ accepted-bytes W level mode k vs out size done)) (the-plain-stream W level mode k vs packable)
+  sided-is-sent s (with-parts parts well is) =
+      subst (λ (b : List ℕ). Sent level (settingOf W mode k) vs b) (sym is)
+      (accepted-is-sent W level mode k vs out size done parts (subst (λ (n : ℕ). WellFormedSides (n + 12 * length parts) parts) whole well))
+
 module _ (W level mode : ℕ) (k : ℤ) (vs s : List ℕ) (width : knownWidth W ≡ true) (patterns : Below (2 ^ W) vs) (packed : Packed W level mode k vs s) where
-  pub packable : Packable W level mode k vs
-  packable = accepted-list W level mode k vs (packed .out) (packed .n) (packed .done) width patterns
+  packable : Packable W level mode k vs
+  packable = accepted-list W level mode k vs (packed .out) (packed .size) (packed .done) width patterns
 
   pub is-sent : Sent level (settingOf W mode k) vs s
-  is-sent =
-      subst (λ (b : List ℕ). Sent level (settingOf W mode k) vs b) (sym (packed .bytes))
-      (accepted-is-sent W level mode k vs (packed .out) (packed .n) (packed .done) (packed .sides) (packed .well-formed))
+  is-sent = sided-is-sent W level mode k vs (packed .out) (packed .size) (packed .done) packable s (packed .given)
 
   pub as-many : length (values s) ≡ length vs
   as-many = as-many-values W level mode k vs packable s is-sent

@@ -2,14 +2,14 @@
 use mathlib.Core.Path.{_≡_, refl, sym, ap, _∙_}
 use mathlib.Core.Bool.{Bool, true, false, _&&_}
 use mathlib.Core.List.{List, [], _∷_}
-use Prim.Native.Nat.{ℕ, _<_}
+use Prim.Native.Nat.{ℕ, zero, suc, _<_}
 use native.Mathlib.Omega.{arith}
-use lib.ListN.{getD}
+use lib.ListN.{getD, replicate}
 use Rattle.stream.specs.Setting.{groupSize, limitOf, patternsOf}
 use Rattle.stream.specs.Chunk.{chunkAnswer, chunkCodes}
 use Rattle.stream.specs.Header.{settingIn}
 use Rattle.stream.specs.Stream.{countOf, chunkOf, chunkState, chunkValues}
-use Rattle.stream.specs.Rows.{first}
+use Rattle.stream.specs.Rows.{Row, rowsFrom, numbersOf, first}
 use Rattle.stream.specs.Tables.{chunkTableRight, sideTableRight}
 use Rattle.stream.specs.Operations.{tableRows, faultDetail, faultRow, chunkRow, chunkRows}
 use Rattle.stream.specs.declared.answers.Step.the-variants.{Pass, Stop}
@@ -60,6 +60,28 @@ module _ (h : Header) (s : List ℕ) (j : ℕ) where
 pub all-good : (h : Header) (s : List ℕ) → first (chunkRows h s) ≡ Pass → (j : ℕ) → j < h .chunks → chunkState h s j ≡ Good
 unfolding chunkRows
 all-good h s e j l = passed-good h s j (rows-at (chunkRow h s) (h .chunks) 0 j e (omega arith) (omega arith))
+
+-- "10", a row for each chunk
+ten : (h : Header) (s : List ℕ) (j : ℕ) (rows : List Row) → numbersOf (chunkRow h s j ∷ rows) ≡ 10 ∷ numbersOf rows
+unfolding chunkRow faultRow numbersOf
+ten h s j rows = go (chunkState h s j)
+  where
+    go : (a : ChunkAnswer) → numbersOf (faultRow j a ∷ rows) ≡ 10 ∷ numbersOf rows
+    go Good = refl
+    go (Bad group) = refl
+
+tens : (h : Header) (s : List ℕ) (k i : ℕ) → numbersOf (rowsFrom (chunkRow h s) k i) ≡ replicate k 10
+unfolding numbersOf rowsFrom
+tens h s zero i = refl
+tens h s (suc k) i = ten h s i (rowsFrom (chunkRow h s) k (suc i)) ∙ ap (λ (l : List ℕ). 10 ∷ l) (tens h s k (suc i))
+
+pub chunk-numbers : (h : Header) (s : List ℕ) → numbersOf (chunkRows h s) ≡ replicate (h .chunks) 10
+unfolding chunkRows
+chunk-numbers h s = tens h s (h .chunks) 0
+
+pub own-number : (h : Header) (s : List ℕ) (j : ℕ) → numbersOf (chunkRow h s j ∷ []) ≡ 10 ∷ []
+unfolding numbersOf
+own-number h s j = ten h s j []
 
 -- the tables' row, from the two tests
 module _ (h : Header) (s : List ℕ) (a b : Bool) (chunks : a ≡ chunkTableRight h s) (sides : b ≡ sideTableRight h s) where

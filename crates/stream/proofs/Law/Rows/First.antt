@@ -72,3 +72,13 @@ decides (row x true y ∷ rows) number detail e =
 decides (row x false y ∷ rows) number detail e =
     let r = decides rows number detail e in
     record { before = row x false y ∷ r .before; later = r .later; listed = ap (λ (l : List Row). row x false y ∷ l) (r .listed); earlier = r .earlier }
+
+-- and such a row is found
+pub decided : (rows : List Row) (number detail : ℕ) → Decides rows number detail → first rows ≡ Stop number detail
+unfolding first noneGiven
+decided rows number detail d = ap first (d .listed) ∙ behind (d .before) (d .earlier)
+  where
+    behind : (before : List Row) → noneGiven before ≡ true → first (before ++ row number true detail ∷ d .later) ≡ Stop number detail
+    behind [] e = refl
+    behind (row x true y ∷ before) e = let z : false ≡ true = e in absurd (let n : _≡_ {A = ℕ} 0 1 = cc in omega (arith, n))
+    behind (row x false y ∷ before) e = behind before e
