@@ -15,7 +15,13 @@ struct Point {
     /// Packed bytes by raw bytes.
     share: f64,
     megabytes_a_second: f64,
+    /// Whether values did not come back.
+    loses: bool,
 }
+
+/// The other versions of our own format are not drawn: they have our sizes, and
+/// the tables have their speeds.
+const DRAWN: [Who; 4] = [Who::Ours, Who::Lz4, Who::Zstd, Who::Zfp];
 
 /// The picture as SVG, or nothing if the text is not a results.csv.
 pub fn picture(csv: &str) -> Option<String> {
@@ -33,7 +39,7 @@ pub fn picture(csv: &str) -> Option<String> {
 
 fn point(line: &str) -> Option<Point> {
     let columns: Vec<&str> = line.split(',').collect();
-    let [width, mode, field, who, operation, raw, packed, median, _] = columns[..] else {
+    let [width, mode, field, who, operation, raw, packed, median, _, lost] = columns[..] else {
         return None;
     };
     let (raw, packed, median): (f64, f64, f64) =
@@ -46,6 +52,7 @@ fn point(line: &str) -> Option<Point> {
         field: field.to_string(),
         share: packed / raw,
         megabytes_a_second: raw / 1e6 / median,
+        loses: lost.parse::<u64>().ok()? > 0,
     })
 }
 
@@ -103,7 +110,9 @@ fn opening(svg: &mut String) {
         ),
     );
     text(svg, 75.0, 34.0, "font-size=\"20\" font-weight=\"bold\"", "Speed against size");
-    let about = "Fields of up to 1,048,576 values, medians. Upward is faster, leftward is smaller.";
+    let about =
+        "Fields of up to 1,048,576 values, medians. Upward is faster, leftward is smaller. \
+                 A cross: values are lost.";
     text(svg, 75.0, 56.0, "fill=\"#555\"", about);
 }
 
@@ -122,19 +131,30 @@ impl Panel {
         text(svg, self.left, self.top - 9.0, "font-weight=\"bold\"", self.title);
         self.axes(svg);
         self.memcpy_line(svg, points);
-        let here = |point: &&Point| point.mode == self.mode && point.operation == self.operation;
-        // The first drawn is the lowest: ours lies on top.
-        for &who in Who::ALL.iter().rev() {
-            for point in points.iter().filter(here).filter(|point| point.who == who) {
-                let (x, y) = (self.x(point.share), self.y(point.megabytes_a_second));
-                mark(svg, who, point.width == 64, x, y);
-            }
+        let here = |point: &&Point| {
+            DRAWN.contains(&point.who)
+                && (point.mode, point.operation) == (self.mode, self.operation)
+        };
+        let drawn: Vec<&Point> = points.iter().filter(here).collect();
+        let place = |point: &&Point| (self.x(point.share), self.y(point.megabytes_a_second));
+        let marks: Vec<(f64, f64)> = drawn.iter().map(place).collect();
+        let letters = letter_places(&marks, (self.left, self.top));
+        for (i, &letter) in letters.iter().enumerate() {
+            leader(svg, &marks, i, letter);
+        }
+        // The first drawn is the lowest: ours, which comes first, lies on top.
+        for (point, &(x, y)) in drawn.iter().zip(&marks).rev() {
+            mark(svg, point.who, point.width == 64, x, y);
+        }
+        for (_, &(x, y)) in drawn.iter().zip(&marks).filter(|(point, _)| point.loses) {
+            cross(svg, x, y);
         }
         let files = files_of(points);
-        for point in points.iter().filter(here).filter(|point| point.who == Who::Ours) {
-            let (x, y) = (self.x(point.share), self.y(point.megabytes_a_second));
-            let attributes = format!("text-anchor=\"middle\" font-size=\"12\" {HALO}");
-            text(svg, x, y + 16.0, &attributes, &label(&point.field, &files));
+        for (point, &(x, y)) in drawn.iter().zip(&letters) {
+            let colour = colour(point.who);
+            let attributes =
+                format!("text-anchor=\"middle\" font-size=\"12\" fill=\"{colour}\" {HALO}");
+            text(svg, x, y + 4.0, &attributes, &label(&point.field, &files));
         }
     }
 
@@ -183,6 +203,59 @@ fn thousands(speed: f64) -> String {
     }
 }
 
+// ----------------------------------------------------------------- letters
+
+/// The room of a letter, and that of a mark.
+const LETTER: (f64, f64) = (9.0, 12.0);
+const MARK: (f64, f64) = (15.0, 14.0);
+/// A letter this near, with no other mark as near, needs no line to its mark.
+const BESIDE: f64 = 19.0;
+
+/// Where the letter of each mark stands, by its middle: beside it, or as near
+/// as it lies on no mark and on no other letter, in the panel with this corner.
+pub fn letter_places(marks: &[(f64, f64)], (left, top): (f64, f64)) -> Vec<(f64, f64)> {
+    let mut letters: Vec<(f64, f64)> = Vec::new();
+    for &(x, y) in marks {
+        let around = (0..).flat_map(|ring| (0..16).map(move |turn| (ring, turn)));
+        let tried = around.map(|(ring, turn)| {
+            // From below, to both sides in turn.
+            let side = if turn % 2 == 0 { 0.5 } else { -0.5 };
+            let angle = std::f64::consts::PI / 8.0 * side * f64::from((turn + 1) / 2 * 2);
+            let distance = 14.0 + 4.0 * f64::from(ring);
+            (x + distance * angle.sin(), y + distance * angle.cos())
+        });
+        let free = |&(x, y): &(f64, f64)| {
+            x > left + 5.0
+                && x < left + PANEL_WIDTH + 20.0
+                && y > top - 5.0
+                && y < top + PANEL_HEIGHT - 7.0
+                && !marks.iter().any(|&mark| overlap((x, y), LETTER, mark, MARK))
+                && !letters.iter().any(|&other| overlap((x, y), LETTER, other, LETTER))
+        };
+        // The panel has more room than any run has marks.
+        letters.push(tried.take(16 * 60).find(free).unwrap_or((x, y)));
+    }
+    letters
+}
+
+/// Whether two boxes, by middle and size, lie on each other.
+pub fn overlap(one: (f64, f64), size: (f64, f64), other: (f64, f64), its: (f64, f64)) -> bool {
+    (one.0 - other.0).abs() < (size.0 + its.0) / 2.0
+        && (one.1 - other.1).abs() < (size.1 + its.1) / 2.0
+}
+
+/// A thin line from a mark to its letter, where one may take it for another's.
+fn leader(svg: &mut String, marks: &[(f64, f64)], own: usize, letter: (f64, f64)) {
+    let from = |mark: (f64, f64)| (letter.0 - mark.0).hypot(letter.1 - mark.1);
+    let (mark, distance) = (marks[own], from(marks[own]));
+    let doubtful = |(i, &other): (usize, &(f64, f64))| i != own && from(other) < 1.25 * distance;
+    if distance > BESIDE || marks.iter().enumerate().any(doubtful) {
+        let kept = 1.0 - 5.0 / distance;
+        let end = (mark.0 + (letter.0 - mark.0) * kept, mark.1 + (letter.1 - mark.1) * kept);
+        line(svg, mark, end, "stroke=\"#777\" stroke-width=\"0.8\"");
+    }
+}
+
 // ------------------------------------------------------------------- marks
 
 /// White around letters, so that lines do not cross them.
@@ -203,30 +276,26 @@ fn line(svg: &mut String, from: (f64, f64), to: (f64, f64), attributes: &str) {
 fn colour(who: Who) -> &'static str {
     match who {
         Who::Ours => "#0072b2",
-        Who::Tuned => "#56b4e9",
-        Who::PlainC => "#e69f00",
         Who::Lz4 => "#009e73",
         Who::Zstd => "#cc79a7",
         Who::Zfp => "#d55e00",
-        Who::Memcpy => "#222222",
+        Who::Tuned | Who::PlainC | Who::Memcpy => "#222222",
     }
 }
 
 /// A shape for each compressor, filled for width 64.
 fn mark(svg: &mut String, who: Who, filled: bool, x: f64, y: f64) {
     let corners: &[(f64, f64)] = match who {
-        Who::Tuned => &[(-5.5, -5.5), (5.5, 0.0), (-5.5, 5.5)],
-        Who::PlainC => &[(-5.5, 0.0), (0.0, -5.5), (5.5, 0.0), (0.0, 5.5)],
         Who::Lz4 => &[(-5.5, 4.5), (0.0, -5.5), (5.5, 4.5)],
         Who::Zstd => &[(-4.5, -4.5), (4.5, -4.5), (4.5, 4.5), (-4.5, 4.5)],
         Who::Zfp => &[(-5.5, -4.5), (5.5, -4.5), (0.0, 5.5)],
-        Who::Ours | Who::Memcpy => &[],
+        Who::Ours | Who::Tuned | Who::PlainC | Who::Memcpy => &[],
     };
     let colour = colour(who);
     let fill = if filled { colour } else { "#fff" };
     let paint = format!("fill=\"{fill}\" stroke=\"{colour}\" stroke-width=\"2\"");
     match who {
-        Who::Memcpy => {}
+        Who::Tuned | Who::PlainC | Who::Memcpy => {}
         Who::Ours => {
             add(svg, format_args!("<circle cx=\"{x:.1}\" cy=\"{y:.1}\" r=\"5\" {paint}/>"));
         }
@@ -238,21 +307,34 @@ fn mark(svg: &mut String, who: Who, filled: bool, x: f64, y: f64) {
     }
 }
 
+/// Over a mark whose compressor lost values.
+fn cross(svg: &mut String, x: f64, y: f64) {
+    for slope in [1.0, -1.0] {
+        let reach = 7.0;
+        let ends = ((x - reach, y - slope * reach), (x + reach, y + slope * reach));
+        line(svg, ends.0, ends.1, "stroke=\"#111\" stroke-width=\"1.8\"");
+    }
+}
+
 fn legend(svg: &mut String, points: &[Point]) {
     let y = HEIGHT - 50.0;
     let mut x = 80.0;
-    let drawn = |who: &&Who| **who != Who::Memcpy && points.iter().any(|p| p.who == **who);
-    for &who in Who::ALL.iter().filter(drawn) {
+    for &who in DRAWN.iter().filter(|who| points.iter().any(|point| point.who == **who)) {
         mark(svg, who, false, x, y);
         mark(svg, who, true, x + 15.0, y);
         text(svg, x + 27.0, y + 4.5, "", who.name());
         x += 150.0;
     }
+    if points.iter().any(|point| point.loses) {
+        mark(svg, Who::Zfp, true, x, y);
+        cross(svg, x, y);
+        text(svg, x + 12.0, y + 4.5, "", "loses values");
+    }
     let files = files_of(points);
     let names = FIELDS.iter().map(|field| field.name()).chain(files.iter().copied());
     let names: Vec<String> = names.map(|name| format!("{} {name}", label(name, &files))).collect();
     let key = format!(
-        "Hollow: width 32; filled: width 64. Below Gwizdorad's marks the field: {}.",
+        "Hollow: width 32; filled: width 64. The letter is the field: {}.",
         names.join(", ")
     );
     text(svg, 75.0, HEIGHT - 20.0, "fill=\"#555\"", &key);

@@ -43,7 +43,7 @@ pub fn load_line() -> String {
 // --------------------------------------------------------------------- CSV
 
 pub const CSV_HEADER: &str =
-    "width,mode,field,who,operation,raw bytes,packed bytes,median seconds,minimum seconds";
+    "width,mode,field,who,operation,raw bytes,packed bytes,median seconds,minimum seconds,lost values";
 
 pub fn csv(rows: &[Row]) -> String {
     let mut text = format!("{CSV_HEADER}\n");
@@ -56,8 +56,9 @@ pub fn csv(rows: &[Row]) -> String {
             let (median, minimum) = (timing.median / runs, timing.minimum / runs);
             let (who, operation) = (timing.who.name(), timing.operation.name());
             let Row { width, mode, field, .. } = row;
+            let lost = lost_of(row, timing.who);
             let _ = write!(text, "{width},{mode},{field},{who},{operation},");
-            add(&mut text, format_args!("{raw},{packed},{median:e},{minimum:e}"));
+            add(&mut text, format_args!("{raw},{packed},{median:e},{minimum:e},{lost}"));
         }
     }
     text
@@ -94,6 +95,10 @@ fn per_value(seconds: f64) -> f64 {
 
 fn size_of(row: &Row, who: Who) -> Option<usize> {
     row.sizes.iter().find(|size| size.0 == who).map(|size| size.1)
+}
+
+fn lost_of(row: &Row, who: Who) -> usize {
+    row.losses.iter().find(|loss| loss.0 == who).map_or(0, |loss| loss.1)
 }
 
 fn timing_of(timings: &[Timing], who: Who, operation: Operation) -> Option<&Timing> {
@@ -171,7 +176,7 @@ pub fn beside_others(rows: &[Row]) -> String {
 fn size_and_speeds(row: &Row, who: Who) -> String {
     let pack = timing_of(&row.timings, who, Operation::Pack);
     let unpack = timing_of(&row.timings, who, Operation::Unpack);
-    let lost = row.losses.iter().find(|loss| loss.0 == who).map_or(0, |loss| loss.1);
+    let lost = lost_of(row, who);
     let lost = if lost == 0 { String::new() } else { format!("; loses {lost}") };
     match (pack, unpack) {
         (Some(pack), Some(unpack)) => format!(

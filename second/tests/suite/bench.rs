@@ -3,9 +3,10 @@
 use second::bench::codec::{Setting, SETTINGS};
 use second::bench::fields::{special_values, Cell, Field, Sample, FIELDS, VALUES};
 use second::bench::others::{lost, Lost};
-use second::bench::picture::picture;
-use second::bench::report::CSV_HEADER;
-use second::bench::timing::{timed, Contender, Operation, Space, Watch, Who};
+use second::bench::picture::{letter_places, overlap, picture};
+use second::bench::report::{csv, CSV_HEADER};
+use second::bench::rows::Row;
+use second::bench::timing::{timed, Contender, Operation, Space, Timing, Watch, Who};
 use std::cell::Cell as Counter;
 use std::path::PathBuf;
 
@@ -102,9 +103,9 @@ fn every_contender_runs_once_a_round() {
 
 #[test]
 fn the_picture_is_drawn_from_results_alone() {
-    let line = "32,0,smooth,Gwizdorad,pack,4194304,3600000,0.004,0.003";
-    let copy = "32,0,smooth,memcpy,copy,4194304,4194304,0.0005,0.0004";
-    let file = "32,0,sea.f32,Gwizdorad,pack,400,300,0.004,0.003";
+    let line = "32,0,smooth,Gwizdorad,pack,4194304,3600000,0.004,0.003,0";
+    let copy = "32,0,smooth,memcpy,copy,4194304,4194304,0.0005,0.0004,0";
+    let file = "32,0,sea.f32,Gwizdorad,pack,400,300,0.004,0.003,0";
     let svg = picture(&format!("{CSV_HEADER}\n{line}\n{copy}\n{file}\n")).unwrap();
     // Two marks in a panel, and two in the legend.
     assert_eq!(svg.matches("<circle").count(), 4);
@@ -113,4 +114,32 @@ fn the_picture_is_drawn_from_results_alone() {
     assert!(svg.starts_with("<svg") && svg.ends_with("</svg>\n"));
     assert_eq!(picture("width,mode\n"), None);
     assert_eq!(picture(&format!("{CSV_HEADER}\n32,0,smooth\n")), None);
+}
+
+#[test]
+fn a_mark_whose_compressor_lost_values_is_crossed() {
+    let crosses = |lost: usize| {
+        let who = Who::Zfp;
+        let pack = Timing { who, operation: Operation::Pack, median: 0.004, minimum: 0.003 };
+        let (sizes, losses) = (vec![(who, 4000)], vec![(who, lost)]);
+        let (field, timings) = (String::from("noisy"), vec![pack]);
+        let results = csv(&[Row { width: 32, mode: 1, field, n: 1024, sizes, losses, timings }]);
+        assert!(results.ends_with(&format!(",{lost}\n")), "{results}");
+        picture(&results).unwrap().matches("stroke=\"#111\"").count()
+    };
+    // Two strokes in the panel, and two in the legend.
+    assert_eq!([crosses(0), crosses(7)], [0, 4]);
+}
+
+#[test]
+fn no_letter_lies_on_another_or_on_a_mark() {
+    // Forty marks on nearly one place, at the edge of a panel.
+    let marks: Vec<(f64, f64)> = (0..40).map(|i| (470.0 + f64::from(i % 3), 100.0)).collect();
+    let letters = letter_places(&marks, (75.0, 90.0));
+    assert_eq!(letters.len(), marks.len());
+    for (i, &letter) in letters.iter().enumerate() {
+        let room = (9.0, 12.0);
+        assert!(!letters[..i].iter().any(|&other| overlap(letter, room, other, room)));
+        assert!(!marks.iter().any(|&mark| overlap(letter, room, mark, (15.0, 14.0))));
+    }
 }
