@@ -27,7 +27,7 @@ fn quad(s: &[u8], at: usize) -> u64
     pair(s, at) + pair(s, at + 2) * 65536
 }
 
-fn load(s: &[u8], at: usize) -> u64
+pub fn load(s: &[u8], at: usize) -> u64
     requires { ⌜ at + 8 ≤ length (now s) ⌝ }
     ensures { λ r. ⌜ r ≡ number 256 (take 8 (drop at (now (s .entry)))) ⌝ }
 {

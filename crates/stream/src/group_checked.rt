@@ -1,8 +1,11 @@
 // Groups checked: the rules of refusal 10, where the bytes stand.
 ghost use mathlib.Core.Path.{_≡_};
-ghost use Prim.Native.Nat.{_+_, _*_, _/_, _%_, _^_, _≤_, _<_};
+ghost use Prim.Native.Nat.{ℕ, _+_, _*_, _^_, _≤_, _<_};
+ghost use lib.Bits.{bitOr};
 ghost use lib.Dec.{eqb};
-ghost use lib.ListN.{length};
+ghost use lib.Ieee.{size};
+ghost use lib.ListN.{length, getD};
+ghost use Rattle.blocks.specs.Bytes.{Below};
 ghost use Rattle.stream.specs.Group.{widthOf, givenWidth, groupLength, groupCodes, within, groupAnswer};
 use crate::group;
 use crate::group::GroupAnswer;
@@ -11,49 +14,59 @@ use blocks::block32;
 use blocks::block64;
 use blocks::bytes;
 
-// Whether a bit of a byte is set. It is told by width less leading zeros: the bits up to that place are then as wide as they can be.
-fn full_width(byte: u64, place: usize) -> bool
-    requires { ⌜ (byte < 256) × (place < 8) ⌝ }
-    ensures { λ r. ⌜ r ≡ eqb (byte / 2 ^ place % 2) 1 ⌝ }
+// Whether a code is as wide as w: width less leading zeros is its bit length.
+fn as_wide(code: u64, w: usize) -> bool
+    ensures { λ r. ⌜ r ≡ eqb (size code) w ⌝ }
 {
-    let low = byte % (2u64 << place);
-    64 - (u64::leading_zeros(low) as usize) == place + 1
+    64 - (u64::leading_zeros(code) as usize) == w
 }
 
-// Whether w is the smallest width: some code is as wide as w. The codes are not taken out, and the first such code settles it: its
-// highest bit is set.
-fn reached(s: &[u8], n: usize, w: usize) -> bool
-    requires { ⌜ (n ≤ 32) × (1 ≤ w) × (w ≤ 64) × (w ≡ givenWidth (now s)) × (groupLength n (now s) ≤ length (now s)) ⌝ }
-    ensures { λ r. ⌜ r ≡ eqb w (widthOf (groupCodes n (now (s .entry)))) ⌝ }
+// Whether w is the smallest width of codes that it holds: the first that is as wide settles it.
+fn reached(codes: &[u64], w: usize) -> bool
+    requires { ⌜ (1 ≤ w) × (Below (2 ^ w) (now codes)) ⌝ }
+    ensures { λ r. ⌜ r ≡ eqb w (widthOf (now (codes .entry))) ⌝ }
 {
-    let mut bit: usize = 7 + w;
     let mut i: usize = 0;
-    while i < n {
-        if full_width(bytes::wide(s[bit / 8]), bit % 8) {
+    while i < codes.len() {
+        if as_wide(codes[i], w) {
             return true;
         }
-        bit += w;
         i += 1;
     }
     false
 }
 
-// The same of a full group. Eight codes are w whole bytes, so the highest bits of the codes i, i + 8, i + 16 and i + 24 stand at the same
-// place of four bytes that are w apart: the OR of the four is looked at. In most groups the first OR settles it.
+// The OR of a full group's codes i, i + 8, i + 16 and i + 24, if the bytes go on far enough for the loads of every code. Eight codes are w
+// whole bytes, so the four start at the same bit of four bytes that are w apart: up to 57 bits, where eight bytes hold a code wherever it
+// starts, the OR of four loads holds the OR of the four codes, and is shifted and masked once.
+fn four_codes(s: &[u8], i: usize, w: usize) -> u64
+    requires { ⌜ (i < 8) × (1 ≤ w) × (w ≤ 64) × (w ≡ givenWidth (now s)) × (4 * w + 10 ≤ length (now s)) ⌝ }
+    ensures { λ r. ⌜ (let c : ℕ → ℕ = λ j. getD (groupCodes 32 (now (s .entry))) j 0 in r ≡ bitOr (bitOr (c i) (c (i + 8))) (bitOr (c (i + 16)) (c (i + 24)))) ⌝ }
+{
+    let bit = 8 + i * w;
+    if 57 < w {
+        let low = bytes::code_at(s, bit, w) | bytes::code_at(s, bit + 8 * w, w);
+        let high = bytes::code_at(s, bit + 16 * w, w) | bytes::code_at(s, bit + 24 * w, w);
+        return low | high;
+    }
+    let at = bit / 8;
+    let low = bytes::load(s, at) | bytes::load(s, at + w);
+    let high = bytes::load(s, at + 2 * w) | bytes::load(s, at + 3 * w);
+    let mask: u64 = 18446744073709551615 >> (64 - w);
+    ((low | high) >> (bit % 8)) & mask
+}
+
+// Whether w is the smallest width of a full group, four codes at a time: their OR is as wide as the widest of them. In most groups the
+// first four settle it.
 fn reached_by_four(s: &[u8], w: usize) -> bool
-    requires { ⌜ (1 ≤ w) × (w ≤ 64) × (w ≡ givenWidth (now s)) × (groupLength 32 (now s) ≤ length (now s)) ⌝ }
+    requires { ⌜ (1 ≤ w) × (w ≤ 64) × (w ≡ givenWidth (now s)) × (4 * w + 10 ≤ length (now s)) ⌝ }
     ensures { λ r. ⌜ r ≡ eqb w (widthOf (groupCodes 32 (now (s .entry)))) ⌝ }
 {
-    let mut bit: usize = 7 + w;
     let mut i: usize = 0;
     while i < 8 {
-        let at = bit / 8;
-        let low = bytes::wide(s[at]) | bytes::wide(s[at + w]);
-        let high = bytes::wide(s[at + 2 * w]) | bytes::wide(s[at + 3 * w]);
-        if full_width(low | high, bit % 8) {
+        if as_wide(four_codes(s, i, w), w) {
             return true;
         }
-        bit += w;
         i += 1;
     }
     false
@@ -65,9 +78,12 @@ fn smallest(s: &[u8], n: usize, w: usize) -> bool
     ensures { λ r. ⌜ r ≡ eqb w (widthOf (groupCodes n (now (s .entry)))) ⌝ }
 {
     if n == 32 {
-        return reached_by_four(s, w);
+        if 4 * w + 10 <= s.len() {
+            return reached_by_four(s, w);
+        }
     }
-    reached(s, n, w)
+    let g = group_read::codes_of(s, n);
+    reached(group::counted(&g.codes, n), w)
 }
 
 // Whether no code's u, its half, is above the limit.

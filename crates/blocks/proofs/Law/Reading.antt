@@ -34,12 +34,14 @@ module _ (s : List ℕ) (bytes : Below 256 s) (bit w : ℕ) (most : w ≤ 64) wh
   loaded : number 256 (take 8 (drop (bit / 8) s)) ≡ number 256 s / 256 ^ (bit / 8) % 2 ^ 64
   loaded = number-part 256 byte (bit / 8) 8 s bytes
 
+  pub in-word : bit % 8 + w ≤ 64 → number 256 (take 8 (drop (bit / 8) s)) / 2 ^ (bit % 8) % 2 ^ w ≡ number 256 s / 2 ^ bit % 2 ^ w
+  in-word h =
+      ap (λ (n : ℕ). n / 2 ^ (bit % 8) % 2 ^ w) loaded
+      ∙ field-in-word (number 256 s / 256 ^ (bit / 8)) (bit % 8) w 64 h ∙ ap (λ (n : ℕ). n % 2 ^ w) (bit-place (number 256 s) bit)
+
   pub code-in-word : bit % 8 + w ≤ 64
       → bitAnd (number 256 (take 8 (drop (bit / 8) s)) / 2 ^ (bit % 8)) ((2 ^ 64 - 1) / 2 ^ (64 - w)) ≡ number 256 s / 2 ^ bit % 2 ^ w
-  code-in-word h =
-      masked (number 256 (take 8 (drop (bit / 8) s)) / 2 ^ (bit % 8)) w 64 most
-      ∙ ap (λ (n : ℕ). n / 2 ^ (bit % 8) % 2 ^ w) loaded
-      ∙ field-in-word (number 256 s / 256 ^ (bit / 8)) (bit % 8) w 64 h ∙ ap (λ (n : ℕ). n % 2 ^ w) (bit-place (number 256 s) bit)
+  code-in-word h = masked (number 256 (take 8 (drop (bit / 8) s)) / 2 ^ (bit % 8)) w 64 most ∙ in-word h
 
   skipped : bit % 8 < 8
   skipped = mod-lt bit (zero-lt-suc 7)

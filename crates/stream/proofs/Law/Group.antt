@@ -5,7 +5,7 @@
 --   Whole: groups of whole bytes
 --   Width: the bit length of the largest code
 --   Reading: where the codes stand in the bytes
---   Checking: the rules of refusal 10, without taking the codes out
+--   Checking: the rules of refusal 10
 pub mod RoundTrip
 pub mod Exact
 pub mod LowestFirst

@@ -1,15 +1,16 @@
--- A group is checked without taking its codes out: what the highest bit of a code, the highest bits of the last byte and the width say of them.
+-- A group is checked: the bit lengths of its codes, four at a time or one by one, the highest bits of its last byte, and what its width says of them.
 -- Assumes nothing.
 use mathlib.Core.Path.{_≡_, refl, sym, ap, ap₂, _∙_, subst, subst⁻¹}
 use mathlib.Core.Bool.{Bool, true, false, cond}
 use mathlib.Core.List.{List}
 use mathlib.Core.Logic.{_⊎_, inl, inr}
-use Prim.Native.Nat.{ℕ, suc, _+_, _-_, _*_, _/_, _%_, _^_, _≤_, _<_, zero-le, max}
-use native.Mathlib.Nat.{le-antisymm, zero-lt-suc, mod-lt, div-eq-of-lt, div-lt-iff-lt-mul, one-mul, add-sub-of-le, add-comm, sub-add-cancel, mul-add, two-pow-succ}
-use native.Mathlib.Nat.{lt-of-lt-of-le, le-of-suc-le-suc, lt-of-not-le}
+use Prim.Native.Nat.{ℕ, suc, _+_, _-_, _*_, _/_, _%_, _^_, _≤_, _<_, zero-le}
+use native.Mathlib.Nat.{zero-lt-suc, mod-lt, div-eq-of-lt, div-lt-iff-lt-mul, one-mul, add-sub-of-le, add-comm, sub-add-cancel, mul-add, mul-comm, two-pow-succ, lt-of-lt-of-le}
 use native.Mathlib.Omega.{arith}
-use lib.Bits.{bitOr, or-step, or-shr}
+use lib.Bits.{bitAnd, bitOr, or-shr, or-mod}
 use lib.Dec.{lit<}
+use lib.Ieee.{size}
+use lib.Ieee.Digits.{size-lt}
 use lib.ListN.{length, take, drop, getD}
 use lib.Pow.{pow-pos, pow-mono, shr-shr, shl-exact, field}
 use Rattle.blocks.specs.Bytes.{Below, number, digits}
@@ -17,88 +18,89 @@ use Rattle.stream.specs.Group.{groupAnswer}
 use Rattle.stream.specs.declared.group.GroupAnswer.the-variants as answers
 use Rattle.stream.specs.Group.{bytesFor, widthOf, givenWidth, groupLength, groupNumber, groupCodes, goodGroup}
 use Rattle.stream.specs.Theorem.{Limited}
-use Rattle.blocks.proofs.Law.Digits.{byte, number-at, number-part, digit-at}
+use Rattle.blocks.proofs.Law.Digits.{byte, everywhere, number-at, number-part, digit-at}
 use Rattle.blocks.proofs.Law.Truth.{le-or-lt}
-use Rattle.stream.proofs.Law.Group.RoundTrip.{bytes-none, bytes-tight, width-holds, width-least, codes-below}
+use Rattle.stream.proofs.Law.Group.RoundTrip.{bytes-none, bytes-tight, width-least, codes-below}
 use Rattle.stream.proofs.Law.Group.Exact.{Good, good-true, true-good}
 use Rattle.stream.proofs.Law.Group.Reading.{codes-from}
-use Rattle.blocks.proofs.Law.Words.{pow-pow, bit-place, field-in-word}
+use Rattle.blocks.proofs.Law.Reading.{in-word}
+use Rattle.blocks.proofs.Law.Words.{pow-pow, masked}
 
 -- ---- the smallest width
 
--- codes that do not all lack the highest of w bits make w the width
-pub tall : (w : ℕ) (cs : List ℕ) → 1 ≤ w → Below (2 ^ w) cs → (Below (2 ^ (w - 1)) cs → ⊥) → w ≡ widthOf cs
-tall w cs pos below h =
-    le-antisymm
-    (le-of-suc-le-suc (lt-of-not-le (λ (g : suc (widthOf cs) ≤ w).
-    let less : widthOf cs ≤ w - 1 = omega arith in
-    h (λ i. lt-of-lt-of-le (width-holds cs i) (pow-mono less)))))
-    (width-least w cs below)
+-- codes of which none is as wide as w have a smaller width
+pub flat : (w : ℕ) (cs : List ℕ) → 1 ≤ w → ((i : ℕ) → i < length cs → size (getD cs i 0) < w) → w ≡ widthOf cs → ⊥
+flat w cs pos short e =
+    omega (arith, width-least (w - 1) cs (everywhere (λ (x : ℕ). x < 2 ^ (w - 1)) cs (pow-pos (w - 1)) below))
+  where
+    below : (i : ℕ) → i < length cs → getD cs i 0 < 2 ^ (w - 1)
+    below i h = lt-of-lt-of-le (size-lt (getD cs i 0)) (pow-mono (let less : size (getD cs i 0) ≤ w - 1 = omega (arith, short i h) in less))
 
--- and with none the width is smaller
-pub flat : (w : ℕ) (cs : List ℕ) → 1 ≤ w → Below (2 ^ (w - 1)) cs → w ≡ widthOf cs → ⊥
-flat w cs pos below e = omega (arith, width-least (w - 1) cs below)
+-- an OR has at some bits the OR of what the two have there
+or-field : (a b p w : ℕ) → bitOr a b / 2 ^ p % 2 ^ w ≡ bitOr (a / 2 ^ p % 2 ^ w) (b / 2 ^ p % 2 ^ w)
+or-field a b p w = ap (λ (x : ℕ). x % 2 ^ w) (or-shr a b p) ∙ or-mod (a / 2 ^ p) (b / 2 ^ p) w
 
-top-place : (w i : ℕ) → 1 ≤ w → 8 + w * i + (w - 1) ≡ 7 + w + w * i
-top-place w i pos = omega arith
+module _ (s : List ℕ) (n w : ℕ) (bytes : Below 256 s) (is : w ≡ givenWidth s) where
+  -- code j, by the bit that it starts at
+  code-is : (j bit : ℕ) → j < n → bit ≡ 8 + w * j → number 256 s / 2 ^ bit % 2 ^ w ≡ getD (groupCodes n s) j 0
+  code-is j bit there at =
+      sym (ap (λ (cs : List ℕ). getD cs j 0) (codes-from n s bytes ∙ ap (λ (k : ℕ). digits (2 ^ k) n (number 256 s / 256)) (sym is))
+      ∙ digit-at (2 ^ w) (pow-pos w) n (number 256 s / 256) j there
+      ∙ ap (λ (m : ℕ). m % 2 ^ w)
+      (ap (λ (p : ℕ). number 256 s / 256 / p) (pow-pow 2 w j) ∙ shr-shr (number 256 s) 8 (w * j) ∙ ap (λ (k : ℕ). number 256 s / 2 ^ k) (sym at)))
 
--- one bit of the bytes
-bit-at : (s : List ℕ) (bit : ℕ) → Below 256 s → getD s (bit / 8) 0 / 2 ^ (bit % 8) % 2 ≡ number 256 s / 2 ^ bit % 2
-bit-at s bit bytes =
-    ap (λ (n : ℕ). n / 2 ^ (bit % 8) % 2) (number-at 256 byte s (bit / 8) bytes)
-    ∙ field-in-word (number 256 s / 256 ^ (bit / 8)) (bit % 8) 1 8 (omega (arith, mod-lt bit (zero-lt-suc 7)))
-    ∙ ap (λ (n : ℕ). n % 2) (bit-place (number 256 s) bit)
+  -- and in the word that starts at its byte
+  code-loaded : (j byte skip x : ℕ) → j < n → w ≤ 64 → skip < 8 → skip + w ≤ 64 → 8 * byte + skip ≡ 8 + w * j → x ≡ number 256 (take 8 (drop byte s))
+      → x / 2 ^ skip % 2 ^ w ≡ getD (groupCodes n s) j 0
+  code-loaded j byte skip x there most near fits at e =
+      let bit : ℕ = 8 * byte + skip in
+      let same : skip ≡ bit % 8 = omega arith in
+      let first : byte ≡ bit / 8 = omega arith in
+      ap (λ (y : ℕ). y / 2 ^ skip % 2 ^ w) e
+      ∙ ap₂ (λ (q p : ℕ). number 256 (take 8 (drop q s)) / 2 ^ p % 2 ^ w) first same
+      ∙ in-word s bytes bit w most (omega arith)
+      ∙ code-is j bit there at
 
-module _ (s : List ℕ) (n i w bit : ℕ) (bytes : Below 256 s) (is : w ≡ givenWidth s) (pos : 1 ≤ w) (there : i < n) (at : bit ≡ 7 + w + w * i) where
-  code-is : getD (groupCodes n s) i 0 ≡ number 256 s / 2 ^ (8 + w * i) % 2 ^ (1 + (w - 1))
-  code-is =
-      ap (λ (cs : List ℕ). getD cs i 0) (codes-from n s bytes ∙ ap (λ (k : ℕ). digits (2 ^ k) n (number 256 s / 256)) (sym is))
-      ∙ digit-at (2 ^ w) (pow-pos w) n (number 256 s / 256) i there
-      ∙ ap₂ (λ (m k : ℕ). m % 2 ^ k) (ap (λ (p : ℕ). number 256 s / 256 / p) (pow-pow 2 w i) ∙ shr-shr (number 256 s) 8 (w * i)) (sym (add-sub-of-le pos))
+-- Four codes of a full group that are eight apart: eight codes are w whole bytes, so these start at the same bit of bytes that are w apart.
+module _ (s : List ℕ) (i w x₀ x₁ x₂ x₃ : ℕ) (bytes : Below 256 s) (is : w ≡ givenWidth s) (most : w ≤ 64) (there : i < 8) where
+  abbrev bit : ℕ
+  bit = 8 + i * w
 
-  -- the highest bit of code i
-  pub top-bit : getD (groupCodes n s) i 0 / 2 ^ (w - 1) ≡ getD s (bit / 8) 0 / 2 ^ (bit % 8) % 2
-  top-bit =
-      ap (λ (c : ℕ). c / 2 ^ (w - 1)) code-is
-      ∙ field (number 256 s / 2 ^ (8 + w * i)) 1 (w - 1)
-      ∙ ap (λ (m : ℕ). m % 2) (shr-shr (number 256 s) (8 + w * i) (w - 1) ∙ ap (λ (k : ℕ). number 256 s / 2 ^ k) (top-place w i pos ∙ sym at))
-      ∙ sym (bit-at s bit bytes)
+  abbrev code : ℕ → ℕ
+  code j = getD (groupCodes 32 s) j 0
 
--- a code without that bit
-pub high-unset : (x k y : ℕ) → x / 2 ^ k ≤ y % 2 → (y % 2 ≡ 1 → ⊥) → x < 2 ^ k
-high-unset x k y e f =
-    let none : x / 2 ^ k < 1 = omega arith in
-    rw one-mul at (div-lt-iff-lt-mul (pow-pos k) .0 none)
+  abbrev Joined : ℕ → Type 0
+  Joined x = x ≡ bitOr (bitOr (code i) (code (i + 8))) (bitOr (code (i + 16)) (code (i + 24)))
 
--- an OR has a bit where one of the two has it
-or-bit : (a b p : ℕ) → bitOr a b / 2 ^ p % 2 ≡ max (a / 2 ^ p % 2) (b / 2 ^ p % 2)
-or-bit a b p = ap (λ (x : ℕ). x % 2) (or-shr a b p) ∙ omega (arith, or-step (a / 2 ^ p) (b / 2 ^ p))
+  place : (d : ℕ) → bit + w * d ≡ 8 + w * (i + d)
+  place d = omega (arith, mul-add w i d, mul-comm w i)
 
--- codes whose bits are k whole bytes apart have their highest bits at the same place of bytes that are k apart
-apart : (s : List ℕ) (n i w bit d k : ℕ) → Below 256 s → w ≡ givenWidth s → 1 ≤ w → i + d < n → bit ≡ 7 + w + w * i → w * d ≡ 8 * k
-    → getD (groupCodes n s) (i + d) 0 / 2 ^ (w - 1) ≡ getD s (bit / 8 + k) 0 / 2 ^ (bit % 8) % 2
-apart s n i w bit d k bytes is pos there at e =
-    let same : (bit + 8 * k) % 8 ≡ bit % 8 = omega arith in
-    let next : (bit + 8 * k) / 8 ≡ bit / 8 + k = omega arith in
-    top-bit s n (i + d) w (bit + 8 * k) bytes is pos there (omega (arith, mul-add w i d))
-    ∙ ap₂ (λ (j p : ℕ). getD s j 0 / 2 ^ p % 2) next same
+  -- read one by one
+  pub four-read : x₀ ≡ number 256 s / 2 ^ bit % 2 ^ w → x₁ ≡ number 256 s / 2 ^ (bit + 8 * w) % 2 ^ w
+      → x₂ ≡ number 256 s / 2 ^ (bit + 16 * w) % 2 ^ w → x₃ ≡ number 256 s / 2 ^ (bit + 24 * w) % 2 ^ w → Joined (bitOr (bitOr x₀ x₁) (bitOr x₂ x₃))
+  four-read e₀ e₁ e₂ e₃ =
+      ap₂ bitOr
+      (ap₂ bitOr (e₀ ∙ code-is s 32 w bytes is i bit (omega arith) (omega (arith, mul-comm w i)))
+      (e₁ ∙ code-is s 32 w bytes is (i + 8) (bit + 8 * w) (omega arith) (omega (arith, place 8))))
+      (ap₂ bitOr (e₂ ∙ code-is s 32 w bytes is (i + 16) (bit + 16 * w) (omega arith) (omega (arith, place 16)))
+      (e₃ ∙ code-is s 32 w bytes is (i + 24) (bit + 24 * w) (omega arith) (omega (arith, place 24))))
 
--- so the OR of four bytes has the highest bits of four codes that are eight apart
-pub top-four : (s : List ℕ) (i w bit x₀ x₁ x₂ x₃ : ℕ) → Below 256 s → w ≡ givenWidth s → 1 ≤ w → i < 8 → bit ≡ 7 + w + w * i
-    → x₀ ≡ getD s (bit / 8) 0 → x₁ ≡ getD s (bit / 8 + w) 0 → x₂ ≡ getD s (bit / 8 + 2 * w) 0 → x₃ ≡ getD s (bit / 8 + 3 * w) 0
-    → let top : ℕ → ℕ = λ j. getD (groupCodes 32 s) j 0 / 2 ^ (w - 1) in
-    bitOr (bitOr x₀ x₁) (bitOr x₂ x₃) / 2 ^ (bit % 8) % 2 ≡ max (max (top i) (top (i + 8))) (max (top (i + 16)) (top (i + 24)))
-top-four s i w bit x₀ x₁ x₂ x₃ bytes is pos there at e₀ e₁ e₂ e₃ =
-    let p : ℕ = bit % 8 in
-    let one : ℕ → ℕ = λ x. x / 2 ^ p % 2 in
-    or-bit (bitOr x₀ x₁) (bitOr x₂ x₃) p
-    ∙ ap₂ max
-    (or-bit x₀ x₁ p
-    ∙ ap₂ max (ap one e₀ ∙ sym (top-bit s 32 i w bit bytes is pos (omega arith) at))
-    (ap one e₁ ∙ sym (apart s 32 i w bit 8 w bytes is pos (omega arith) at (omega arith))))
-    (or-bit x₂ x₃ p
-    ∙ ap₂ max (ap one e₂ ∙ sym (apart s 32 i w bit 16 (2 * w) bytes is pos (omega arith) at (omega arith)))
-    (ap one e₃ ∙ sym (apart s 32 i w bit 24 (3 * w) bytes is pos (omega arith) at (omega arith))))
+  -- where eight bytes hold a code: the OR of the words, shifted and masked once
+  pub four-loaded : bit % 8 + w ≤ 64 → x₀ ≡ number 256 (take 8 (drop (bit / 8) s)) → x₁ ≡ number 256 (take 8 (drop (bit / 8 + w) s))
+      → x₂ ≡ number 256 (take 8 (drop (bit / 8 + 2 * w) s)) → x₃ ≡ number 256 (take 8 (drop (bit / 8 + 3 * w) s))
+      → Joined (bitAnd (bitOr (bitOr x₀ x₁) (bitOr x₂ x₃) / 2 ^ (bit % 8)) ((2 ^ 64 - 1) / 2 ^ (64 - w)))
+  four-loaded fits e₀ e₁ e₂ e₃ =
+      let skip : ℕ = bit % 8 in
+      let near : skip < 8 = mod-lt bit (zero-lt-suc 7) in
+      masked (bitOr (bitOr x₀ x₁) (bitOr x₂ x₃) / 2 ^ skip) w 64 most
+      ∙ or-field (bitOr x₀ x₁) (bitOr x₂ x₃) skip w
+      ∙ ap₂ bitOr
+      (or-field x₀ x₁ skip w
+      ∙ ap₂ bitOr (code-loaded s 32 w bytes is i (bit / 8) skip x₀ (omega arith) most near fits (omega (arith, mul-comm w i)) e₀)
+      (code-loaded s 32 w bytes is (i + 8) (bit / 8 + w) skip x₁ (omega arith) most near fits (omega (arith, place 8)) e₁))
+      (or-field x₂ x₃ skip w
+      ∙ ap₂ bitOr (code-loaded s 32 w bytes is (i + 16) (bit / 8 + 2 * w) skip x₂ (omega arith) most near fits (omega (arith, place 16)) e₂)
+      (code-loaded s 32 w bytes is (i + 24) (bit / 8 + 3 * w) skip x₃ (omega arith) most near fits (omega (arith, place 24)) e₃))
 
 -- what holds of four indices that are eight apart, from each of the first eight on, holds of the first 32
 abbrev pub Four : (ℕ → Type 0) → ℕ → Type 0

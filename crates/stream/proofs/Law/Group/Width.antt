@@ -1,18 +1,18 @@
 -- The width by the OR of the codes: the bit length of an OR is the larger of the two lengths, and leading zeros give it.
 -- Assumes nothing.
-use mathlib.Core.Path.{_≡_, sym, ap, _∙_, subst}
+use mathlib.Core.Path.{_≡_, sym, ap, ap₂, _∙_, subst}
 use mathlib.Core.List.{List, [], _∷_, _++_}
-use Prim.Native.Nat.{ℕ, zero, suc, _+_, _-_, _/_, _%_, _^_, _≤_, _<_, max}
-use native.Mathlib.Nat.{le-antisymm, le-max-left, le-max-right, max-le, lt-of-le-of-lt, lt-of-lt-of-le, lt-of-not-le, le-of-suc-le-suc, two-pow-succ, mod-lt, one-mul, le-of-eq, div-lt-iff-lt-mul, le-div-iff-mul-le}
+use Prim.Native.Nat.{ℕ, suc, _-_, _^_, _≤_, _<_, max}
+use native.Mathlib.Nat.{le-antisymm, le-max-left, le-max-right, max-le, lt-of-le-of-lt, lt-of-lt-of-le, lt-of-not-le, le-of-suc-le-suc, two-pow-succ}
 use native.Mathlib.Omega.{arith}
 use lib.Bits.{bitOr, or-comm, or-lt, or-add-and, and-le-r}
 use lib.Count.{leadingZeros, leading-length}
 use lib.Ieee.{size}
 use lib.Ieee.Digits.{size-lt, size-le}
-use lib.Dec.{eqb}
-use lib.Pow.{pow-mono, pow-pos, field}
-use borrow.Author.Tests.{eq-eqb, ne-eqb}
+use lib.ListN.{getD}
+use lib.Pow.{pow-mono}
 use Rattle.stream.specs.Group.{largest, widthOf}
+use Rattle.stream.proofs.Law.Group.RoundTrip.{largest-at}
 
 size-mono : (a b : ℕ) → a ≤ b → size a ≤ size b
 size-mono a b h = size-le a (size b) (lt-of-le-of-lt h (size-lt b))
@@ -40,11 +40,20 @@ unfolding largest
 largest-snoc [] c = omega arith
 largest-snoc (x ∷ xs) c = omega (arith, largest-snoc xs c)
 
+-- no code is wider than all of them
+pub size-at : (cs : List ℕ) (i : ℕ) → size (getD cs i 0) ≤ widthOf cs
+unfolding widthOf
+size-at cs i = size-mono (getD cs i 0) (largest cs) (largest-at cs i)
+
 -- one code more
 pub or-width : (all c : ℕ) (xs : List ℕ) → size all ≡ widthOf xs → size (bitOr all c) ≡ widthOf (xs ++ (c ∷ []))
 unfolding widthOf
 or-width all c xs e =
     size-or all c ∙ ap (λ (m : ℕ). max m (size c)) e ∙ sym (size-max (largest xs) c) ∙ ap size (sym (largest-snoc xs c))
+
+-- the OR of four
+pub size-four : (a b c d : ℕ) → size (bitOr (bitOr a b) (bitOr c d)) ≡ max (max (size a) (size b)) (max (size c) (size d))
+size-four a b c d = size-or (bitOr a b) (bitOr c d) ∙ ap₂ max (size-or a b) (size-or c d)
 
 -- "Width less leading zeros"
 pub size-leading : (k a : ℕ) → a < 2 ^ k → k - leadingZeros k a ≡ size a
@@ -53,24 +62,3 @@ size-leading k a h =
     let least : l .0 ≤ size a =
     le-of-suc-le-suc (lt-of-not-le (λ (g : suc (size a) ≤ l .0). omega (arith, pow-mono g, l .3, size-lt a, two-pow-succ (size a)))) in
     omega (arith, size-le a (l .0) (l .2), l .1)
-
--- the lowest bits of a number, up to the place b, are as wide as they can be where the bit at b is set
-pub full-width : (x b : ℕ) → eqb (size (x % 2 ^ (1 + b))) (b + 1) ≡ eqb (x / 2 ^ b % 2) 1
-full-width x b = go (x / 2 ^ b % 2) (field x 1 b) (mod-lt (x / 2 ^ b) (pow-pos 1))
-  where
-    low : ℕ
-    low = x % 2 ^ (1 + b)
-
-    most : size low ≤ 1 + b
-    most = size-le low (1 + b) (mod-lt x (pow-pos (1 + b)))
-
-    go : (t : ℕ) → low / 2 ^ b ≡ t → t < 2 → eqb (size low) (b + 1) ≡ eqb t 1
-    go zero e h =
-        let none : low / 2 ^ b < 1 = omega arith in
-        let small : low < 2 ^ b = rw one-mul at (div-lt-iff-lt-mul (pow-pos b) .0 none) in
-        ne-eqb (size low) (b + 1) (λ (q : size low ≡ b + 1). omega (arith, size-le low b small))
-    go (suc zero) e h =
-        let high : 2 ^ b ≤ low = rw one-mul at (le-div-iff-mul-le (pow-pos b) .0 (le-of-eq (sym e))) in
-        eq-eqb (size low) (b + 1)
-        (let above : b < size low = lt-of-not-le (λ (g : size low ≤ b). omega (arith, pow-mono g, size-lt low)) in omega (arith, most, above))
-    go (suc (suc t)) e h = absurd (omega arith)
