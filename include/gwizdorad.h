@@ -24,8 +24,10 @@
  *   may be: behind `pattern` and `code`, one element is lent.
  * - Pointers to uint32_t and uint64_t are aligned as C has it. Bytes may lie anywhere.
  *
- * Any content is safe to lend. Bytes that break a rule of the format get a refusal before a value is written, never a
- * fault. A cut file (any proper beginning of a stream that is accepted) always gets one: 5, 8 or 9.
+ * Any content is safe to lend. Bytes that break a rule of the format get a refusal, never a fault: from check and
+ * unpack, and from probe where the rule is of the header, the tables or the value's own chunk. A cut file (a proper
+ * beginning of a stream that some reader accepts) is accepted by none, at any level; the call that accepts the whole
+ * refuses it by 5, 8 or 9.
  *
  *
  * WHAT IS NOT SEEN
@@ -93,13 +95,13 @@ enum gwz_kind {
 
 enum gwz_limit {
     GWZ_MOST_VALUES = 1048576, /* in one stream: examples/large_field.c has a way to pack more */
-    GWZ_HEADER_BYTES = 48      /* the length of a stream of no values */
+    GWZ_HEADER_BYTES = 48      /* what gwz_pack writes for no values */
 };
 
 /*
- * The bytes of the longest possible stream of n values (at most GWZ_MOST_VALUES) of a width, 32 or 64: header,
- * chunk table, a width byte for each group of 32, and the values. A constant where n is one, so it can be the
- * length of an array. It mentions n more than once.
+ * The most bytes that gwz_pack writes for n values (at most GWZ_MOST_VALUES) of a width, 32 or 64: header, chunk
+ * table, a width byte for each group of 32, and the values. (A stream to which side parts were added may be longer.)
+ * A constant where n is one, so it can be the length of an array. It mentions n more than once.
  */
 #define GWZ_LONGEST_STREAM(width, n)                                                         \
     (48u + 4u * (((size_t)(n) + 1023u) / 1024u) + ((size_t)(n) + 31u) / 32u + (size_t)(n) * ((size_t)(width) / 8u))

@@ -9,6 +9,7 @@ use lib.IntN.{ℤ}
 use lib.ListN.{length, drop, getD}
 use lib.Seq.{drop-at}
 use Rattle.numbers.specs.Answers.{codeAnswer, patternAnswer}
+use Rattle.numbers.specs.Bound.{boundAnswer}
 use Rattle.blocks.specs.Bytes.{Below}
 use Rattle.blocks.proofs.Law.Truth.{le-or-lt}
 use Rattle.stream.specs.Setting.{knownLevel, knownWidth, settingOf, need, groupSize}
@@ -26,7 +27,7 @@ use Rattle.gwizdorad_numbers.proofs.Theorems.{a-refused-code-is-not-written, a-
 use Rattle.gwizdorad.specs.Result.{probeOut32, probeOut64}
 use Rattle.gwizdorad.specs.Demands.{Demand1, ComesBack, Packed, Demand2, Offered, ReadBack, given-back, too-new, Demand3}
 use Rattle.gwizdorad.proofs.Theorems.{probe32-leaves-what-unpack-leaves, probe64-leaves-what-unpack-leaves}
-use Rattle.gwizdorad.proofs.Law.Demand.{unknown-width, lossless-at, within-at, bound-at, offered, is-sent, as-many, come-back}
+use Rattle.gwizdorad.proofs.Law.Demand.{coded-at, code-refused, pattern-refused, pattern-above, bound-detail, unknown-width, lossless-at, within-at, bound-at, offered, is-sent, as-many, come-back}
 
 pub demand-1 : Demand1
 unfolding probeOut32 probeOut64
@@ -40,9 +41,9 @@ demand-1 =
       unpack = λ W L s out number detail. (refused-unpack W L s (length out) number detail, refused-untouched W L s out number detail);
       probe32 = λ L s i old number detail. (refused-probe32 L s i number detail, λ e. ap (λ (a : Probe32). probeOut32 a old) e);
       probe64 = λ L s i old number detail. (refused-probe64 L s i number detail, λ e. ap (λ (a : Probe64). probeOut64 a old) e);
-      bound = unknown-width;
-      code = λ W m k p old refused. a-refused-code-is-not-written (codeAnswer W m k p) old refused;
-      pattern = λ W m k c old refused. a-refused-pattern-is-not-written (patternAnswer W m k c) old refused;
+      bound = λ W t. (unknown-width W t, bound-detail (boundAnswer W t));
+      code = λ W m k p old. (code-refused W m k p, a-refused-code-is-not-written (codeAnswer W m k p) old);
+      pattern = λ W m k c old. (pattern-refused W m k c, pattern-above W m k c, a-refused-pattern-is-not-written (patternAnswer W m k c) old);
     }
 
 -- what is unpacked of a packed stream
@@ -67,6 +68,7 @@ demand-2 =
       probe64 = λ L s back n i old bytes done below.
           (probe-as-unpack64 L s back n i done below, probe64-leaves-what-unpack-leaves L s bytes back n i old done below);
       lossless = λ W p. lossless-at p W;
+      coded = coded-at;
       within = within-at;
       bound = λ W t. bound-at t W;
     }

@@ -1,6 +1,7 @@
 -- The three demands, to be read aloud. proofs/Demands.antt proves them: `demand-1 : Demand1`, `demand-2 : Demand2`, `demand-3 : Demand3`.
 -- They speak of what the operations answer and leave: `packAnswer` and `packOut` of specs/Operations.antt in the crate `stream`, and their
--- like. The promise of each operation is an equation with these; C gets the answer as one number, of which nothing is cut (`Spelled`).
+-- like. The promise of each operation is an equation with these; C gets the answer as one number, of which nothing is cut (`Spelled`, and `Uncut`
+-- for probe and the number rules), and a pattern or a code in what it lent.
 -- W is a width, 32 or 64; vs a list of values, patterns of W bits; s any bytes; `level` is the writer's level and L the reader's.
 use mathlib.Core.Path.{_≡_}
 use mathlib.Core.Logic.{_↔_}
@@ -8,13 +9,13 @@ use mathlib.Core.Bool.{true, false, cond}
 use mathlib.Core.List.{List, [], _∷_, _++_}
 use Prim.Native.Nat.{ℕ, _+_, _*_, _/_, _^_, _≤_, _<_}
 use lib.Dec.{eqb}
-use lib.IntN.{ℤ}
+use lib.IntN.{ℤ, pos}
 use lib.Ieee.{Format, binary32, binary64}
 use lib.ListN.{length, take, drop, getD, replicate}
-use Rattle.bins.specs.Tolerance.{binOf}
+use Rattle.bins.specs.Tolerance.{allowedK, binOf, toleranceCode, largestU}
 use Rattle.numbers.specs.Lossless.{losslessCode, losslessRestored}
 use Rattle.numbers.specs.Answers.{codeAnswer, codeNumber, patternAnswer, patternNumber}
-use Rattle.numbers.specs.Bound.{boundAnswer}
+use Rattle.numbers.specs.Bound.{boundAnswer, boundNumber, boundDetail}
 use Rattle.numbers.specs.Theorem.{Returned, BoundFor}
 use Rattle.numbers.specs.declared.bound.BoundAnswer.the-variants.{UnknownWidth}
 use Rattle.numbers.specs.declared.tolerance.CodeAnswer.the-variants as code
@@ -66,14 +67,20 @@ pub record Demand1 : Type 0 where
   pub probe64 : (L : ℕ) (s : List ℕ) (i old number detail : ℕ)
       → (probeAnswer64 L s i ≡ p64.Refused number detail ↔ Decides (probeRows 64 L s i) number detail)
       × (probeAnswer64 L s i ≡ p64.Refused number detail → probeOut64 (probeAnswer64 L s i) old ≡ old)
-  -- the number rules: 2 for a width that is not known (12 and 13 are part of demand 2); a code and a pattern, where the number is not 0
-  pub bound : (W t : ℕ) → knownWidth W ≡ false → boundAnswer W t ≡ UnknownWidth
-  pub code : (W m : ℕ) (k : ℤ) (p old : ℕ) → (codeNumber (codeAnswer W m k p) ≡ 0 → ⊥) → codeOut (codeAnswer W m k p) old ≡ old
-  pub pattern : (W m : ℕ) (k : ℤ) (c old : ℕ) → (patternNumber (patternAnswer W m k c) ≡ 0 → ⊥) → patternOut (patternAnswer W m k c) old ≡ old
+  -- the number rules, whose details are 0. "Bound: 2 12 13": 2 for a width that is not known; when 12 and 13 are given is part of demand 2.
+  -- A code and its way back: 2 for a k that is not allowed, then 10 for a u above the largest.
+  pub bound : (W t : ℕ) → (knownWidth W ≡ false → boundAnswer W t ≡ UnknownWidth)
+      × ((boundNumber (boundAnswer W t) ≡ 0 → ⊥) → boundDetail (boundAnswer W t) ≡ pos 0)
+  pub code : (W m : ℕ) (k : ℤ) (p old : ℕ) → (codeAnswer W m k p ≡ code.NotAllowed ↔ allowedK W m k ≡ false)
+      × ((codeNumber (codeAnswer W m k p) ≡ 0 → ⊥) → codeOut (codeAnswer W m k p) old ≡ old)
+  pub pattern : (W m : ℕ) (k : ℤ) (c old : ℕ) → (patternAnswer W m k c ≡ pattern.NotAllowed ↔ allowedK W m k ≡ false)
+      × (patternAnswer W m k c ≡ pattern.AboveLargest ↔ (allowedK W m k ≡ true) × (largestU W m (binOf W m k) < c / 2))
+      × ((patternNumber (patternAnswer W m k c) ≡ 0 → ⊥) → patternOut (patternAnswer W m k c) old ≡ old)
 
 -- ---- Demand 2: "Codes and streams are those of IEEE 754, the published SLEEK rules and document 01. Lossless packing restores every bit
 -- pattern. Under tolerance 2^k, a value whose magnitude is below the threshold returns at most 2^k off, exactly; all else returns bit for bit,
--- infinities and not-a-numbers too."
+-- infinities and not-a-numbers too." (That the codes are SLEEK's is computed, on its Table II and on the values that document 01 marks:
+-- `sleek-known`, `marked-values`. Where SLEEK and document 01 differ, document 01 holds.)
 
 -- "IEEE 754 decides what a bit pattern means": the format of a width
 unfoldable pub formatOf : ℕ → Format
@@ -105,13 +112,14 @@ pub record Demand2 : Type 0 where
   pub values : (W level mode : ℕ) (k : ℤ) (vs s : List ℕ) → knownWidth W ≡ true → Below (2 ^ W) vs → Packed W level mode k vs s
       → (L n : ℕ) (back : List ℕ) → unpackAnswer W L s (length back) ≡ Done n
       → (n ≡ length vs) × ((i : ℕ) → i < n → ComesBack W mode k (getD vs i 0) (getD (unpackOut W L s back) i 0))
-  -- of any bytes, probe shows the value that unpack leaves, and its pattern is the one that is written
+  -- of any bytes that unpack accepts, probe shows the value that unpack leaves, and writes its pattern
   pub probe32 : (L : ℕ) (s back : List ℕ) (n i old : ℕ) → Below 256 s → unpackAnswer 32 L s (length back) ≡ Done n → i < n
       → (probeAnswer32 L s i ≡ shown32 (getD (unpackOut 32 L s back) i 0)) × (probeOut32 (probeAnswer32 L s i) old ≡ getD (unpackOut 32 L s back) i 0)
   pub probe64 : (L : ℕ) (s back : List ℕ) (n i old : ℕ) → Below 256 s → unpackAnswer 64 L s (length back) ≡ Done n → i < n
       → (probeAnswer64 L s i ≡ shown64 (getD (unpackOut 64 L s back) i 0)) × (probeOut64 (probeAnswer64 L s i) old ≡ getD (unpackOut 64 L s back) i 0)
   -- the number rules alone: a pattern, its code, and the pattern that the code restores; and the k of a tolerance
   pub lossless : (W p : ℕ) → knownWidth W ≡ true → p < 2 ^ W → losslessRestored W (fractionBits W) (losslessCode W (fractionBits W) p) ≡ p
+  pub coded : (W m : ℕ) (k : ℤ) (p : ℕ) → allowedK W m k ≡ true → codeAnswer W m k p ≡ code.Code (toleranceCode W m (binOf W m k) p)
   pub within : (W : ℕ) (k : ℤ) (p c : ℕ) → knownWidth W ≡ true → p < 2 ^ W → codeAnswer W (fractionBits W) k p ≡ code.Code c
       → (q : ℕ) × (patternAnswer W (fractionBits W) k c ≡ pattern.Pattern q) × Returned (formatOf W) (binOf W (fractionBits W) k) p q
   pub bound : (W t : ℕ) → knownWidth W ≡ true → BoundFor W (fractionBits W) t (boundAnswer W t)

@@ -1,20 +1,22 @@
 -- What the demands ask beyond the theorems of the crates below: the tolerance by the width, and the values of a packed stream.
-use mathlib.Core.Path.{_≡_, sym, ap, subst, _∙_}
-use mathlib.Core.Logic.{_⊎_, inl, inr}
-use mathlib.Core.Bool.{true, false}
+use mathlib.Core.Path.{_≡_, refl, sym, ap, subst, _∙_}
+use mathlib.Core.Logic.{_⊎_, inl, inr, _↔_}
+use mathlib.Core.Bool.{Bool, true, false}
 use mathlib.Core.List.{List}
-use Prim.Native.Nat.{ℕ, _+_, _*_, _^_, _<_}
+use Prim.Native.Nat.{ℕ, _+_, _*_, _/_, _^_, _<_}
 use native.Mathlib.Nat.{lt-of-le-of-lt}
-use borrow.Author.Tests.{leb-true, eqb-true}
+use native.Mathlib.Omega.{arith}
+use borrow.Author.Tests.{leb-true, leb-false, lt-leb, eqb-true}
 use lib.Dec.{leb, eqb, lit<}
-use lib.IntN.{ℤ}
+use lib.IntN.{ℤ, pos}
 use lib.ListN.{length, take, getD}
-use Rattle.bins.specs.Tolerance.{allowedK, binOf}
+use Rattle.bins.specs.Tolerance.{allowedK, binOf, toleranceCode, toleranceRestored, largestU}
 use Rattle.numbers.specs.Lossless.{losslessCode, losslessRestored}
 use Rattle.numbers.specs.Answers.{codeAnswer, patternAnswer}
-use Rattle.numbers.specs.Bound.{boundAnswer}
+use Rattle.numbers.specs.Bound.{boundAnswer, boundNumber, boundDetail}
 use Rattle.numbers.specs.Theorem.{Format, Within, Returned, BoundFor}
-use Rattle.numbers.specs.declared.bound.BoundAnswer.the-variants.{UnknownWidth}
+use Rattle.numbers.specs.declared.bound.BoundAnswer.{BoundAnswer}
+use Rattle.numbers.specs.declared.bound.BoundAnswer.the-variants.{Exponent, UnknownWidth, NoTolerance, TooSmall}
 use Rattle.numbers.specs.declared.tolerance.CodeAnswer.the-variants as code
 use Rattle.numbers.specs.declared.tolerance.PatternAnswer.the-variants as pattern
 use Rattle.numbers.proofs.Theorems.{format-32, format-64, every-pattern-is-restored, a-coded-k-is-allowed, an-allowed-k-has-a-bin, a-code-is-restored, binary32-returned, binary64-returned, bound-for-binary32, bound-for-binary64}
@@ -71,6 +73,50 @@ within-at W k p c width h e =
     let allowed = a-coded-k-is-allowed W (fractionBits W) (format-at W width) k p c e in
     let r = a-code-is-restored W (fractionBits W) (format-at W width) k allowed p c h e in
     (r .0, r .1, returned k p (r .0) W width allowed (r .2))
+
+-- when the number rules refuse
+module _ (W m : ℕ) (k : ℤ) where
+  pub coded-at : (p : ℕ) → allowedK W m k ≡ true → codeAnswer W m k p ≡ code.Code (toleranceCode W m (binOf W m k) p)
+  unfolding codeAnswer
+  coded-at p e = rw e
+
+  pub code-refused : (p : ℕ) → codeAnswer W m k p ≡ code.NotAllowed ↔ allowedK W m k ≡ false
+  unfolding codeAnswer
+  code-refused p = (λ e. go (allowedK W m k) refl e, λ e. rw e)
+    where
+      go : (b : Bool) → allowedK W m k ≡ b → codeAnswer W m k p ≡ code.NotAllowed → allowedK W m k ≡ false
+      go false is e = is
+      go true is e = let z : code.Code (toleranceCode W m (binOf W m k) p) ≡ code.NotAllowed = rw is at e in cc
+
+  pub pattern-refused : (c : ℕ) → patternAnswer W m k c ≡ pattern.NotAllowed ↔ allowedK W m k ≡ false
+  unfolding patternAnswer
+  pattern-refused c = (λ e. go (allowedK W m k) refl (leb (c / 2) (largestU W m (binOf W m k))) refl e, λ e. rw e)
+    where
+      go : (b : Bool) → allowedK W m k ≡ b → (l : Bool) → leb (c / 2) (largestU W m (binOf W m k)) ≡ l → patternAnswer W m k c ≡ pattern.NotAllowed
+          → allowedK W m k ≡ false
+      go false is l least e = is
+      go true is true least e = let z : pattern.Pattern (toleranceRestored W m (binOf W m k) c) ≡ pattern.NotAllowed = rw (is, least) at e in cc
+      go true is false least e = let z : pattern.AboveLargest ≡ pattern.NotAllowed = rw (is, least) at e in cc
+
+  pub pattern-above : (c : ℕ) → patternAnswer W m k c ≡ pattern.AboveLargest ↔ (allowedK W m k ≡ true) × (largestU W m (binOf W m k) < c / 2)
+  unfolding patternAnswer
+  pattern-above c = (λ e. go (allowedK W m k) refl (leb (c / 2) (largestU W m (binOf W m k))) refl e, λ e. rw (e .0, lt-leb (c / 2) (largestU W m (binOf W m k)) (e .1)))
+    where
+      go : (b : Bool) → allowedK W m k ≡ b → (l : Bool) → leb (c / 2) (largestU W m (binOf W m k)) ≡ l → patternAnswer W m k c ≡ pattern.AboveLargest
+          → (allowedK W m k ≡ true) × (largestU W m (binOf W m k) < c / 2)
+      go false is l least e = let z : pattern.NotAllowed ≡ pattern.AboveLargest = rw is at e in absurd (let n : _≡_ {A = ℕ} 0 1 = cc in omega (arith, n))
+      go true is true least e =
+          let z : pattern.Pattern (toleranceRestored W m (binOf W m k) c) ≡ pattern.AboveLargest = rw (is, least) at e in
+          absurd (let n : _≡_ {A = ℕ} 0 1 = cc in omega (arith, n))
+      go true is false least e = (is, leb-false (c / 2) (largestU W m (binOf W m k)) least)
+
+-- bound's details are 0
+pub bound-detail : (a : BoundAnswer) → (boundNumber a ≡ 0 → ⊥) → boundDetail a ≡ pos 0
+unfolding boundNumber boundDetail
+bound-detail (Exponent k) refused = absurd (refused refl)
+bound-detail UnknownWidth refused = refl
+bound-detail NoTolerance refused = refl
+bound-detail TooSmall refused = refl
 
 -- a width that is not known
 pub unknown-width : (W t : ℕ) → knownWidth W ≡ false → boundAnswer W t ≡ UnknownWidth
