@@ -21,7 +21,7 @@ use Rattle.stream.proofs.Readers.{probe-as-unpack32, probe-as-unpack64}
 use Rattle.stream.proofs.Fitting.{check-fits, unpack-fits, unpacked-value-fits, probe-fits32, probed-value-fits32, probe-fits64, probed-value-fits64, length-fits, pack-fits}
 use Rattle.gwizdorad_numbers.specs.Theorem.{Uncut}
 use Rattle.gwizdorad_numbers.proofs.Theorems.{a-result-tells-both}
-use Rattle.gwizdorad.specs.Result.{answerResult, probeKind32, probeResult32, probeOut32, probeKind64, probeResult64, probeOut64}
+use Rattle.gwizdorad.specs.Result.{answerResult, probeDetail32, probeResult32, probeOut32, probeDetail64, probeResult64, probeOut64}
 use Rattle.gwizdorad.specs.Theorem.{Spelled}
 use Rattle.gwizdorad.proofs.Law.Spelled.{answer-spelled, answer-told, probe-spelled32, probe-spelled64}
 use Rattle.gwizdorad.proofs.Law.Pattern.{pattern-left32, pattern-left64}
@@ -36,13 +36,13 @@ module _ (level : ℕ) (s : List ℕ) (bytes : Below 256 s) where
   pub unpack-is-spelled : (W room : ℕ) → Spelled (unpackAnswer W level s room)
   unpack-is-spelled W room = answer-spelled (unpackAnswer W level s room) (unpack-fits level s bytes W room)
 
-  pub probe32-is-uncut : (i : ℕ) → let a = probeAnswer32 level s i in Uncut (probeNumber32 a) (probeKind32 a) (probeResult32 a)
+  pub probe32-is-uncut : (i : ℕ) → let a = probeAnswer32 level s i in Uncut (probeNumber32 a) (probeDetail32 a) (probeResult32 a)
   probe32-is-uncut i = probe-spelled32 (probeAnswer32 level s i) (probe-fits32 level s bytes i)
 
   pub a-refused-probe32-is-numbered : (i number detail : ℕ) → probeAnswer32 level s i ≡ p32.Refused number detail → 0 < number
   a-refused-probe32-is-numbered i number detail e = probe-fits32 level s bytes i number detail e .some
 
-  pub probe64-is-uncut : (i : ℕ) → let a = probeAnswer64 level s i in Uncut (probeNumber64 a) (probeKind64 a) (probeResult64 a)
+  pub probe64-is-uncut : (i : ℕ) → let a = probeAnswer64 level s i in Uncut (probeNumber64 a) (probeDetail64 a) (probeResult64 a)
   probe64-is-uncut i = probe-spelled64 (probeAnswer64 level s i) (probe-fits64 level s bytes i)
 
   pub a-refused-probe64-is-numbered : (i number detail : ℕ) → probeAnswer64 level s i ≡ p64.Refused number detail → 0 < number

@@ -21,14 +21,14 @@ answerResult a = result (answerNumber a) (answerDetail a)
 unfoldable pub infinity32 : Bool → ℕ
 infinity32 negative = cond negative 0xFF800000 0x7F800000
 
-unfoldable pub probeKind32 : Probe32 → ℕ
-probeKind32 (p32.Finite x) = 0
-probeKind32 (p32.Infinity negative) = 1
-probeKind32 (p32.NotANumber p) = 2
-probeKind32 (p32.Refused number detail) = detail
+unfoldable pub probeDetail32 : Probe32 → ℕ
+probeDetail32 (p32.Finite x) = 0
+probeDetail32 (p32.Infinity negative) = 1
+probeDetail32 (p32.NotANumber p) = 2
+probeDetail32 (p32.Refused number detail) = detail
 
 unfoldable pub probeResult32 : Probe32 → ℕ
-probeResult32 a = result (probeNumber32 a) (probeKind32 a)
+probeResult32 a = result (probeNumber32 a) (probeDetail32 a)
 
 unfoldable pub probeOut32 : Probe32 → ℕ → ℕ
 probeOut32 (p32.Finite x) old = toBits binary32 x
@@ -39,14 +39,14 @@ probeOut32 (p32.Refused number detail) old = old
 unfoldable pub infinity64 : Bool → ℕ
 infinity64 negative = cond negative 0xFFF0000000000000 0x7FF0000000000000
 
-unfoldable pub probeKind64 : Probe64 → ℕ
-probeKind64 (p64.Finite x) = 0
-probeKind64 (p64.Infinity negative) = 1
-probeKind64 (p64.NotANumber p) = 2
-probeKind64 (p64.Refused number detail) = detail
+unfoldable pub probeDetail64 : Probe64 → ℕ
+probeDetail64 (p64.Finite x) = 0
+probeDetail64 (p64.Infinity negative) = 1
+probeDetail64 (p64.NotANumber p) = 2
+probeDetail64 (p64.Refused number detail) = detail
 
 unfoldable pub probeResult64 : Probe64 → ℕ
-probeResult64 a = result (probeNumber64 a) (probeKind64 a)
+probeResult64 a = result (probeNumber64 a) (probeDetail64 a)
 
 unfoldable pub probeOut64 : Probe64 → ℕ → ℕ
 probeOut64 (p64.Finite x) old = toBits binary64 x

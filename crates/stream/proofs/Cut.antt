@@ -12,13 +12,13 @@ use Rattle.stream.specs.Stream.{valueAt}
 use Rattle.stream.specs.Rows.{first, answer, after}
 use Rattle.stream.specs.Probe.{shown32, shown64, probed32, probed64}
 use Rattle.stream.specs.Operations.{checkRows, checkAnswer, unpackRows, unpackAnswer, unpackOut, probeRows, probeAnswer32, probeAnswer64}
-use Rattle.stream.specs.Theorem.{cutNumber, Accepts, by-check, by-unpack, by-probe32, by-probe64}
+use Rattle.stream.specs.Theorem.{cutNumber, cutAnswer, Accepts, by-check, by-unpack, by-probe32, by-probe64}
 use Rattle.stream.specs.declared.answers.Answer.the-variants.{Done, Refused}
 use Rattle.stream.specs.declared.answers.Probe32.the-variants as p32
 use Rattle.stream.specs.declared.answers.Probe64.the-variants as p64
 use Rattle.blocks.proofs.Law.Truth.{le-or-lt}
 use Rattle.stream.proofs.Law.Rows.Passed.{Opening, Tables, checking, unpacking, probing}
-use Rattle.stream.proofs.Law.Values.Cut.{check-cut, unpack-cut, probe-cut, no-cut}
+use Rattle.stream.proofs.Law.Values.Cut.{check-cut, unpack-cut, probe-cut, no-cut, check-cut-at, check-added, unpack-added, probe-added}
 use Rattle.stream.proofs.Law.Values.ThreeReaders.{done-pass, shown-pass32, shown-pass64}
 
 -- ---- what a reader that accepts s answers of its first c bytes: 5, 8 or 9, by where the cut is
@@ -49,6 +49,35 @@ module _ (level : ℕ) (s : List ℕ) (c : ℕ) (cut : c < length s) where
   cut-probe64 i p e =
       let b = probing 64 level s i (shown-pass64 (first (probeRows 64 level s i)) (valueAt s i) p e) in
       rw (probe-cut s c cut level (b .opening) (b .tables) 64 (b .width) i (b .index))
+
+-- ---- and of s with something behind it: 9
+
+module _ (level : ℕ) (s more : List ℕ) (some : more ≡ [] → ⊥) where
+  pub added-check : (n : ℕ) → checkAnswer level s ≡ Done n → checkAnswer level (s ++ more) ≡ Refused 9 0
+  unfolding checkAnswer answer
+  added-check n e =
+      let a = checking level s (done-pass (first (checkRows level s)) (headerOf s .count) n e .0) in
+      rw (check-added s more some level (a .0) (a .1))
+
+  pub added-unpack : (W : ℕ) (out : List ℕ) (n : ℕ) → unpackAnswer W level s (length out) ≡ Done n
+      → (unpackAnswer W level (s ++ more) (length out) ≡ Refused 9 0) × (unpackOut W level (s ++ more) out ≡ out)
+  unfolding unpackAnswer unpackOut answer after
+  added-unpack W out n e =
+      let u = unpacking W level s (length out) (done-pass (first (unpackRows W level s (length out))) (headerOf s .count) n e .0) in
+      let stops = unpack-added s more some level (u .opening) (u .tables) W (u .width) (length out) (u .enough) in
+      (rw stops, rw stops)
+
+  pub added-probe32 : (i p : ℕ) → probeAnswer32 level s i ≡ shown32 p → probeAnswer32 level (s ++ more) i ≡ p32.Refused 9 0
+  unfolding probeAnswer32 probed32
+  added-probe32 i p e =
+      let b = probing 32 level s i (shown-pass32 (first (probeRows 32 level s i)) (valueAt s i) p e) in
+      rw (probe-added s more some level (b .opening) (b .tables) 32 (b .width) i (b .index))
+
+  pub added-probe64 : (i p : ℕ) → probeAnswer64 level s i ≡ shown64 p → probeAnswer64 level (s ++ more) i ≡ p64.Refused 9 0
+  unfolding probeAnswer64 probed64
+  added-probe64 i p e =
+      let b = probing 64 level s i (shown-pass64 (first (probeRows 64 level s i)) (valueAt s i) p e) in
+      rw (probe-added s more some level (b .opening) (b .tables) 64 (b .width) i (b .index))
 
 -- ---- at any level, by any reader
 
@@ -84,3 +113,8 @@ nothing-is-added level level′ s more part whole =
     empty : (l : List ℕ) → length l ≤ 0 → l ≡ []
     empty [] h = refl
     empty (x ∷ xs) h = absurd (omega arith)
+
+-- What check answers of a cut stream, at any level, whoever accepts the whole.
+pub cut-check-at : (level level′ : ℕ) (s : List ℕ) (c : ℕ) → c < length s → Accepts level s → checkAnswer level′ (take c s) ≡ cutAnswer level′ (headerOf s) c
+unfolding checkAnswer
+cut-check-at level level′ s c cut whole = let a = accepted level s whole in check-cut-at s c cut level level′ (a .0) (a .1)

@@ -1,18 +1,20 @@
 -- The words that the theorems of proofs/Theorems.antt, Readers.antt and Cut.antt are stated in.
 use mathlib.Core.Path.{_≡_}
-use mathlib.Core.Bool.{cond}
+use mathlib.Core.Bool.{cond, not}
 use mathlib.Core.List.{List, [], _∷_, _++_}
 use Prim.Native.Nat.{ℕ, _+_, _-_, _*_, _/_, _^_, _≤_, _<_}
 use lib.Dec.{ltb}
 use lib.ListN.{length, take, drop, getD}
 use Rattle.blocks.specs.Bytes.{Below, digits}
+use Rattle.stream.specs.Setting.{knownLevel}
 use Rattle.stream.specs.Group.{groupBytes}
 use Rattle.stream.specs.Chunk.{chunkBytes, chunkCodes}
 use Rattle.stream.specs.Header.{headerOf}
 use Rattle.stream.specs.Tables.{startAt}
 use Rattle.stream.specs.Probe.{shown32, shown64}
 use Rattle.stream.specs.Operations.{checkAnswer, unpackAnswer, probeAnswer32, probeAnswer64}
-use Rattle.stream.specs.declared.answers.Answer.the-variants.{Done}
+use Rattle.stream.specs.declared.answers.Answer.{Answer}
+use Rattle.stream.specs.declared.answers.Answer.the-variants.{Done, Refused}
 use Rattle.stream.specs.declared.header.Header.{Header}
 
 -- ---- groups and chunks
@@ -67,6 +69,14 @@ pub record InChunk (s : List ℕ) (j p : ℕ) : Type 0 where
 -- the refusal of a stream that is cut to c bytes: its header is cut, or its data, or what stands behind the data
 unfoldable pub cutNumber : Header → ℕ → ℕ
 cutNumber h c = cond (ltb c 48) 5 (cond (ltb c (h .end)) 8 9)
+
+-- what check answers of it at any level
+unfoldable pub cutAnswer : ℕ → Header → ℕ → Answer
+cutAnswer level h c =
+    cond (not (knownLevel level)) (Refused 1 0)
+    (cond (ltb c 48) (Refused 5 0)
+    (cond (ltb level (h .needed)) (Refused 7 (h .needed))
+    (Refused (cutNumber h c) 0)))
 
 -- some reader accepts the bytes s at a level: check, unpack of a width into some room, or probe of some index, which then shows a pattern
 pub data Accepts (level : ℕ) (s : List ℕ) : Type 0 where

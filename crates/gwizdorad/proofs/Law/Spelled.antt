@@ -14,7 +14,7 @@ use Rattle.stream.specs.declared.answers.Probe64.the-variants as p64
 use Rattle.stream.proofs.Fitting.{Refusal, Fits}
 use Rattle.gwizdorad_numbers.specs.Theorem.{Uncut}
 use Rattle.gwizdorad_numbers.proofs.Theorems.{two-that-fit-are-uncut}
-use Rattle.gwizdorad.specs.Result.{answerResult, probeKind32, probeResult32, probeKind64, probeResult64}
+use Rattle.gwizdorad.specs.Result.{answerResult, probeDetail32, probeResult32, probeDetail64, probeResult64}
 use Rattle.gwizdorad.specs.Theorem.{Spelled}
 
 pub answer-spelled : (a : Answer) → Fits a → Spelled a
@@ -39,16 +39,16 @@ answer-told (Refused x y) (Done n) s t number detail = absurd (omega (arith, s .
 answer-told (Refused x y) (Refused z w) s t number detail = ap₂ Refused number detail
 
 pub probe-spelled32 : (a : Probe32) → ((number detail : ℕ) → a ≡ p32.Refused number detail → Refusal number detail)
-    → Uncut (probeNumber32 a) (probeKind32 a) (probeResult32 a)
-unfolding probeResult32 probeNumber32 probeKind32
+    → Uncut (probeNumber32 a) (probeDetail32 a) (probeResult32 a)
+unfolding probeResult32 probeNumber32 probeDetail32
 probe-spelled32 (p32.Finite x) h = two-that-fit-are-uncut 0 0 (lit< tt) (lit< tt)
 probe-spelled32 (p32.Infinity negative) h = two-that-fit-are-uncut 0 1 (lit< tt) (lit< tt)
 probe-spelled32 (p32.NotANumber p) h = two-that-fit-are-uncut 0 2 (lit< tt) (lit< tt)
 probe-spelled32 (p32.Refused number detail) h = let r = h number detail refl in two-that-fit-are-uncut number detail (r .number-small) (r .detail-small)
 
 pub probe-spelled64 : (a : Probe64) → ((number detail : ℕ) → a ≡ p64.Refused number detail → Refusal number detail)
-    → Uncut (probeNumber64 a) (probeKind64 a) (probeResult64 a)
-unfolding probeResult64 probeNumber64 probeKind64
+    → Uncut (probeNumber64 a) (probeDetail64 a) (probeResult64 a)
+unfolding probeResult64 probeNumber64 probeDetail64
 probe-spelled64 (p64.Finite x) h = two-that-fit-are-uncut 0 0 (lit< tt) (lit< tt)
 probe-spelled64 (p64.Infinity negative) h = two-that-fit-are-uncut 0 1 (lit< tt) (lit< tt)
 probe-spelled64 (p64.NotANumber p) h = two-that-fit-are-uncut 0 2 (lit< tt) (lit< tt)

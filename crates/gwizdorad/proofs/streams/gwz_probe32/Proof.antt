@@ -3,7 +3,7 @@ use mathlib.Core.Path.{_∙_, sym, ap}
 use denote.Ref.{now}
 use Rattle.stream.specs.declared.answers.Probe32.{Probe32}
 use Rattle.stream.specs.Probe.{probeNumber32}
-use Rattle.gwizdorad.specs.Result.{probeKind32, probeResult32, probeOut32}
+use Rattle.gwizdorad.specs.Result.{probeDetail32, probeResult32, probeOut32}
 use Rattle.stream.proofs.Law.Values.ShownNumber.{finite-is-a-number32}
 use borrow.Author.Needs.{needs}
 use Rattle.gwizdorad.proofs.streams.gwz_probe32.Statement.{statement}
@@ -43,19 +43,19 @@ result-of-requires-4 : tie.Need-result-of-requires-4
 result-of-requires-4 c κs = search needs
 
 returns : tie.Need-returns
-unfolding probeResult32 probeNumber32 probeKind32 probeOut32
+unfolding probeResult32 probeNumber32 probeDetail32 probeOut32
 returns c = let e = sym (c .before .before .answer .given .1) ∙ c .before .before .before .before .probe32 .ensures in (c .result-of .ensures ∙ ap probeResult32 e, ap (λ (a : Probe32). probeOut32 a (now (c .before .before .before .before .before .before .args .pattern))) e)
 
 returns-2 : tie.Need-returns-2
-unfolding probeResult32 probeNumber32 probeKind32 probeOut32
+unfolding probeResult32 probeNumber32 probeDetail32 probeOut32
 returns-2 c = let e = sym (c .before .before .before .answer2 .given .1) ∙ c .before .before .before .before .before .probe32 .ensures in (c .result-of2 .ensures ∙ ap probeResult32 e, c .before .infinity32 .ensures ∙ ap (λ (a : Probe32). probeOut32 a (now (c .before .before .before .before .before .before .before .args .pattern))) e)
 
 returns-3 : tie.Need-returns-3
-unfolding probeResult32 probeNumber32 probeKind32 probeOut32
+unfolding probeResult32 probeNumber32 probeDetail32 probeOut32
 returns-3 c = let e = sym (c .before .before .answer3 .given .1) ∙ c .before .before .before .before .probe32 .ensures in (c .result-of3 .ensures ∙ ap probeResult32 e, ap (λ (a : Probe32). probeOut32 a (now (c .before .before .before .before .before .before .args .pattern))) e)
 
 returns-4 : tie.Need-returns-4
-unfolding probeResult32 probeNumber32 probeKind32 probeOut32
+unfolding probeResult32 probeNumber32 probeDetail32 probeOut32
 returns-4 c = let e = sym (c .before .before .answer4 .given .1) ∙ c .before .before .before .before .probe32 .ensures in (c .result-of4 .ensures ∙ ap probeResult32 e, ap (λ (a : Probe32). probeOut32 a (now (c .before .before .before .before .before .before .args .pattern))) e)
 
 pub gwz-probe32-spec : {M : Type 1} → statement M

@@ -3,7 +3,7 @@ use mathlib.Core.Path.{_∙_, sym, ap}
 use denote.Ref.{now}
 use Rattle.stream.specs.declared.answers.Probe64.{Probe64}
 use Rattle.stream.specs.Probe.{probeNumber64}
-use Rattle.gwizdorad.specs.Result.{probeKind64, probeResult64, probeOut64}
+use Rattle.gwizdorad.specs.Result.{probeDetail64, probeResult64, probeOut64}
 use Rattle.stream.proofs.Law.Values.ShownNumber.{finite-is-a-number64}
 use borrow.Author.Needs.{needs}
 use Rattle.gwizdorad.proofs.streams.gwz_probe64.Statement.{statement}
@@ -43,19 +43,19 @@ result-of-requires-4 : tie.Need-result-of-requires-4
 result-of-requires-4 c κs = search needs
 
 returns : tie.Need-returns
-unfolding probeResult64 probeNumber64 probeKind64 probeOut64
+unfolding probeResult64 probeNumber64 probeDetail64 probeOut64
 returns c = let e = sym (c .before .before .answer .given .1) ∙ c .before .before .before .before .probe64 .ensures in (c .result-of .ensures ∙ ap probeResult64 e, ap (λ (a : Probe64). probeOut64 a (now (c .before .before .before .before .before .before .args .pattern))) e)
 
 returns-2 : tie.Need-returns-2
-unfolding probeResult64 probeNumber64 probeKind64 probeOut64
+unfolding probeResult64 probeNumber64 probeDetail64 probeOut64
 returns-2 c = let e = sym (c .before .before .before .answer2 .given .1) ∙ c .before .before .before .before .before .probe64 .ensures in (c .result-of2 .ensures ∙ ap probeResult64 e, c .before .infinity64 .ensures ∙ ap (λ (a : Probe64). probeOut64 a (now (c .before .before .before .before .before .before .before .args .pattern))) e)
 
 returns-3 : tie.Need-returns-3
-unfolding probeResult64 probeNumber64 probeKind64 probeOut64
+unfolding probeResult64 probeNumber64 probeDetail64 probeOut64
 returns-3 c = let e = sym (c .before .before .answer3 .given .1) ∙ c .before .before .before .before .probe64 .ensures in (c .result-of3 .ensures ∙ ap probeResult64 e, ap (λ (a : Probe64). probeOut64 a (now (c .before .before .before .before .before .before .args .pattern))) e)
 
 returns-4 : tie.Need-returns-4
-unfolding probeResult64 probeNumber64 probeKind64 probeOut64
+unfolding probeResult64 probeNumber64 probeDetail64 probeOut64
 returns-4 c = let e = sym (c .before .before .answer4 .given .1) ∙ c .before .before .before .before .probe64 .ensures in (c .result-of4 .ensures ∙ ap probeResult64 e, ap (λ (a : Probe64). probeOut64 a (now (c .before .before .before .before .before .before .args .pattern))) e)
 
 pub gwz-probe64-spec : {M : Type 1} → statement M
