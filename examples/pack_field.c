@@ -26,7 +26,7 @@ static void *allocated(size_t bytes)
     return memory;
 }
 
-/* A refused call has written nothing, so there is nothing to undo: say what was refused, and stop. */
+/* A refused call leaves all as it was, so there is nothing to undo: say what was refused, and stop. */
 static uint64_t not_refused(const char *call, uint64_t result)
 {
     if (gwz_refusal(result) != GWZ_DONE) {

@@ -3,8 +3,8 @@
  *
  * A field is a list of bit patterns (IEEE 754). Packed, it is a stream of bytes: lossless, or within a
  * tolerance 2^k that is kept exactly. docs/FORMAT.md has every byte of the stream, examples/pack_field.c is
- * a program to copy from. The number rules, the results and the refusals stand in gwizdorad_numbers.h, which this includes. Installed by
- * `./install PREFIX` it is linked by
+ * a program to copy from. The number rules, the results and the refusals stand in gwizdorad_numbers.h, which
+ * this includes. Installed by `./install PREFIX` it is linked by
  *
  *     cc -std=c99 $(pkg-config --cflags gwizdorad) yours.c $(pkg-config --libs gwizdorad)
  *
@@ -48,7 +48,7 @@
  *     else
  *         length = gwz_answer(result);
  *
- * A REFUSED CALL WRITES NOTHING: every lent element is as it was. Where several refusals apply, the one given
+ * A REFUSED CALL LEAVES ALL AS IT WAS: every lent element. Where several refusals apply, the one given
  * is the first in the order that stands with the operation.
  *
  *

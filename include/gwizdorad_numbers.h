@@ -1,28 +1,30 @@
 /*
- * Gwizdorad's number rules for C and C++, alone: the codes of a binary32 or binary64 number, lossless or within a tolerance 2^k that is kept
- * exactly, value by value, for a solver that has no stream. gwizdorad.h includes this, and adds the streams.
+ * Gwizdorad's number rules for C and C++, alone: the codes of a binary32 or binary64 number, lossless or within
+ * a tolerance 2^k that is kept exactly, value by value, for a solver that has no stream. gwizdorad.h includes
+ * this, and adds the streams.
  *
  *     cc -std=c99 $(pkg-config --cflags gwizdorad_numbers) yours.c $(pkg-config --libs gwizdorad_numbers)
  *
- * The archive libgwizdorad_numbers.a has no code of the streams. libgwizdorad.a has the very same objects in it, so a program may link both,
- * in either order.
+ * The archive libgwizdorad_numbers.a has no code of the streams. libgwizdorad.a has the very same objects in it,
+ * so a program may link both, in either order.
  *
- * Values go in and out as bit patterns (memcpy takes a float or a double to its pattern and back). A function that can refuse answers one 64-bit
- * result: a refusal number above 32 bits of detail, or 0 above 32 bits of answer. gwz_refusal, gwz_detail, gwz_answer and gwz_exponent take it
- * apart. A refused call writes nothing.
+ * Values go in and out as bit patterns (memcpy takes a float or a double to its pattern and back). A function that
+ * can refuse answers one 64-bit result: a refusal number above 32 bits of detail, or 0 above 32 bits of answer.
+ * gwz_refusal, gwz_detail, gwz_answer and gwz_exponent take it apart. A refused call leaves what it was lent as it
+ * was.
  *
  *
  * WHAT IS PROVED
  *
- * Every function of the archives is proved but the helpers, which are plain C: those marked GWZ_HELPER here and in gwizdorad.h, and gwz_version,
- * gwz_format_major and gwz_highest_level. None of them reads or writes anything that is lent.
+ * Every function of the archives is proved but a few in plain C: the helpers, which are marked GWZ_HELPER here and
+ * in gwizdorad.h, and gwz_version, gwz_format_major and gwz_highest_level. None of them is lent anything.
  *
  *
  * HELPERS FOR OTHER LANGUAGES
  *
- * A function marked GWZ_HELPER is inline in C and C++, and nothing has to be linked for it. The archives and libgwizdorad.so have it as a
- * symbol of the same name too, for languages that read no header, as Fortran (bind(c)) and Python (ctypes). A program of C sees its own
- * inline one, and the two do not clash.
+ * A function marked GWZ_HELPER is inline in C and C++, and nothing has to be linked for it. The archives and
+ * libgwizdorad.so have it as a symbol of the same name too, for languages that read no header, as Fortran (bind(c))
+ * and Python (ctypes). A program of C sees its own inline one, and the two do not clash.
  */
 #ifndef GWIZDORAD_NUMBERS_H
 #define GWIZDORAD_NUMBERS_H
@@ -30,7 +32,10 @@
 #include <stddef.h>
 #include <stdint.h>
 
-/* Of the header; gwz_version has that of the library that is linked. Until 1.0.0 a signature may change where the second number does. */
+/*
+ * Of the header; gwz_version has that of the library that is linked. Until 1.0.0 a signature may change where the
+ * second number does.
+ */
 #define GWZ_VERSION_MAJOR 0
 #define GWZ_VERSION_MINOR 7
 #define GWZ_VERSION_PATCH 0

@@ -19,8 +19,7 @@ GROUP = 32                                    # codes in a group
 HEADER_BYTES = 48
 ENTRY_BYTES = 12                              # one entry of the side table
 
-# The twelve numbers of the header, in order. The page gives no name to the
-# numbers at 32 and 36; here they are table_at and data_at.
+# The twelve numbers of the header, in order.
 Header = namedtuple("Header", "major written needed width mode k n c table_at data_at s end")
 
 

@@ -73,7 +73,7 @@ probe-order W level s i = ap (λ (l : List ℕ). 1 ∷ 5 ∷ 6 ∷ 7 ∷ 8 ∷ 1
 
 -- ---- unpack's output
 
--- A refused unpack has written nothing.
+-- A refused unpack leaves its output as it was.
 pub refused-untouched : (W level : ℕ) (s out : List ℕ) (number detail : ℕ)
     → unpackAnswer W level s (length out) ≡ Refused number detail → unpackOut W level s out ≡ out
 unfolding unpackAnswer unpackOut after

@@ -38,7 +38,7 @@ use Rattle.stream.proofs.Law.ReadBack.Readers.{plain-sent, bytes-sent, 
 use Rattle.stream.proofs.Law.Setting.Allowed.{made-allowed, storable}
 use Rattle.stream.proofs.Law.ReadBack.Values.{lossless-back, tolerance-back, special-back}
 
--- Demand 1: a refused pack has written nothing.
+-- Demand 1: a refused pack leaves its output as it was.
 pub refused-pack-untouched : (W level mode : ℕ) (k : ℤ) (vs out : List ℕ) (number detail : ℕ)
     → packAnswer W level mode k vs (length out) ≡ Refused number detail → packOut W level mode k vs out ≡ out
 unfolding packAnswer packOut after

@@ -197,6 +197,10 @@ module _ (s : List ℕ) (c : ℕ) (cut : c < length s) where
 
 -- ---- a stream behind which something stands
 
+pub nothing : (l : List ℕ) → length l ≡ 0 → l ≡ []
+nothing [] e = refl
+nothing (x ∷ l) e = absurd (omega arith)
+
 module _ (s more : List ℕ) (some : more ≡ [] → ⊥) (level : ℕ) (o : Opening level s) (t : Tables (headerOf s) s) where
   abbrev longer : List ℕ
   longer = s ++ more
@@ -221,10 +225,6 @@ module _ (s more : List ℕ) (some : more ≡ [] → ⊥) (level : ℕ) (o : Ope
       leb-true (h .end + 12 * h .sides) (length s)
       (and-left (leb (h .end + 12 * h .sides) (length s)) (every (entryRight h s) (h .sides) 0)
       (and-left (leb (h .end + 12 * h .sides) (length s) && every (entryRight h s) (h .sides) 0) (eqb (partAt h s (h .sides)) (length s)) (t .sides)))
-
-  nothing : (l : List ℕ) → length l ≡ 0 → l ≡ []
-  nothing [] e = refl
-  nothing (x ∷ l) e = absurd (omega arith)
 
   side-table-added : sideTableRight (headerOf s) longer ≡ false
   side-table-added = other-length (headerOf s) s longer (length s) front-kept table-within (t .sides) (λ e. some (nothing more (omega (arith, e, added-length))))
