@@ -1,0 +1,334 @@
+#!/usr/bin/env python3
+"""The program that wrote the kept streams, through the library.
+
+    tests/ages/keep.py FOLDER COMMAND...         COMMAND starts the library behind a pipe (tests/caller)
+
+It writes each stream that is not in the folder, and never one that is: what was written once is at sea. Where a stream
+is there with other bytes than are written now, it says so and ends with status 1. A landing adds its streams here,
+under names of their own, and calls tests/ages/keep.
+
+A name has the width and the setting, then what was packed and the level that wrote it, and last what was added or
+edited; or `bad` and how the stream was damaged, where 1-2 is group 2 of chunk 1. A damaged stream is made from that of
+the lowest level that writes the setting.
+"""
+
+import pathlib
+import sys
+
+TESTS = pathlib.Path(__file__).resolve().parent.parent
+sys.path += [str(TESTS / "caller"), str(TESTS / "format")]
+import reader  # noqa: E402  its folder has to be named first
+from caller import Caller  # noqa: E402
+
+# Width, mode, k, and the levels that write it.
+SETTINGS = [(32, 0, 0, (8, 9, 10)), (32, 1, -8, (9, 10)), (64, 0, 0, (10,)), (64, 1, -8, (10,))]
+LIMITS = [(32, 1, -150, 9), (32, 1, 103, 9), (64, 1, -1075, 10), (64, 1, 970, 10)]
+
+# The places of the header's numbers.
+MAJOR, WRITTEN, NEEDED, WIDTH, MODE, K, COUNT, CHUNKS, TABLE, START, SIDES, END = range(0, 48, 4)
+
+
+# ---- what is packed: patterns, by whole numbers alone
+
+LONG = 1099     # two chunks, and 11 values in the last group: bits are left over behind them unless 8 divides w
+COLUMNS = 44
+
+
+def water(width, i):
+    """A water level between 1.6 and 1.7 m, smooth along the rows; at width 64 with fraction bits below those of 32."""
+    row, column = divmod(i, COLUMNS)
+    fraction = 0x500000 + 9000 * row - 61 * column * (COLUMNS - column)
+    return 0x3F800000 + fraction if width == 32 else (0x3FF << 52) + (fraction << 29) + i * i * 7919 % 2**29
+
+
+def parts_of(width):
+    """The patterns of the smallest normal number and of infinity, and the sign."""
+    unit, sign = 1 << reader.FRACTION_BITS[width], 1 << (width - 1)
+    return unit, sign - unit, sign
+
+
+def dry(width, i):
+    """A not-a-number: with either sign, quiet or not, with no payload, a small one and the largest."""
+    unit, infinity, sign = parts_of(width)
+    quiet = infinity + unit // 2
+    return [quiet, infinity + 1, sign + quiet, sign - 1, 2 * sign - 1, quiet + 77, sign + infinity + 9][i % 7]
+
+
+def special(width):
+    """Infinities, zeros, the smallest and the largest numbers of a kind; half a bin and the threshold of k = -8, where
+    the tolerance code changes, and what is just below them: all with both signs. And dry cells."""
+    unit, infinity, sign = parts_of(width)
+    one = infinity // unit // 2 * unit
+    half_bin, threshold = one - 8 * unit, one + (reader.FRACTION_BITS[width] - 7) * unit
+    unsigned = [infinity, 0, 1, 2, unit - 1, unit, infinity - 1, half_bin - 1, half_bin, threshold - 1, threshold]
+    return [pattern + each for pattern in unsigned for each in (sign, 0)] + [dry(width, i) for i in range(7)]
+
+
+def field(width):
+    """Water around an island of dry cells, with one in the very middle, and special values in two places."""
+    values = [water(width, i) for i in range(LONG)]
+    for i in range(LONG):
+        if 10 <= i // COLUMNS < 15 and 18 <= i % COLUMNS < 26:
+            values[i] = dry(width, i)
+    specials = special(width)
+    values[128:128 + len(specials)] = specials
+    values[-len(specials):] = specials[::-1]
+    return values
+
+
+def calm(width):
+    """As long, and nearly all 0, so that its damaged streams are short: water in some groups, in one a dry cell too."""
+    values = [water(width, i) if i // 32 in (0, 3, 5, 7, 31, 32, 34) else 0 for i in range(LONG)]
+    values[7 * 32 + 9] = dry(width, 0)
+    return values
+
+
+def thirty_three(width):
+    """A full group with a dry cell in its middle, and one of a single value."""
+    return [dry(width, 1) if i == 16 else water(width, i) for i in range(33)]
+
+
+def widths(width, mode, k):
+    """A group for each width byte that the setting can have."""
+    largest = 2**width - 1 if mode == 0 else 2 * reader.largest_u(width, k) + 1
+    codes = [min(2**w - 1, largest) >> i % (w + 1) for w in range(largest.bit_length() + 1) for i in range(32)]
+    return [reader.restored(width, mode, k, code) for code in codes]
+
+
+# ---- edits
+
+def number_at(data, at):
+    return int.from_bytes(data[at:at + 4], "little")
+
+
+def spelled(*numbers):
+    return b"".join((number % 2**32).to_bytes(4, "little") for number in numbers)
+
+
+def with_number(data, at, number):
+    return data[:at] + spelled(number) + data[at + 4:]
+
+
+def with_byte(data, at, byte):
+    return data[:at] + bytes([byte]) + data[at + 1:]
+
+
+def with_sides(data, parts):
+    """Side parts, each an id and its bytes, behind a stream that has none."""
+    place, table = len(data) + 12 * len(parts), b""
+    for part_id, part in parts:
+        table += spelled(part_id, place, len(part))
+        place += len(part)
+    return with_number(data, SIDES, len(parts)) + table + b"".join(part for _, part in parts)
+
+
+def chunk_at(data, chunk):
+    """Where a chunk starts; behind the last, where the data ends."""
+    if chunk == number_at(data, CHUNKS):
+        return number_at(data, END)
+    return number_at(data, START) + number_at(data, number_at(data, TABLE) + 4 * chunk)
+
+
+def with_bytes(data, chunk, start, end, new):
+    """Other bytes from start to end in a chunk; the chunk table and the end of the data say where all is now."""
+    longer = len(new) - (end - start)
+    data = data[:start] + new + data[end:]
+    for at in [48 + 4 * after for after in range(chunk + 1, number_at(data, CHUNKS))] + [END]:
+        data = with_number(data, at, number_at(data, at) + longer)
+    return data
+
+
+def group_of(data, chunk, group):
+    """Where a group starts and ends, and its width byte and codes. The groups before it in the chunk are full."""
+    at = chunk_at(data, chunk)
+    for _ in range(group):
+        at += 1 + 4 * data[at]
+    w, count = data[at], min(32, number_at(data, COUNT) - 1024 * chunk - 32 * group)
+    end = at + 1 + (w * count + 7) // 8
+    bits = int.from_bytes(data[at + 1:end], "little")
+    return at, end, w, [bits >> i * w & (1 << w) - 1 for i in range(count)]
+
+
+def with_group(data, chunk, group, w, codes):
+    """A group with these codes, of w bits each, in the place of the one that is there."""
+    start, end, _, _ = group_of(data, chunk, group)
+    bits = sum(code << i * w for i, code in enumerate(codes))
+    return with_bytes(data, chunk, start, end, bytes([w]) + bits.to_bytes((w * len(codes) + 7) // 8, "little"))
+
+
+# ---- the streams: a name and bytes each
+
+def setting_name(width, mode, k):
+    return f"{width}-lossless" if mode == 0 else f"{width}-within-k{k}"
+
+
+def packed(library, width, mode, k, level, values):
+    number, detail, data = library.pack(width, level, mode, k, values, 2**16)
+    if number != 0:
+        sys.exit(f"keep.py: {setting_name(width, mode, k)} by {level} was refused by {number}, detail {detail}")
+    return data
+
+
+def written(library):
+    """What each level writes of each of its settings."""
+    for width, mode, k, levels in SETTINGS:
+        name = setting_name(width, mode, k)
+        lists = {"empty": [], "one": [water(width, 0)], "33": thirty_three(width), "field": field(width)}
+        for level in levels:
+            for what, values in lists.items():
+                yield f"{name}-{what}-by-{level}", packed(library, width, mode, k, level, values)
+        for what, values in (("calm", calm(width)), ("widths", widths(width, mode, k))):
+            yield f"{name}-{what}-by-{levels[0]}", packed(library, width, mode, k, levels[0], values)
+    yield "32-lossless-1048576-by-8", packed(library, 32, 0, 0, 8, [0] * 1048576)
+    for width, mode, k, level in LIMITS:
+        yield f"{setting_name(width, mode, k)}-field-by-{level}", packed(library, width, mode, k, level, field(width))
+
+
+TWO_SIDES = [(1, b"Gdynia"), (9, b"")]
+MANY_SIDES = [(5 * i, bytes(i % 3)) for i in range(63)] + [(2**32 - 1, b"last")]
+
+
+def edited(streams):
+    """What a reader has to take besides: side parts, and a writer of a later level."""
+    for name in ("32-lossless-33-by-8", "32-within-k-8-calm-by-9", "64-lossless-33-by-10", "64-within-k-8-empty-by-10"):
+        yield f"{name}-2-sides", with_sides(streams[name], TWO_SIDES)
+    yield "32-lossless-33-by-8-64-sides", with_sides(streams["32-lossless-33-by-8"], MANY_SIDES)
+    yield "32-lossless-33-by-8-written-4294967295", with_number(streams["32-lossless-33-by-8"], WRITTEN, 2**32 - 1)
+    yield "64-within-k-8-33-by-10-written-11", with_number(streams["64-within-k-8-33-by-10"], WRITTEN, 11)
+
+
+def later(streams):
+    """What levels to come may write, as far as it concerns the levels of today: it needs more than each of them."""
+    data = with_number(with_number(streams["32-lossless-33-by-8"], WRITTEN, 11), NEEDED, 11)
+    yield "32-lossless-33-need-11", data
+    yield "32-lossless-33-need-11-cut-to-48", data[:48]
+    yield "32-lossless-33-need-11-width-16-mode-2", with_number(with_number(data, WIDTH, 16), MODE, 2)
+    yield "64-lossless-33-need-4294967295", with_number(streams["64-lossless-33-by-10"], NEEDED, 2**32 - 1)
+
+
+# Numbers of the header that are not those of the setting, or not those of 33 values.
+BAD_NUMBERS = {
+    (32, 0): [("major-0", MAJOR, 0), ("major-2", MAJOR, 2), ("written-7", WRITTEN, 7), ("need-7", NEEDED, 7),
+              ("width-33", WIDTH, 33), ("mode-2", MODE, 2), ("k1", K, 1), ("n-0", COUNT, 0), ("n-32", COUNT, 32),
+              ("n-34", COUNT, 34), ("n-1048577", COUNT, 1048577), ("c-2", CHUNKS, 2), ("table-52", TABLE, 52),
+              ("start-56", START, 56), ("65-sides", SIDES, 65), ("end-51", END, 51),
+              ("end-4294967295", END, 2**32 - 1)],
+    (32, 1): [("need-8", NEEDED, 8), ("mode-0", MODE, 0), ("k104", K, 104), ("k-151", K, -151)],
+    (64, 0): [("need-9", NEEDED, 9), ("width-32", WIDTH, 32), ("k-1", K, -1)],
+    (64, 1): [("need-9", NEEDED, 9), ("width-32", WIDTH, 32), ("k971", K, 971), ("k-1076", K, -1076)],
+}
+
+
+def bad_setting(width, mode, data):
+    """Of 33 values in any setting."""
+    yield "cut-to-100", data[:100]
+    yield "cut-last-byte", data[:-1]
+    yield "added-byte", data + bytes(1)
+    for what, place, number in BAD_NUMBERS[width, mode]:
+        yield f"header-{what}", with_number(data, place, number)
+
+
+def bad_groups(width, mode, k, data):
+    """Every rule of a group broken, of the calm field: the bytes of all other groups are as they were."""
+    _, _, _, codes = group_of(data, 0, 0)
+    yield "w-too-large-in-0-0", with_group(data, 0, 0, width + 1, [codes[0] | 1 << width] + codes[1:])
+    start, end, _, _ = group_of(data, 1, 2)
+    yield "w-255-in-1-2", with_byte(data, start, 255)
+    yield "padding-bit-in-1-2", with_byte(data, end - 1, data[end - 1] | 128)
+    yield "missing-group-1-2", with_bytes(data, 1, start, end, b"")
+    for group in (1, 5):
+        _, _, w, codes = group_of(data, 0, group)
+        yield f"w-not-smallest-in-0-{group}", with_group(data, 0, group, w + 1, codes)
+    if mode == 1:
+        _, _, w, codes = group_of(data, 0, 7)
+        yield "u-too-large-in-0-7", with_group(data, 0, 7, w, [2 * (reader.largest_u(width, k) + 1)] + codes[1:])
+
+
+def bad_chunks(width, data):
+    """Bytes of a chunk left over or missing, and more than one bad group, of the calm field."""
+    for chunk in (0, 1):
+        end = chunk_at(data, chunk + 1)
+        yield f"byte-left-over-in-{chunk}", with_bytes(data, chunk, end, end, bytes(1))
+        yield f"byte-missing-in-{chunk}", with_bytes(data, chunk, end - 1, end, b"")
+    for chunk, group in ((0, 5), (1, 0)):
+        at = group_of(data, chunk, group)[0]
+        yield f"groups-0-3-and-{chunk}-{group}", with_byte(with_byte(data, group_of(data, 0, 3)[0], 255), at, width + 1)
+
+
+def bad_tables(data):
+    """Of the calm field, in which chunk 1 starts at the place that the table has at 52."""
+    length, second = number_at(data, END) - number_at(data, START), number_at(data, 52)
+    for what, place, number in (("first-start-1", 48, 1), ("second-start-0", 52, 0), ("second-start-past", 52, length),
+                                ("second-start-early", 52, second - 1), ("second-start-late", 52, second + 1)):
+        yield f"table-{what}", with_number(data, place, number)
+
+
+def bad_sides(data):
+    """Of two side parts."""
+    end = number_at(data, END)
+    place = number_at(data, end + 4)
+    yield "sides-cut-off", data[:end]
+    yield "sides-cut-in-table", data[:end + 20]
+    yield "sides-cut-in-part", data[:-1]
+    yield "sides-added-byte", data + bytes(1)
+    yield "sides-1-of-2", with_number(data, SIDES, 1)
+    for what, at, number in (("equal-ids", 12, 1), ("falling-ids", 12, 0), ("first-place", 4, place + 1),
+                             ("second-place", 16, place), ("first-length", 8, 5), ("second-length", 20, 1)):
+        yield f"sides-{what}", with_number(data, end + at, number)
+    # Places and lengths that would be right, were sums taken modulo 2^32.
+    first, second = spelled(1, place, -2), spelled(9, place - 2, len(data) - place + 2)
+    yield "sides-sums-wrap", data[:end] + first + second + data[end + 24:]
+
+
+def too_many():
+    """A value more than a stream takes, and no other rule of the header or the tables broken: a byte for each chunk."""
+    return spelled(1, 8, 8, 32, 0, 0, 1048577, 1025, 48, 48 + 4 * 1025, 0, 48 + 5 * 1025, *range(1025)) + bytes(1025)
+
+
+def bad_others(streams):
+    """Of width 32, lossless."""
+    data = streams["32-lossless-33-by-8"]
+    for length in (0, 47, 48, 50):
+        yield f"cut-to-{length}", data[:length]
+    yield "header-need-9", with_number(streams["32-lossless-33-by-9"], NEEDED, 9)
+    yield "header-n-1048577-c-1025", too_many()
+    yield "table-chunk-without-data", with_number(data[:52], END, 52)
+    yield "table-data-without-chunk", with_number(streams["32-lossless-empty-by-8"], END, 49) + bytes(1)
+
+
+def damaged(streams):
+    for width, mode, k, levels in SETTINGS:
+        name = setting_name(width, mode, k)
+        calm_data = streams[f"{name}-calm-by-{levels[0]}"]
+        bads = [bad_setting(width, mode, streams[f"{name}-33-by-{levels[0]}"]), bad_groups(width, mode, k, calm_data),
+                bad_chunks(width, calm_data)]
+        if (width, mode) == (32, 0):
+            bads += [bad_tables(streams["32-lossless-calm-by-8"]), bad_sides(streams["32-lossless-33-by-8-2-sides"]),
+                     bad_others(streams)]
+        yield from ((f"{name}-bad-{what}", data) for bad in bads for what, data in bad)
+
+
+# ---- keeping
+
+def keep(path, data):
+    """Whether the stream is kept now. It is written where there is none of its name."""
+    if not path.exists():
+        path.write_bytes(data)
+    elif path.read_bytes() != data:
+        print(f"keep.py: {path.stem} is kept with other bytes than are written now; it is left as it is")
+        return False
+    return True
+
+
+def main():
+    folder, streams, status = pathlib.Path(sys.argv[1]), {}, 0
+    with Caller(sys.argv[2:]) as library:
+        for some in (written(library), edited(streams), later(streams), damaged(streams)):
+            for name, data in some:
+                streams[name] = data
+                status |= not keep(folder / f"{name}.gwz", data)
+    sys.exit(status)
+
+
+if __name__ == "__main__":
+    main()
