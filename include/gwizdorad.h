@@ -168,6 +168,25 @@ uint64_t gwz_unpack64(uint32_t level, const uint8_t *bytes, size_t len, uint64_t
 uint64_t gwz_probe32(uint32_t level, const uint8_t *bytes, size_t len, uint64_t index, uint32_t *pattern);
 uint64_t gwz_probe64(uint32_t level, const uint8_t *bytes, size_t len, uint64_t index, uint64_t *pattern);
 
+/* ---- Where a stream is bad */
+
+/*
+ * The detail of refusal 10, GWZ_BROKEN_CHUNK, of gwz_check, gwz_unpack and gwz_probe taken apart: the first bad chunk (of
+ * gwz_probe, the value's own chunk) and its first bad group, both counted from 0. A chunk has 1,024 values and a group 32 (the
+ * last of each what is left), so the chunk's values have the indices from 1024 * chunk on, and the group's those from
+ * 1024 * chunk + 32 * group on. Bytes that are left over behind a chunk's last group count for that group. Every chunk before
+ * the first bad one is good, and gwz_probe reads it; what comes after it is not told.
+ */
+GWZ_HELPER uint32_t gwz_bad_chunk(uint32_t detail)
+{
+    return detail / 32u;
+}
+
+GWZ_HELPER uint32_t gwz_bad_group(uint32_t detail)
+{
+    return detail % 32u;
+}
+
 #ifdef __cplusplus
 }
 #endif

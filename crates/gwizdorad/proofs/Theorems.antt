@@ -3,7 +3,8 @@
 use mathlib.Core.Path.{_≡_, refl, sym, ap, _∙_}
 use mathlib.Core.Bool.{true}
 use mathlib.Core.List.{List}
-use Prim.Native.Nat.{ℕ, _^_, _<_}
+use Prim.Native.Nat.{ℕ, _/_, _%_, _^_, _<_}
+use lib.Dec.{lit<}
 use lib.IntN.{ℤ}
 use lib.ListN.{length, getD}
 use Rattle.blocks.specs.Bytes.{Below}
@@ -17,13 +18,15 @@ use Rattle.stream.specs.declared.answers.Probe32.{Probe32}
 use Rattle.stream.specs.declared.answers.Probe32.the-variants as p32
 use Rattle.stream.specs.declared.answers.Probe64.{Probe64}
 use Rattle.stream.specs.declared.answers.Probe64.the-variants as p64
+use Rattle.stream.specs.Theorem.{BadGroup, Fault}
 use Rattle.stream.proofs.Readers.{probe-as-unpack32, probe-as-unpack64}
+use Rattle.stream.proofs.Place.{check-names-the-place, unpack-names-the-place, probe-names-the-place32, probe-names-the-place64}
 use Rattle.stream.proofs.Fitting.{check-fits, unpack-fits, unpacked-value-fits, probe-fits32, probed-value-fits32, probe-fits64, probed-value-fits64, length-fits, pack-fits}
 use Rattle.gwizdorad_numbers.specs.Theorem.{Uncut}
 use Rattle.gwizdorad_numbers.proofs.Theorems.{a-result-tells-both}
 use Rattle.gwizdorad.specs.Result.{answerResult, probeDetail32, probeResult32, probeOut32, probeDetail64, probeResult64, probeOut64}
 use Rattle.gwizdorad.specs.Theorem.{Spelled}
-use Rattle.gwizdorad.proofs.Law.Spelled.{answer-spelled, answer-told, probe-spelled32, probe-spelled64}
+use Rattle.gwizdorad.proofs.Law.Spelled.{answer-spelled, answer-told, refused-so, probe-spelled32, probe-refused-so32, probe-spelled64, probe-refused-so64}
 use Rattle.gwizdorad.proofs.Law.Pattern.{pattern-left32, pattern-left64}
 
 -- ---- nothing is cut: a number, and the detail or the answer beside it, have 32 bits each, whatever bytes and patterns are lent; and a
@@ -126,3 +129,26 @@ a-refused-probe64-leaves-the-pattern (p64.Finite x) old refused = absurd (refuse
 a-refused-probe64-leaves-the-pattern (p64.Infinity negative) old refused = absurd (refused refl)
 a-refused-probe64-leaves-the-pattern (p64.NotANumber p) old refused = absurd (refused refl)
 a-refused-probe64-leaves-the-pattern (p64.Refused number detail) old refused = refl
+
+-- ---- where a stream is bad. A result r has the refusal r / 2^32 and the detail r % 2^32 (gwz_refusal, gwz_detail); where the refusal is 10,
+-- detail / 32 is the first bad chunk and detail % 32 its first bad group (gwz_bad_chunk, gwz_bad_group).
+
+module _ (level : ℕ) (s : List ℕ) (bytes : Below 256 s) where
+  pub check-tells-the-place : let r = answerResult (checkAnswer level s) in r / 2 ^ 32 ≡ 10 → Fault s (r % 2 ^ 32 / 32) (r % 2 ^ 32 % 32)
+  check-tells-the-place ten =
+      check-names-the-place level s (answerResult (checkAnswer level s) % 2 ^ 32) (refused-so (checkAnswer level s) 10 (check-is-spelled level s bytes) (lit< tt) ten)
+
+  pub unpack-tells-the-place : (W room : ℕ) → let r = answerResult (unpackAnswer W level s room) in r / 2 ^ 32 ≡ 10 → Fault s (r % 2 ^ 32 / 32) (r % 2 ^ 32 % 32)
+  unpack-tells-the-place W room ten =
+      unpack-names-the-place level s (answerResult (unpackAnswer W level s room) % 2 ^ 32) W room (refused-so (unpackAnswer W level s room) 10 (unpack-is-spelled level s bytes W room) (lit< tt) ten)
+
+  -- probe's own chunk
+  pub probe32-tells-the-place : (i : ℕ) → let r = probeResult32 (probeAnswer32 level s i) in r / 2 ^ 32 ≡ 10
+      → (r % 2 ^ 32 / 32 ≡ i / 1024) × BadGroup s (r % 2 ^ 32 / 32) (r % 2 ^ 32 % 32)
+  probe32-tells-the-place i ten =
+      probe-names-the-place32 level s (probeResult32 (probeAnswer32 level s i) % 2 ^ 32) i (probe-refused-so32 (probeAnswer32 level s i) 10 (probe32-is-uncut level s bytes i) (lit< tt) ten)
+
+  pub probe64-tells-the-place : (i : ℕ) → let r = probeResult64 (probeAnswer64 level s i) in r / 2 ^ 32 ≡ 10
+      → (r % 2 ^ 32 / 32 ≡ i / 1024) × BadGroup s (r % 2 ^ 32 / 32) (r % 2 ^ 32 % 32)
+  probe64-tells-the-place i ten =
+      probe-names-the-place64 level s (probeResult64 (probeAnswer64 level s i) % 2 ^ 32) i (probe-refused-so64 (probeAnswer64 level s i) 10 (probe64-is-uncut level s bytes i) (lit< tt) ten)

@@ -1,5 +1,5 @@
 -- Document 01, "Order": each operation's rows, its answer, and what its lent output holds afterwards. These are the promises.
-use Prim.Native.Nat.{ℕ, _/_}
+use Prim.Native.Nat.{ℕ, _+_, _*_, _/_}
 use mathlib.Core.Bool.{true, false, _&&_, _||_, not}
 use mathlib.Core.List.{List, [], _∷_, _++_}
 use lib.Dec.{ltb, eqb}
@@ -38,9 +38,9 @@ openingRows level s =
 unfoldable pub tableRows : Header → List ℕ → List Row
 tableRows h s = row 9 (not (chunkTableRight h s && sideTableRight h s)) 0 ∷ []
 
--- the detail of refusal 10, for a bad group of a chunk: "first such chunk", whichever group it is
+-- Document 02, R-1, the detail of refusal 10: "chunk·32 + group, the first bad group"
 unfoldable pub faultDetail : ℕ → ℕ → ℕ
-faultDetail chunk group = chunk
+faultDetail chunk group = chunk * 32 + group
 
 unfoldable pub faultRow : ℕ → ChunkAnswer → Row
 faultRow j Good = row 10 false 0

@@ -1,20 +1,23 @@
 -- The words that the theorems of proofs/Theorems.antt, Readers.antt and Cut.antt are stated in.
 use mathlib.Core.Path.{_≡_}
-use mathlib.Core.Bool.{cond, not}
+use mathlib.Core.Logic.{_⊎_}
+use mathlib.Core.Bool.{Bool, true, false, cond, not}
 use mathlib.Core.List.{List, [], _∷_, _++_}
-use Prim.Native.Nat.{ℕ, _+_, _-_, _*_, _/_, _^_, _≤_, _<_}
+use Prim.Native.Nat.{ℕ, zero, suc, _+_, _-_, _*_, _/_, _^_, _≤_, _<_, min}
 use lib.Dec.{ltb}
 use lib.ListN.{length, take, drop, getD}
 use Rattle.blocks.specs.Bytes.{Below, digits}
-use Rattle.stream.specs.Setting.{knownLevel}
-use Rattle.stream.specs.Group.{groupBytes}
-use Rattle.stream.specs.Chunk.{chunkBytes, chunkCodes}
-use Rattle.stream.specs.Header.{headerOf}
+use Rattle.stream.specs.Setting.{knownLevel, groupSize, limitOf}
+use Rattle.stream.specs.Group.{groupBytes, groupLength, goodGroup}
+use Rattle.stream.specs.Chunk.{groupsIn, chunkBytes, chunkCodes}
+use Rattle.stream.specs.Header.{headerOf, settingIn}
 use Rattle.stream.specs.Tables.{startAt}
+use Rattle.stream.specs.Stream.{countOf, chunkOf, chunkState}
 use Rattle.stream.specs.Probe.{shown32, shown64}
 use Rattle.stream.specs.Operations.{checkAnswer, unpackAnswer, probeAnswer32, probeAnswer64}
 use Rattle.stream.specs.declared.answers.Answer.{Answer}
 use Rattle.stream.specs.declared.answers.Answer.the-variants.{Done, Refused}
+use Rattle.stream.specs.declared.chunk.ChunkAnswer.the-variants.{Good}
 use Rattle.stream.specs.declared.header.Header.{Header}
 
 -- ---- groups and chunks
@@ -43,7 +46,36 @@ pub record Canonical (size W U n : ℕ) (s : List ℕ) : Type 0 where
   pub below : Below (2 ^ W) (chunkCodes size n s)
   pub limited : Limited U (chunkCodes size n s)
 
+-- ---- bad groups
+
+-- the bytes of a chunk of n values from its group i on
+unfoldable pub fromGroup : ℕ → ℕ → ℕ → List ℕ → List ℕ
+fromGroup size zero n s = s
+fromGroup size (suc i) n s = fromGroup size i (n - size) (drop (groupLength (min size n) s) s)
+
+-- whether the group i of it keeps the rules
+unfoldable pub goodAt : ℕ → ℕ → ℕ → ℕ → List ℕ → ℕ → Bool
+goodAt W U size n s i = goodGroup W U (min size (n - size * i)) (fromGroup size i n s)
+
+-- "the first bad group; bytes left over at a chunk's end count for its last group": the group g of a chunk of n values, with the bytes s
+pub record FirstBad (W U size n : ℕ) (s : List ℕ) (g : ℕ) : Type 0 where
+  pub is-group : g < groupsIn size n
+  pub earlier : (i : ℕ) → i < g → goodAt W U size n s i ≡ true
+  pub bad : (goodAt W U size n s g ≡ false) ⊎ ((suc g ≡ groupsIn size n) × (0 < length (fromGroup size (suc g) n s)))
+
 -- ---- streams
+
+-- the group g is the first bad one of the chunk j
+abbrev pub BadGroup : List ℕ → ℕ → ℕ → Type 0
+BadGroup s j g =
+    let h = headerOf s in
+    FirstBad (h .width) (limitOf (settingIn h)) (groupSize (settingIn h)) (countOf h j) (chunkOf h s j) g
+
+-- the chunk j is the first bad one of a stream, and g its first bad group
+pub record Fault (s : List ℕ) (j g : ℕ) : Type 0 where
+  pub is-chunk : j < headerOf s .chunks
+  pub earlier : (i : ℕ) → i < j → chunkState (headerOf s) s i ≡ Good
+  pub group : BadGroup s j g
 
 -- the bytes of u at the place of the chunk j of s
 unfoldable pub atChunk : List ℕ → ℕ → List ℕ → List ℕ

@@ -73,7 +73,7 @@ pub(crate) fn setting_in(h: Header) -> Setting
     setting::setting_of(h.width, h.mode, header::exponent_of(h))
 }
 
-// 10, for one chunk. The detail is the chunk; its first bad group is found, and not handed on.
+// 10, for one chunk. The detail names the chunk and its first bad group.
 pub(crate) fn chunk_step(h: Header, bytes: &[u8], j: usize) -> Step
     requires { ⌜ Opened (length (now bytes)) h × (chunkTableRight h (now bytes) ≡ true) × (j < h .chunks) ⌝ }
     ensures { λ r. ⌜ r ≡ first (chunkRow h (now (bytes .entry)) j ∷ []) ⌝ }
@@ -83,7 +83,7 @@ pub(crate) fn chunk_step(h: Header, bytes: &[u8], j: usize) -> Step
     let found = chunk::checked(t, part, count_at(h, j));
     match found {
         ChunkAnswer::Good => Step::Pass,
-        ChunkAnswer::Bad(_) => Step::Stop(10, j),
+        ChunkAnswer::Bad(group) => Step::Stop(10, j * 32 + group),
     }
 }
 

@@ -1,6 +1,6 @@
 -- The operations' answers, and probe's kinds, in one number.
-use mathlib.Core.Path.{_≡_, refl, ap, ap₂}
-use Prim.Native.Nat.{ℕ}
+use mathlib.Core.Path.{_≡_, refl, sym, ap, ap₂, _∙_}
+use Prim.Native.Nat.{ℕ, _/_, _%_, _^_, _<_}
 use native.Mathlib.Omega.{arith}
 use lib.Dec.{lit<}
 use Rattle.stream.specs.Rows.{answerNumber, answerDetail}
@@ -13,7 +13,7 @@ use Rattle.stream.specs.declared.answers.Probe64.{Probe64}
 use Rattle.stream.specs.declared.answers.Probe64.the-variants as p64
 use Rattle.stream.proofs.Fitting.{Refusal, Fits}
 use Rattle.gwizdorad_numbers.specs.Theorem.{Uncut}
-use Rattle.gwizdorad_numbers.proofs.Theorems.{two-that-fit-are-uncut}
+use Rattle.gwizdorad_numbers.proofs.Theorems.{two-that-fit-are-uncut, a-result-is-taken-apart}
 use Rattle.gwizdorad.specs.Result.{answerResult, probeDetail32, probeResult32, probeDetail64, probeResult64}
 use Rattle.gwizdorad.specs.Theorem.{Spelled}
 
@@ -53,3 +53,35 @@ probe-spelled64 (p64.Finite x) h = two-that-fit-are-uncut 0 0 (lit< tt) (lit< tt
 probe-spelled64 (p64.Infinity negative) h = two-that-fit-are-uncut 0 1 (lit< tt) (lit< tt)
 probe-spelled64 (p64.NotANumber p) h = two-that-fit-are-uncut 0 2 (lit< tt) (lit< tt)
 probe-spelled64 (p64.Refused number detail) h = let r = h number detail refl in two-that-fit-are-uncut number detail (r .number-small) (r .detail-small)
+
+-- ---- a refusal, from its result: the halves are a number that is not 0, and the detail
+
+refusal-of : (a : Answer) (x y : ℕ) → 0 < x → answerNumber a ≡ x → answerDetail a ≡ y → a ≡ Refused x y
+unfolding answerNumber answerDetail
+refusal-of (Done n) x y some number detail = absurd (omega (arith, number))
+refusal-of (Refused a b) x y some number detail = ap₂ Refused number detail
+
+pub refused-so : (a : Answer) (x : ℕ) → Spelled a → 0 < x → answerResult a / 2 ^ 32 ≡ x → a ≡ Refused x (answerResult a % 2 ^ 32)
+refused-so a x spelled some is = let t = a-result-is-taken-apart (spelled .uncut) in refusal-of a x (answerResult a % 2 ^ 32) some (sym (t .0) ∙ is) (sym (t .1))
+
+probe-refusal-of32 : (a : Probe32) (x y : ℕ) → 0 < x → probeNumber32 a ≡ x → probeDetail32 a ≡ y → a ≡ p32.Refused x y
+unfolding probeNumber32 probeDetail32
+probe-refusal-of32 (p32.Finite v) x y some number detail = absurd (omega (arith, number))
+probe-refusal-of32 (p32.Infinity negative) x y some number detail = absurd (omega (arith, number))
+probe-refusal-of32 (p32.NotANumber p) x y some number detail = absurd (omega (arith, number))
+probe-refusal-of32 (p32.Refused a b) x y some number detail = ap₂ p32.Refused number detail
+
+pub probe-refused-so32 : (a : Probe32) (x : ℕ) → Uncut (probeNumber32 a) (probeDetail32 a) (probeResult32 a) → 0 < x → probeResult32 a / 2 ^ 32 ≡ x
+    → a ≡ p32.Refused x (probeResult32 a % 2 ^ 32)
+probe-refused-so32 a x uncut some is = let t = a-result-is-taken-apart uncut in probe-refusal-of32 a x (probeResult32 a % 2 ^ 32) some (sym (t .0) ∙ is) (sym (t .1))
+
+probe-refusal-of64 : (a : Probe64) (x y : ℕ) → 0 < x → probeNumber64 a ≡ x → probeDetail64 a ≡ y → a ≡ p64.Refused x y
+unfolding probeNumber64 probeDetail64
+probe-refusal-of64 (p64.Finite v) x y some number detail = absurd (omega (arith, number))
+probe-refusal-of64 (p64.Infinity negative) x y some number detail = absurd (omega (arith, number))
+probe-refusal-of64 (p64.NotANumber p) x y some number detail = absurd (omega (arith, number))
+probe-refusal-of64 (p64.Refused a b) x y some number detail = ap₂ p64.Refused number detail
+
+pub probe-refused-so64 : (a : Probe64) (x : ℕ) → Uncut (probeNumber64 a) (probeDetail64 a) (probeResult64 a) → 0 < x → probeResult64 a / 2 ^ 32 ≡ x
+    → a ≡ p64.Refused x (probeResult64 a % 2 ^ 32)
+probe-refused-so64 a x uncut some is = let t = a-result-is-taken-apart uncut in probe-refusal-of64 a x (probeResult64 a % 2 ^ 32) some (sym (t .0) ∙ is) (sym (t .1))

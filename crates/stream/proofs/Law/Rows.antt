@@ -3,11 +3,13 @@
 --   Passed: what is known of a stream that rows have passed
 --   Given: the rows behind the opening, one by one
 --   Chunks: the rows of the tables and the chunks
+--   Place: the chunk and the group that refusal 10 names
 --   Packing: what length and pack answer
 --   Small: numbers, details and answers have 32 bits
 pub mod First
 pub mod Passed
 pub mod Given
 pub mod Chunks
+pub mod Place
 pub mod Packing
 pub mod Small

@@ -9,6 +9,7 @@ use native.Mathlib.Numerals.{add-one}
 use native.Mathlib.Omega.{arith}
 use Rattle.stream.specs.Tables.{every}
 use Rattle.stream.specs.Rows.{Row, rowsFrom, first}
+use Rattle.stream.specs.declared.answers.Step.{Step}
 use Rattle.stream.specs.declared.answers.Step.the-variants.{Pass, Stop}
 use Rattle.stream.proofs.Law.Rows.First.{passed, stopped, passed-both}
 use Rattle.blocks.proofs.Law.Truth.{le-or-lt}
@@ -83,3 +84,29 @@ module _ (f : ℕ → Row) where
       go : (j ≤ i) ⊎ (i < j) → (suc i ≤ j → first (f j ∷ []) ≡ Pass) → first (f j ∷ []) ≡ Pass
       go (inl m) later = ap (λ (j : ℕ). first (f j ∷ [])) (let q : j ≡ i = omega arith in q) ∙ both .0
       go (inr m) later = later m
+
+  -- the row that is found, and none before it
+  pub record FoundRow (number detail k i : ℕ) : Type 0 where
+    pub at : ℕ
+    pub from : i ≤ at
+    pub below : at < i + k
+    pub before : (l : ℕ) → i ≤ l → l < at → first (f l ∷ []) ≡ Pass
+    pub stops : first (f at ∷ []) ≡ Stop number detail
+
+  one-more : (number detail k i : ℕ) → first (f i ∷ []) ≡ Pass → FoundRow number detail k (suc i) → FoundRow number detail (suc k) i
+  one-more number detail k i pass r =
+      record { at = r .at; from = omega (arith, r .from); below = omega (arith, r .below); before = λ l low high. go l low high (le-or-lt l i); stops = r .stops }
+    where
+      go : (l : ℕ) → i ≤ l → l < r .at → (l ≤ i) ⊎ (i < l) → first (f l ∷ []) ≡ Pass
+      go l low high (inl m) = ap (λ (j : ℕ). first (f j ∷ [])) (let q : l ≡ i = omega arith in q) ∙ pass
+      go l low high (inr m) = r .before l m high
+
+  pub rows-found : (number detail k i : ℕ) → first (rowsFrom f k i) ≡ Stop number detail → FoundRow number detail k i
+  unfolding rowsFrom first
+  rows-found number detail zero i e = let z : Pass ≡ Stop number detail = e in absurd (let n : _≡_ {A = ℕ} 0 1 = cc in omega (arith, n))
+  rows-found number detail (suc k) i e = go (first (f i ∷ [])) refl (λ r. rows-found number detail k (suc i) r)
+    where
+      go : (a : Step) → first (f i ∷ []) ≡ a → (first (rowsFrom f k (suc i)) ≡ Stop number detail → FoundRow number detail k (suc i)) → FoundRow number detail (suc k) i
+      go Pass pass later = one-more number detail k i pass (later (sym (passed (f i) (rowsFrom f k (suc i)) pass) ∙ e))
+      go (Stop x y) stop later =
+          record { at = i; from = omega arith; below = omega arith; before = λ l low high. absurd (omega arith); stops = stop ∙ sym (stopped x y (f i) (rowsFrom f k (suc i)) stop) ∙ e }

@@ -2,7 +2,7 @@
 use mathlib.Core.Path.{_≡_, refl, sym, ap, _∙_}
 use mathlib.Core.Bool.{Bool, true, false, _&&_}
 use mathlib.Core.List.{List, [], _∷_}
-use Prim.Native.Nat.{ℕ, zero, suc, _<_}
+use Prim.Native.Nat.{ℕ, zero, suc, _+_, _*_, _<_}
 use native.Mathlib.Omega.{arith}
 use lib.ListN.{getD, replicate}
 use Rattle.stream.specs.Setting.{groupSize, limitOf, patternsOf}
@@ -43,7 +43,7 @@ module _ (h : Header) (s : List ℕ) (j : ℕ) where
   unfolding chunkRow faultRow first
   good-row e = rw e
 
-  pub bad-row : (group : ℕ) → chunkState h s j ≡ Bad group → Stop 10 j ≡ first (chunkRow h s j ∷ [])
+  pub bad-row : (group : ℕ) → chunkState h s j ≡ Bad group → Stop 10 (j * 32 + group) ≡ first (chunkRow h s j ∷ [])
   unfolding chunkRow faultRow faultDetail first
   bad-row group e = rw e
 

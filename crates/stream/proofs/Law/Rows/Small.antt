@@ -31,6 +31,7 @@ use Rattle.stream.proofs.Law.Header.Numbers.{word-small}
 use Rattle.stream.proofs.Law.Setting.Allowed.{settled, size-some}
 use Rattle.stream.proofs.Law.Header.Layout.{laid-out}
 use Rattle.stream.proofs.Law.Rows.Passed.{opening, probing}
+use Rattle.stream.proofs.Law.Rows.Place.{group-small}
 use Rattle.stream.proofs.Law.Chunk.Groups.{good-is-exact}
 use Rattle.stream.proofs.Law.Setting.Codes.{patterns-under}
 use Rattle.stream.proofs.Law.Setting.Widths.{width-bytes}
@@ -117,32 +118,34 @@ module _ (level : ℕ) (s : List ℕ) (bytes : Below 256 s) where
   unfolding tableRows
   tables-small = plain 9 _ _ (lit< tt, lit< tt) no-rows
 
-  -- 10, with the chunk's number
-  fault-small : (j : ℕ) (a : ChunkAnswer) → j < 2 ^ 32 → Small (2 ^ 32) (faultRow j a ∷ [])
-  unfolding faultRow faultDetail
-  fault-small j Good l = plain 10 false [] (lit< tt, lit< tt) no-rows
-  fault-small j (Bad group) l = row-small 10 true j [] (lit< tt, lit< tt) (λ _. l) (λ _. no-rows)
-
-  chunk-small : (j : ℕ) → j < 2 ^ 32 → Small (2 ^ 32) (chunkRow (headerOf s) s j ∷ [])
-  unfolding chunkRow
-  chunk-small j l = fault-small j (chunkState (headerOf s) s j) l
+  -- 10, with the place
+  fault-small : (j : ℕ) (a : ChunkAnswer) → ((g : ℕ) → a ≡ Bad g → faultDetail j g < 2 ^ 32) → Small (2 ^ 32) (faultRow j a ∷ [])
+  unfolding faultRow
+  fault-small j Good small = plain 10 false [] (lit< tt, lit< tt) no-rows
+  fault-small j (Bad group) small = row-small 10 true (faultDetail j group) [] (lit< tt, lit< tt) (λ _. small group refl) (λ _. no-rows)
 
   -- behind the opening: a chunk's number is below the number of chunks, and an index below the number of values
   module _ (pass : first (openingRows level s) ≡ Pass) where
     layout : Layout (length s) (headerOf s)
     layout = laid-out (length s) (headerOf s) (opening level s pass .layout)
 
+    chunk-small : (j : ℕ) → j < headerOf s .chunks → Small (2 ^ 32) (chunkRow (headerOf s) s j ∷ [])
+    unfolding chunkRow faultDetail
+    chunk-small j l =
+        fault-small j (chunkState (headerOf s) s j)
+        (λ g e. omega (arith, group-small (headerOf s) s (length s) layout j l g e, layout .few, layout .chunks))
+
     content-small : Small (2 ^ 32) (contentRows (headerOf s) s)
     unfolding contentRows chunkRows
     content-small =
         append-small (tableRows (headerOf s) s) (chunkRows (headerOf s) s) tables-small
-        (λ _. from-small (chunkRow (headerOf s) s) (headerOf s .chunks) 0 (λ j l m. chunk-small j (omega (arith, layout .few, layout .chunks))))
+        (λ _. from-small (chunkRow (headerOf s) s) (headerOf s .chunks) 0 (λ j l m. chunk-small j (omega arith)))
 
     own-small : (i : ℕ) → i < headerOf s .count → Small (2 ^ 32) (ownRows (headerOf s) s i)
     unfolding ownRows
     own-small i below =
         append-small (tableRows (headerOf s) s) (chunkRow (headerOf s) s (i / 1024) ∷ []) tables-small
-        (λ _. chunk-small (i / 1024) (omega (arith, layout .few)))
+        (λ _. chunk-small (i / 1024) (omega (arith, layout .chunks)))
 
   check-small : Small (2 ^ 32) (checkRows level s)
   unfolding checkRows

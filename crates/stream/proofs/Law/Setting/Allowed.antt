@@ -18,6 +18,7 @@ use Rattle.numbers.specs.Theorem.{Format}
 use Rattle.bins.specs.Answers.{binAnswer}
 use Rattle.numbers.proofs.Theorems.{format-32, format-64, a-bin-is-that-of-k, no-bin-means-not-allowed, an-allowed-k-has-a-bin}
 use Rattle.stream.specs.Setting.{knownWidth, fractionBits, isZero, allowedSetting, binFor, settingOf, widthNeed, modeNeed, need, groupSize}
+use Rattle.stream.specs.Chunk.{groupsIn}
 use Rattle.stream.specs.Header.{kOf, needRight, settingRight}
 use Rattle.stream.specs.Relied.{Allowed, Settled}
 use Rattle.stream.specs.Packing.{Packable}
@@ -84,6 +85,11 @@ one-block t = refl
 pub size-most : (t : Setting) → groupSize t ≤ 32
 unfolding groupSize
 size-most t = lit≤ tt
+
+-- a chunk has at most 32 groups
+pub groups-most : (t : Setting) (n : ℕ) → n ≤ 1024 → groupsIn (groupSize t) n ≤ 32
+unfolding groupsIn groupSize
+groups-most t n few = omega arith
 
 -- ---- k
 

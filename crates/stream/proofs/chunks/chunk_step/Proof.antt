@@ -1,5 +1,6 @@
 -- `stream::chunks::chunk_step` meets its contract.
 use Rattle.stream.proofs.Law.Rows.Chunks.{found-is, good-row, bad-row}
+use Rattle.stream.proofs.Law.Rows.Place.{group-small}
 use Rattle.stream.specs.Stream.{chunkState}
 use Rattle.stream.specs.declared.chunk.ChunkAnswer.{ChunkAnswer}
 use borrow.Author.Needs.{needs}
@@ -30,14 +31,27 @@ checked-requires c κs = (c .before .before .setting-in .ensures .1, c .count-at
 enum-told : tie.Need-enum-told
 enum-told c = search needs
 
-enum-told-2 : tie.Need-enum-told-2
-enum-told-2 c = search needs
+enum-known-found : tie.Need-enum-known-found
+enum-known-found c = search needs
+
+mul-t10 : tie.Need-mul-t10
+mul-t10 c = search needs
+
+-- a bad group is below 32
+add-t11 : tie.Need-add-t11
+add-t11 c =
+    let s = c .before .before .before .before .before .before .before .before .args in
+    let p = c .before .before .before .before .before .before .before .before .pre in
+    let small = group-small (s .h) (s .bytes .now) _ (p .0 .layout) (s .j) (p .2) _ (state-is (c .before .before .before) _ (c .before .found .given .1)) in
+    omega (arith, small, p .0 .layout .few, p .0 .layout .chunks)
 
 returns : tie.Need-returns
 returns c = let s = c .before .before .before .before .before .before .before .args in good-row (s .h) (s .bytes .now) (s .j) (state-is (c .before .before) _ (c .enum-told .given .1))
 
 returns-2 : tie.Need-returns-2
-returns-2 c = let s = c .before .before .before .before .before .before .before .args in bad-row (s .h) (s .bytes .now) (s .j) _ (state-is (c .before .before) _ (c .enum-told2 .given .1))
+returns-2 c =
+    let s = c .before .before .before .before .before .before .before .before .args in
+    bad-row (s .h) (s .bytes .now) (s .j) _ (state-is (c .before .before .before) _ (c .before .found .given .1))
 
 pub chunk-step-spec : {M : Type 1} → statement M
 chunk-step-spec =
@@ -48,6 +62,8 @@ chunk-step-spec =
     count-at-requires
     checked-requires
     enum-told
-    enum-told-2
+    enum-known-found
+    mul-t10
+    add-t11
     returns
     returns-2)

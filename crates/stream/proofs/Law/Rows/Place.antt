@@ -1,0 +1,168 @@
+-- The detail of refusal 10: which chunk and group it names. That a bad group is below 32 tells the two apart again.
+use mathlib.Core.Path.{_≡_, refl, sym, ap, subst, _∙_}
+use mathlib.Core.Logic.{_↔_}
+use mathlib.Core.Bool.{Bool, true, false, _&&_, not}
+use mathlib.Core.List.{List, [], _∷_, _++_}
+use Prim.Native.Nat.{ℕ, _+_, _*_, _/_, _%_, _≤_, _<_}
+use native.Mathlib.Omega.{arith}
+use borrow.Author.Tests.{ltb-true, eq-eqb, not-false}
+use lib.Dec.{ltb, eqb}
+use lib.ListN.{length}
+use Rattle.stream.specs.Setting.{groupSize, limitOf}
+use Rattle.stream.specs.Header.{headerOf, settingIn}
+use Rattle.stream.specs.Relied.{Layout}
+use Rattle.stream.specs.Rows.{Row, row, first, numbersOf}
+use Rattle.stream.specs.Stream.{countOf, chunkOf, chunkState}
+use Rattle.stream.specs.Operations.{headerRows, openingRows, tableRows, faultDetail, faultRow, chunkRow, chunkRows, contentRows, widthRow, roomRow, indexRow, ownRows, checkRows, unpackRows, probeRows}
+use Rattle.stream.specs.Theorem.{FirstBad, BadGroup, Fault}
+use Rattle.stream.specs.declared.answers.Step.the-variants.{Pass, Stop}
+use Rattle.stream.specs.declared.chunk.ChunkAnswer.{ChunkAnswer}
+use Rattle.stream.specs.declared.chunk.ChunkAnswer.the-variants.{Good, Bad}
+use Rattle.stream.specs.declared.header.Header.{Header}
+use Rattle.stream.proofs.Law.Plain.Truth.{and-right}
+use Rattle.stream.proofs.Law.Plain.Scan.{rows-found}
+use Rattle.stream.proofs.Law.Header.Layout.{laid-out}
+use Rattle.stream.proofs.Law.Setting.Allowed.{size-some, groups-most}
+use Rattle.stream.proofs.Law.Chunk.FirstBad.{bad-exactly}
+use Rattle.stream.proofs.Law.Rows.First.{opened, passed-both, not-given}
+use Rattle.stream.proofs.Law.Rows.Given.{probe-own}
+use Rattle.stream.proofs.Law.Rows.Passed.{opening}
+use Rattle.stream.proofs.Law.Rows.Chunks.{good-row, bad-row, passed-good}
+
+-- ---- a bad group of a chunk that a right header has
+
+module _ (h : Header) (s : List ℕ) (size : ℕ) (layout : Layout size h) (j : ℕ) (is-chunk : j < h .chunks) where
+  has-values : 0 < countOf h j
+  unfolding countOf
+  has-values = omega (arith, layout .chunks)
+
+  few-values : countOf h j ≤ 1024
+  unfolding countOf
+  few-values = omega arith
+
+  pub bad-group : (g : ℕ) → chunkState h s j ≡ Bad g ↔ FirstBad (h .width) (limitOf (settingIn h)) (groupSize (settingIn h)) (countOf h j) (chunkOf h s j) g
+  unfolding chunkState
+  bad-group g = bad-exactly (h .width) (limitOf (settingIn h)) (groupSize (settingIn h)) (size-some (settingIn h)) (countOf h j) (chunkOf h s j) has-values g
+
+  pub group-small : (g : ℕ) → chunkState h s j ≡ Bad g → g < 32
+  group-small g e = omega (arith, bad-group g .0 e .is-group, groups-most (settingIn h) (countOf h j) few-values)
+
+-- ---- a row of 10 is given
+
+-- the place that a detail names: what the row of that chunk says
+pub record Named (h : Header) (s : List ℕ) (detail : ℕ) : Type 0 where
+  pub is-chunk : detail / 32 < h .chunks
+  pub own : chunkState h s (detail / 32) ≡ Bad (detail % 32)
+
+row-named : (j detail : ℕ) (a : ChunkAnswer) → first (faultRow j a ∷ []) ≡ Stop 10 detail → (g : ℕ) × (a ≡ Bad g) × (j * 32 + g ≡ detail)
+unfolding faultRow faultDetail first
+row-named j detail Good e = let z : Pass ≡ Stop 10 detail = e in absurd (let n : _≡_ {A = ℕ} 0 1 = cc in omega (arith, n))
+row-named j detail (Bad g) e = let z : Stop 10 (j * 32 + g) ≡ Stop 10 detail = e in (g, refl, cc)
+
+module _ (h : Header) (s : List ℕ) (size : ℕ) (layout : Layout size h) (detail : ℕ) where
+  -- a chunk's row names the chunk
+  pub chunk-named : (j : ℕ) → j < h .chunks → first (chunkRow h s j ∷ []) ≡ Stop 10 detail → (j ≡ detail / 32) × Named h s detail
+  unfolding chunkRow
+  chunk-named j below e =
+      let r = row-named j detail (chunkState h s j) e in
+      let small = group-small h s size layout j below (r .0) (r .1) in
+      let chunk : j ≡ detail / 32 = omega (arith, r .2, small) in
+      let group : r .0 ≡ detail % 32 = omega (arith, r .2, small) in (
+        chunk,
+        record { is-chunk = omega (arith, chunk); own = subst (λ (x : ℕ). chunkState h s x ≡ Bad (detail % 32)) chunk (r .1 ∙ ap Bad group) },
+      )
+
+  -- the first of the rows that is given names the first bad chunk
+  pub chunks-named : first (chunkRows h s) ≡ Stop 10 detail → Named h s detail × ((i : ℕ) → i < detail / 32 → chunkState h s i ≡ Good)
+  unfolding chunkRows
+  chunks-named e =
+      let r = rows-found (chunkRow h s) 10 detail (h .chunks) 0 e in
+      let n = chunk-named (r .at) (omega (arith, r .below)) (r .stops) in
+      (n .1, λ i l. passed-good h s i (r .before i (omega arith) (omega (arith, n .0))))
+
+-- ---- the rows before are others
+
+-- none of these numbers is x
+unfoldable without : ℕ → List ℕ → Bool
+without x [] = true
+without x (n ∷ ns) = not (eqb n x) && without x ns
+
+others : (x detail : ℕ) (before rows : List Row) → without x (numbersOf before) ≡ true → first (before ++ rows) ≡ Stop x detail → (first before ≡ Pass) × (first rows ≡ Stop x detail)
+unfolding first numbersOf without
+others x detail [] rows w e = (refl, e)
+others x detail (row number true y ∷ before) rows w e =
+    let z : Stop number y ≡ Stop x detail = e in
+    let same : number ≡ x = cc in
+    let no : false ≡ true = rw (eq-eqb number x same) at w in
+    absurd (let n : _≡_ {A = ℕ} 0 1 = cc in omega (arith, n))
+others x detail (row number false y ∷ before) rows w e = others x detail before rows (and-right (not (eqb number x)) (without x (numbersOf before)) w) e
+
+module _ (level : ℕ) (s : List ℕ) (detail : ℕ) where
+  laid : first (openingRows level s) ≡ Pass → Layout (length s) (headerOf s)
+  laid pass = laid-out (length s) (headerOf s) (opening level s pass .layout)
+
+  -- 1 5 6 7 8
+  opening-others : (rows : List Row) → first (openingRows level s ++ rows) ≡ Stop 10 detail → (first (openingRows level s) ≡ Pass) × (first rows ≡ Stop 10 detail)
+  unfolding openingRows headerRows numbersOf without
+  opening-others rows e = others 10 detail (openingRows level s) rows refl e
+
+  -- 9
+  table-others : (rows : List Row) → first (tableRows (headerOf s) s ++ rows) ≡ Stop 10 detail → (first (tableRows (headerOf s) s) ≡ Pass) × (first rows ≡ Stop 10 detail)
+  unfolding tableRows numbersOf without
+  table-others rows e = others 10 detail (tableRows (headerOf s) s) rows refl e
+
+  content-named : first (openingRows level s) ≡ Pass → first (contentRows (headerOf s) s) ≡ Stop 10 detail → Fault s (detail / 32) (detail % 32)
+  unfolding contentRows
+  content-named pass e =
+      let n = chunks-named (headerOf s) s (length s) (laid pass) detail (table-others (chunkRows (headerOf s) s) e .1) in
+      record {
+        is-chunk = n .0 .is-chunk;
+        earlier = n .1;
+        group = bad-group (headerOf s) s (length s) (laid pass) (detail / 32) (n .0 .is-chunk) (detail % 32) .0 (n .0 .own);
+      }
+
+  pub check-named : first (checkRows level s) ≡ Stop 10 detail → Fault s (detail / 32) (detail % 32)
+  unfolding checkRows
+  check-named e = let o = opening-others (contentRows (headerOf s) s) e in content-named (o .0) (o .1)
+
+  pub unpack-named : (W room : ℕ) → first (unpackRows W level s room) ≡ Stop 10 detail → Fault s (detail / 32) (detail % 32)
+  unfolding unpackRows widthRow roomRow numbersOf without
+  unpack-named W room e =
+      let h = headerOf s in
+      let o = opening-others (widthRow W h ∷ roomRow room h ∷ contentRows h s) e in
+      content-named (o .0) (others 10 detail (widthRow W h ∷ roomRow room h ∷ []) (contentRows h s) refl (o .1) .1)
+
+  pub probe-named : (W i : ℕ) → first (probeRows W level s i) ≡ Stop 10 detail → (detail / 32 ≡ i / 1024) × BadGroup s (detail / 32) (detail % 32)
+  unfolding probeRows widthRow indexRow ownRows numbersOf without
+  probe-named W i e =
+      let h = headerOf s in
+      let o = opening-others (widthRow W h ∷ indexRow i h ∷ ownRows h s i) e in
+      let m = others 10 detail (widthRow W h ∷ indexRow i h ∷ []) (ownRows h s i) refl (o .1) in
+      let below = ltb-true i (h .count) (not-false (ltb i (h .count)) (not-given 11 0 (not (ltb i (h .count))) (passed-both (widthRow W h) (indexRow i h ∷ []) (m .0) .1))) in
+      let n = chunk-named h s (length s) (laid (o .0)) detail (i / 1024) (omega (arith, laid (o .0) .chunks)) (table-others (chunkRow h s (i / 1024) ∷ []) (m .1) .1) in
+      (sym (n .0), bad-group h s (length s) (laid (o .0)) (detail / 32) (n .1 .is-chunk) (detail % 32) .0 (n .1 .own))
+
+  -- ---- of a stream that check refuses so, probe refuses the values of the named chunk, and reads those of the chunks before it
+
+  module _ (refused : first (checkRows level s) ≡ Stop 10 detail) where
+    open-tables : (first (openingRows level s) ≡ Pass) × (first (tableRows (headerOf s) s) ≡ Pass)
+    unfolding checkRows contentRows
+    open-tables = let o = opening-others (contentRows (headerOf s) s) refused in (o .0, table-others (chunkRows (headerOf s) s) (o .1) .0)
+
+    chunk-probed : (W i : ℕ) → headerOf s .width ≡ W → i < headerOf s .count → first (chunkRow (headerOf s) s (i / 1024) ∷ []) ≡ first (probeRows W level s i)
+    unfolding ownRows
+    chunk-probed W i w l =
+        sym (opened (tableRows (headerOf s) s) (chunkRow (headerOf s) s (i / 1024) ∷ []) (open-tables .1))
+        ∙ probe-own level s (open-tables .0) (headerOf s) refl W i w l
+
+    pub probe-lost : (W i : ℕ) → headerOf s .width ≡ W → i < headerOf s .count → i / 1024 ≡ detail / 32 → first (probeRows W level s i) ≡ Stop 10 detail
+    probe-lost W i w l same =
+        let f = check-named refused in
+        let own = bad-group (headerOf s) s (length s) (laid (open-tables .0)) (detail / 32) (f .is-chunk) (detail % 32) .1 (f .group) in
+        sym (chunk-probed W i w l)
+        ∙ ap (λ (j : ℕ). first (chunkRow (headerOf s) s j ∷ [])) same
+        ∙ sym (bad-row (headerOf s) s (detail / 32) (detail % 32) own)
+        ∙ ap (Stop 10) (let whole : detail / 32 * 32 + detail % 32 ≡ detail = omega arith in whole)
+
+    pub probe-kept : (W i : ℕ) → headerOf s .width ≡ W → i < headerOf s .count → i / 1024 < detail / 32 → first (probeRows W level s i) ≡ Pass
+    probe-kept W i w l before = sym (good-row (headerOf s) s (i / 1024) (check-named refused .earlier (i / 1024) before) ∙ chunk-probed W i w l)

@@ -1,0 +1,71 @@
+-- What refusal 10 tells, as theorems about the promises: detail / 32 is the first bad chunk, and detail % 32 its first bad group (`Fault`).
+use mathlib.Core.Path.{_≡_, ap}
+use mathlib.Core.Logic.{_↔_}
+use mathlib.Core.List.{List}
+use Prim.Native.Nat.{ℕ, _/_, _%_, _<_}
+use Rattle.stream.specs.Header.{headerOf}
+use Rattle.stream.specs.Chunk.{chunkAnswer}
+use Rattle.stream.specs.Stream.{valueAt}
+use Rattle.stream.specs.Rows.{first}
+use Rattle.stream.specs.Probe.{shown32, shown64, probed32, probed64}
+use Rattle.stream.specs.Operations.{checkRows, checkAnswer, unpackRows, unpackAnswer, probeRows, probeAnswer32, probeAnswer64}
+use Rattle.stream.specs.Theorem.{FirstBad, BadGroup, Fault}
+use Rattle.stream.specs.declared.answers.Answer.the-variants.{Refused}
+use Rattle.stream.specs.declared.answers.Probe32.the-variants as p32
+use Rattle.stream.specs.declared.answers.Probe64.the-variants as p64
+use Rattle.stream.specs.declared.answers.Step.{Step}
+use Rattle.stream.specs.declared.answers.Step.the-variants.{Stop}
+use Rattle.stream.specs.declared.chunk.ChunkAnswer.the-variants.{Bad}
+use Rattle.stream.proofs.Law.Chunk.FirstBad.{bad-exactly}
+use Rattle.stream.proofs.Law.Rows.Place.{check-named, unpack-named, probe-named, probe-lost, probe-kept}
+use Rattle.stream.proofs.Law.Values.ThreeReaders.{refused-stop, refused-stop32, refused-stop64}
+
+-- The group that is found is the first bad one: each before it is good by itself, and it is not, or it is the last and bytes are left over.
+pub the-group-found-is-the-first-bad : (W U size : ℕ) → 0 < size → (n : ℕ) (s : List ℕ) → 0 < n → (g : ℕ) → chunkAnswer W U size n s ≡ Bad g ↔ FirstBad W U size n s g
+the-group-found-is-the-first-bad = bad-exactly
+
+-- ---- the place that is named
+
+module _ (level : ℕ) (s : List ℕ) (detail : ℕ) where
+  pub check-names-the-place : checkAnswer level s ≡ Refused 10 detail → Fault s (detail / 32) (detail % 32)
+  unfolding checkAnswer
+  check-names-the-place e = check-named level s detail (refused-stop (first (checkRows level s)) (headerOf s .count) 10 detail e)
+
+  pub unpack-names-the-place : (W room : ℕ) → unpackAnswer W level s room ≡ Refused 10 detail → Fault s (detail / 32) (detail % 32)
+  unfolding unpackAnswer
+  unpack-names-the-place W room e = unpack-named level s detail W room (refused-stop (first (unpackRows W level s room)) (headerOf s .count) 10 detail e)
+
+  -- probe: "the last for its own chunk only"
+  pub probe-names-the-place32 : (i : ℕ) → probeAnswer32 level s i ≡ p32.Refused 10 detail → (detail / 32 ≡ i / 1024) × BadGroup s (detail / 32) (detail % 32)
+  unfolding probeAnswer32
+  probe-names-the-place32 i e = probe-named level s detail 32 i (refused-stop32 (first (probeRows 32 level s i)) (valueAt s i) 10 detail e)
+
+  pub probe-names-the-place64 : (i : ℕ) → probeAnswer64 level s i ≡ p64.Refused 10 detail → (detail / 32 ≡ i / 1024) × BadGroup s (detail / 32) (detail % 32)
+  unfolding probeAnswer64
+  probe-names-the-place64 i e = probe-named level s detail 64 i (refused-stop64 (first (probeRows 64 level s i)) (valueAt s i) 10 detail e)
+
+-- ---- the values that are lost: where check refuses by 10, probe refuses each value of the named chunk by the very same detail, and reads each
+-- value of the chunks before it
+
+module _ (level : ℕ) (s : List ℕ) (detail : ℕ) (refused : checkAnswer level s ≡ Refused 10 detail) where
+  stops : first (checkRows level s) ≡ Stop 10 detail
+  unfolding checkAnswer
+  stops = refused-stop (first (checkRows level s)) (headerOf s .count) 10 detail refused
+
+  module _ (width : headerOf s .width ≡ 32) (i : ℕ) (below : i < headerOf s .count) where
+    pub the-named-chunk-is-lost32 : i / 1024 ≡ detail / 32 → probeAnswer32 level s i ≡ p32.Refused 10 detail
+    unfolding probeAnswer32 probed32
+    the-named-chunk-is-lost32 same = ap (λ (a : Step). probed32 a (valueAt s i)) (probe-lost level s detail stops 32 i width below same)
+
+    pub the-chunks-before-are-read32 : i / 1024 < detail / 32 → probeAnswer32 level s i ≡ shown32 (valueAt s i)
+    unfolding probeAnswer32 probed32
+    the-chunks-before-are-read32 before = ap (λ (a : Step). probed32 a (valueAt s i)) (probe-kept level s detail stops 32 i width below before)
+
+  module _ (width : headerOf s .width ≡ 64) (i : ℕ) (below : i < headerOf s .count) where
+    pub the-named-chunk-is-lost64 : i / 1024 ≡ detail / 32 → probeAnswer64 level s i ≡ p64.Refused 10 detail
+    unfolding probeAnswer64 probed64
+    the-named-chunk-is-lost64 same = ap (λ (a : Step). probed64 a (valueAt s i)) (probe-lost level s detail stops 64 i width below same)
+
+    pub the-chunks-before-are-read64 : i / 1024 < detail / 32 → probeAnswer64 level s i ≡ shown64 (valueAt s i)
+    unfolding probeAnswer64 probed64
+    the-chunks-before-are-read64 before = ap (λ (a : Step). probed64 a (valueAt s i)) (probe-kept level s detail stops 64 i width below before)
