@@ -266,6 +266,10 @@ static void test_helpers(struct tally *tally)
         {"exponent -1", (uint64_t)(gwz_exponent(done(0xFFFFFFFF)) + 1), 0},
         {"exponent -1075", (uint64_t)(gwz_exponent(done(0xFFFFFBCD)) + 1075), 0},
         {"smallest exponent", gwz_exponent(done(0x80000000)) == INT32_MIN, 1},
+        {"the last chunk and group that a stream can have", gwz_bad_chunk(32767), 1023},
+        {"the last chunk and group that a stream can have", gwz_bad_group(32767), 31},
+        {"chunk 3, group 7", gwz_bad_chunk(103), 3},
+        {"chunk 3, group 7", gwz_bad_group(103), 7},
         {"longest stream of no values", GWZ_LONGEST_STREAM(32, 0), 48},
         {"longest stream of 1025 values of 32 bits", GWZ_LONGEST_STREAM(32, 1025), 48 + 8 + 33 + 4100},
         {"longest stream of 1 value of 64 bits", GWZ_LONGEST_STREAM(64, 1), 48 + 4 + 1 + 8},
@@ -632,7 +636,32 @@ static void test_damaged_setting(struct tally *tally)
         expect_damage(tally, stream, len, damages[i]);
 }
 
-/* The detail of refusal 10, and a probe that reads its own chunk only. */
+/* Three chunks of zeros, the first two full: a width byte for each of their 32 groups, and one in the last. */
+static void put_three_chunks_of(uint8_t *stream, uint32_t first, uint32_t second, uint32_t third)
+{
+    put_three_chunks(stream);
+    memset(stream + 60, 0, first + second + third);
+    put_number(stream + 44, 60 + first + second + third);
+    put_number(stream + 52, first);
+    put_number(stream + 56, first + second);
+}
+
+/* Check and unpack name the first bad place; probe that of its own chunk. `bad`: each chunk's first bad group, or -1. */
+static void expect_places(struct tally *tally, const char *what, const uint8_t *stream, size_t len, const int bad[3])
+{
+    const uint32_t zero = 0;
+    uint32_t chunk = bad[0] >= 0 ? 0 : bad[1] >= 0 ? 1 : 2;
+    uint64_t wanted = refused(10, 32 * chunk + (uint32_t)bad[chunk]);
+    expect_call(tally, what, reading(CHECK, 8, stream, len, 0), wanted, NULL, 0);
+    expect_call(tally, what, reading(UNPACK32, 8, stream, len, 2049), wanted, NULL, 0);
+    for (uint32_t own = 0; own < 3; own++) {
+        int good = bad[own] < 0;
+        expect_call(tally, what, probing(PROBE32, 8, stream, len, 1024 * own),
+                    good ? done(GWZ_FINITE) : refused(10, 32 * own + (uint32_t)bad[own]), &zero, good ? 1 : 0);
+    }
+}
+
+/* The detail of refusal 10, chunk and group, and a probe that reads its own chunk only. */
 static void test_damaged_chunks(struct tally *tally)
 {
     static const struct damage tables[] = {
@@ -640,24 +669,42 @@ static void test_damaged_chunks(struct tally *tally)
         {"third chunk at the data's end", 56, 4, 65, 9, 0}, {"third chunk at 2^32 - 1", 56, 4, UINT32_MAX, 9, 0},
         {"w 1 in chunk 0 takes a byte too many", 60, 1, 1, 10, 0},
     };
-    static const uint64_t first_of_chunk[] = {0, 1024, 2048};
-    const uint32_t zero = 0;
     uint8_t stream[THREE_CHUNKS_BYTES];
     put_three_chunks(stream);
     for (size_t i = 0; i < COUNT(tables); i++)
         expect_damage(tally, stream, sizeof stream, tables[i]);
-    for (uint32_t bad = 0; bad < 3; bad++) {
-        put_three_chunks(stream);
-        stream[60 + 32 * bad] = 33;
-        stream[60 + 64] = 33; /* the last chunk is bad too: the first bad one is named */
-        expect_call(tally, "a bad chunk", reading(CHECK, 8, stream, sizeof stream, 0), refused(10, bad), NULL, 0);
-        expect_call(tally, "a bad chunk", reading(UNPACK32, 8, stream, sizeof stream, 2049), refused(10, bad), NULL, 0);
-        for (uint32_t own = 0; own < 3; own++) {
-            int good = own != bad && own != 2;
-            expect_call(tally, "its own chunk", probing(PROBE32, 8, stream, sizeof stream, first_of_chunk[own]),
-                        good ? done(GWZ_FINITE) : refused(10, own), &zero, good ? 1 : 0);
+    for (uint32_t chunk = 0; chunk < 2; chunk++)
+        for (uint32_t group = 0; group < 32; group++) {
+            int bad[3] = {-1, -1, -1};
+            bad[chunk] = (int)group;
+            put_three_chunks(stream);
+            stream[60 + 32 * chunk + group] = 33;
+            expect_places(tally, "a bad group", stream, sizeof stream, bad);
+            bad[2] = 0; /* the last chunk is bad too: the first bad one is named */
+            stream[60 + 64] = 33;
+            expect_places(tally, "two bad chunks", stream, sizeof stream, bad);
         }
-    }
+}
+
+/* Bytes left over count for the chunk's last group, behind every other fault; bytes missing, for the group that lacks them. */
+static void test_chunk_ends(struct tally *tally)
+{
+    static const int full[3] = {31, -1, -1}, second[3] = {-1, 31, -1}, last[3] = {-1, -1, 0}, earlier[3] = {4, -1, -1};
+    static const int both[3] = {30, 31, -1}, without_codes[3] = {29, -1, -1};
+    uint8_t stream[THREE_CHUNKS_BYTES + 9];
+    put_three_chunks_of(stream, 33, 32, 1);
+    expect_places(tally, "a byte behind a full chunk", stream, 126, full);
+    stream[60 + 4] = 33;
+    expect_places(tally, "a bad group before it", stream, 126, earlier);
+    put_three_chunks_of(stream, 32, 41, 1);
+    expect_places(tally, "nine bytes behind the second chunk", stream, 134, second);
+    put_three_chunks_of(stream, 32, 32, 2);
+    expect_places(tally, "a byte behind the last chunk", stream, 126, last);
+    put_three_chunks_of(stream, 30, 34, 1);
+    expect_places(tally, "no width byte for a group, and bytes behind the next chunk", stream, 125, both);
+    put_three_chunks_of(stream, 32, 32, 1);
+    stream[60 + 29] = 1;
+    expect_places(tally, "no codes for a group", stream, 125, without_codes);
 }
 
 /* Two side parts behind the example: ids 1 and 9, of 2 bytes and none. A reader skips them. */
@@ -938,6 +985,7 @@ int main(void)
         {"damaged example", test_damaged_example},
         {"damaged setting", test_damaged_setting},
         {"damaged chunks", test_damaged_chunks},
+        {"chunks too long and too short", test_chunk_ends},
         {"side parts", test_side_parts},
         {"order of refusals when reading", test_reading_order},
         {"lengths", test_lengths},
