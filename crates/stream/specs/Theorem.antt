@@ -73,7 +73,7 @@ BadGroup s j g =
 
 -- the chunk j is the first bad one of a stream, and g its first bad group
 pub record Fault (s : List ℕ) (j g : ℕ) : Type 0 where
-  pub is-chunk : j < headerOf s .chunks
+  pub chunk : j < headerOf s .chunks
   pub earlier : (i : ℕ) → i < j → chunkState (headerOf s) s i ≡ Good
   pub group : BadGroup s j g
 

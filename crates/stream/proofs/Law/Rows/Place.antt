@@ -116,7 +116,7 @@ module _ (level : ℕ) (s : List ℕ) (detail : ℕ) where
   content-named pass e =
       let n = chunks-named (headerOf s) s (length s) (laid pass) detail (table-others (chunkRows (headerOf s) s) e .1) in
       record {
-        is-chunk = n .0 .is-chunk;
+        chunk = n .0 .is-chunk;
         earlier = n .1;
         group = bad-group (headerOf s) s (length s) (laid pass) (detail / 32) (n .0 .is-chunk) (detail % 32) .0 (n .0 .own);
       }
@@ -158,7 +158,7 @@ module _ (level : ℕ) (s : List ℕ) (detail : ℕ) where
     pub probe-lost : (W i : ℕ) → headerOf s .width ≡ W → i < headerOf s .count → i / 1024 ≡ detail / 32 → first (probeRows W level s i) ≡ Stop 10 detail
     probe-lost W i w l same =
         let f = check-named refused in
-        let own = bad-group (headerOf s) s (length s) (laid (open-tables .0)) (detail / 32) (f .is-chunk) (detail % 32) .1 (f .group) in
+        let own = bad-group (headerOf s) s (length s) (laid (open-tables .0)) (detail / 32) (f .chunk) (detail % 32) .1 (f .group) in
         sym (chunk-probed W i w l)
         ∙ ap (λ (j : ℕ). first (chunkRow (headerOf s) s j ∷ [])) same
         ∙ sym (bad-row (headerOf s) s (detail / 32) (detail % 32) own)
