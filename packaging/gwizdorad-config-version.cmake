@@ -1,4 +1,4 @@
-# A version asked for is met by the same first two numbers: until 1.0.0 a signature may change where the second does.
+# A version asked for is met by the same first two numbers: until 1.0.0 a signature or a meaning may change where the second does.
 set(PACKAGE_VERSION "@VERSION@")
 string(REGEX MATCH "^[0-9]+\\.[0-9]+" _gwizdorad_series "${PACKAGE_VERSION}")
 set(PACKAGE_VERSION_COMPATIBLE FALSE)

@@ -179,7 +179,8 @@ def written(library):
                 yield f"{name}-{what}-by-{level}", packed(library, width, mode, k, level, values)
         for what, values in (("calm", calm(width)), ("widths", widths(width, mode, k))):
             yield f"{name}-{what}-by-{levels[0]}", packed(library, width, mode, k, levels[0], values)
-    yield "32-lossless-1048576-by-8", packed(library, 32, 0, 0, 8, [0] * 1048576)
+    for n in (40, 993, 1048576):
+        yield f"32-lossless-{n}-by-8", packed(library, 32, 0, 0, 8, [0] * n)
     for width, mode, k, level in LIMITS:
         yield f"{setting_name(width, mode, k)}-field-by-{level}", packed(library, width, mode, k, level, field(width))
 
@@ -255,6 +256,16 @@ def bad_chunks(width, data):
         yield f"groups-0-3-and-{chunk}-{group}", with_byte(with_byte(data, group_of(data, 0, 3)[0], 255), at, width + 1)
 
 
+def bad_places(width, mode, k, data):
+    """Two faults in chunk 0, of the calm field: the one in the earlier group counts, whichever rules they break."""
+    _, _, w, codes = group_of(data, 0, 2)
+    too_large = 2 * (reader.largest_u(width, k) + 1) if mode == 1 else 0
+    early = with_group(data, 0, 2, too_large.bit_length() or w + 1, [too_large or codes[0]] + codes[1:])
+    fifth, end = group_of(early, 0, 5)[0], chunk_at(early, 1)
+    yield "0-2-and-missing-0-5", with_bytes(early, 0, fifth, end, b"")
+    yield "0-2-and-left-over-in-0", with_bytes(early, 0, end, end, bytes(1))
+
+
 def bad_tables(data):
     """Of the calm field, in which chunk 1 starts at the place that the table has at 52."""
     length, second = number_at(data, END) - number_at(data, START), number_at(data, 52)
@@ -292,6 +303,9 @@ def bad_others(streams):
         yield f"cut-to-{length}", data[:length]
     yield "header-need-9", with_number(streams["32-lossless-33-by-9"], NEEDED, 9)
     yield "header-n-1048577-c-1025", too_many()
+    for n in (40, 993):
+        zeros = streams[f"32-lossless-{n}-by-8"]
+        yield f"{n}-left-over-in-0", with_bytes(zeros, 0, len(zeros), len(zeros), bytes(2))
     yield "table-chunk-without-data", with_number(data[:52], END, 52)
     yield "table-data-without-chunk", with_number(streams["32-lossless-empty-by-8"], END, 49) + bytes(1)
 
@@ -301,7 +315,7 @@ def damaged(streams):
         name = setting_name(width, mode, k)
         calm_data = streams[f"{name}-calm-by-{levels[0]}"]
         bads = [bad_setting(width, mode, streams[f"{name}-33-by-{levels[0]}"]), bad_groups(width, mode, k, calm_data),
-                bad_chunks(width, calm_data)]
+                bad_chunks(width, calm_data), bad_places(width, mode, k, calm_data)]
         if (width, mode) == (32, 0):
             bads += [bad_tables(streams["32-lossless-calm-by-8"]), bad_sides(streams["32-lossless-33-by-8-2-sides"]),
                      bad_others(streams)]

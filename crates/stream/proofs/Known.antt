@@ -1,7 +1,7 @@
 -- Values that document 01 gives, and the rules of refusal 10 at small groups, computed.
 use mathlib.Core.Path.{_≡_, refl}
 use mathlib.Core.Bool.{Bool, true, false}
-use mathlib.Core.List.{List, [], _∷_}
+use mathlib.Core.List.{List, [], _∷_, _++_}
 use Prim.Native.Nat.{ℕ, _*_}
 use lib.IntN.{pos, negsuc}
 use lib.Ieee.{size}
@@ -12,7 +12,9 @@ use Rattle.numbers.specs.Lossless.{rotated, field, minus, lowered, stepped, los
 use Rattle.blocks.specs.Bytes.{number, digits}
 use Rattle.stream.specs.Group.{bytesFor, largest, widthOf, packed, groupBytes, givenWidth, groupLength, groupNumber, groupCodes, within, goodGroup}
 use Rattle.stream.specs.Setting.{fractionBits, binFor, settingOf, clipped, codeAt, codesOf, limitOf}
-use Rattle.stream.specs.Chunk.{groupsIn, groupsBytes, chunkBytes}
+use Rattle.stream.specs.Chunk.{groupsIn, groupsBytes, chunkBytes, firstFault, chunkAnswer}
+use Rattle.stream.specs.declared.chunk.ChunkAnswer.{ChunkAnswer}
+use Rattle.stream.specs.declared.chunk.ChunkAnswer.the-variants.{Bad}
 
 -- the list 0, -0, 2^-149, whose codes are 0, 2 and 4: "then bytes 03 10 01"
 three-codes : groupBytes (0 ∷ 2 ∷ 4 ∷ []) ≡ 3 ∷ 16 ∷ 1 ∷ []
@@ -48,6 +50,27 @@ rows =
 rules : rows ≡ true ∷ true ∷ false ∷ false ∷ false ∷ false ∷ false ∷ []
 unfolding rows mostU limitOf binFor clipped fractionBits binOf kOffset lastBin largestU goodGroup within givenWidth groupLength groupNumber groupCodes groupBytes widthOf largest packed bytesFor digits number size
 rules = refl
+
+-- The first bad group. Each row: how many values, and the bytes.
+places : List ChunkAnswer
+places =
+    -- 1,024 values, 33 bytes of 0: one is left over behind the 32 groups; 993 values, which have 32 groups too; 40 values, which have two
+    chunkAnswer 32 2147483647 32 1024 (replicate 33 0)
+    ∷ chunkAnswer 32 2147483647 32 993 (replicate 33 0)
+    ∷ chunkAnswer 32 2147483647 32 40 (replicate 3 0)
+    -- the second group is missing
+    ∷ chunkAnswer 32 2147483647 32 40 (0 ∷ [])
+    -- w = 255 in group 3
+    ∷ chunkAnswer 32 2147483647 32 1024 (0 ∷ 0 ∷ 0 ∷ 255 ∷ replicate 28 0)
+    -- a padding bit in group 0, and a byte left over
+    ∷ chunkAnswer 32 2147483647 32 3 (3 ∷ 16 ∷ 3 ∷ 0 ∷ [])
+    -- "a bad u in group 2 comes before missing bytes in group 5" (in groups of one code)
+    ∷ chunkAnswer 32 mostU 1 6 (0 ∷ 0 ∷ groupBytes (2 * 905969664 ∷ []) ++ 0 ∷ 0 ∷ [])
+    ∷ []
+
+places-known : places ≡ Bad 31 ∷ Bad 31 ∷ Bad 1 ∷ Bad 1 ∷ Bad 3 ∷ Bad 0 ∷ Bad 2 ∷ []
+unfolding places chunkAnswer firstFault groupsIn mostU limitOf binFor clipped fractionBits binOf kOffset lastBin largestU goodGroup within givenWidth groupLength groupNumber groupCodes groupBytes widthOf largest packed bytesFor digits number size
+places-known = refl
 
 -- the list itself, coded losslessly, as a chunk
 three-values : chunkBytes 32 (codesOf (settingOf 32 0 (pos 0)) (0x00000000 ∷ 0x80000000 ∷ 0x00000001 ∷ [])) ≡ 3 ∷ 16 ∷ 1 ∷ []

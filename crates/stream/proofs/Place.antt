@@ -20,7 +20,7 @@ use Rattle.stream.proofs.Law.Chunk.FirstBad.{bad-exactly}
 use Rattle.stream.proofs.Law.Rows.Place.{check-named, unpack-named, probe-named, probe-lost, probe-kept}
 use Rattle.stream.proofs.Law.Values.ThreeReaders.{refused-stop, refused-stop32, refused-stop64}
 
--- The group that is found is the first bad one: each before it is good by itself, and it is not, or it is the last and bytes are left over.
+-- The group that is found is the first bad one: every group before it is good; it is bad itself, or it is the last and bytes are left over.
 pub the-group-found-is-the-first-bad : (W U size : ℕ) → 0 < size → (n : ℕ) (s : List ℕ) → 0 < n → (g : ℕ) → chunkAnswer W U size n s ≡ Bad g ↔ FirstBad W U size n s g
 the-group-found-is-the-first-bad = bad-exactly
 

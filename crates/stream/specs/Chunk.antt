@@ -22,7 +22,7 @@ chunkBytes size cs = groupsBytes size (groupsIn size (length cs)) cs
 
 -- ---- reading: n is how many values are left, s what is left of the bytes, i the number of the group at the front
 
--- The first bad group. "A chunk ends with its last group": bytes left over behind it count for that group.
+-- The first bad group. "A chunk ends with its last group", and "bytes left over at a chunk's end count for its last group" (document 02, R-1).
 unfoldable pub firstFault : ℕ → ℕ → ℕ → ℕ → ℕ → List ℕ → ℕ → ChunkAnswer
 firstFault W U size zero n s i = cond (eqb (length s) 0) Good (Bad (i - 1))
 firstFault W U size (suc q) n s i =

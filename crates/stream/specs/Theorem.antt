@@ -1,4 +1,4 @@
--- The words that the theorems of proofs/Theorems.antt, Readers.antt and Cut.antt are stated in.
+-- The words that the theorems of proofs/Theorems.antt, Readers.antt, Place.antt and Cut.antt are stated in.
 use mathlib.Core.Path.{_≡_}
 use mathlib.Core.Logic.{_⊎_}
 use mathlib.Core.Bool.{Bool, true, false, cond, not}
@@ -48,7 +48,7 @@ pub record Canonical (size W U n : ℕ) (s : List ℕ) : Type 0 where
 
 -- ---- bad groups
 
--- the bytes of a chunk of n values from its group i on
+-- the bytes of a chunk of n values from its group i on, where the groups before it are good
 unfoldable pub fromGroup : ℕ → ℕ → ℕ → List ℕ → List ℕ
 fromGroup size zero n s = s
 fromGroup size (suc i) n s = fromGroup size i (n - size) (drop (groupLength (min size n) s) s)
