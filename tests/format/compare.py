@@ -4,9 +4,11 @@
     tests/format/compare.py STREAMS SEED COMMAND...      COMMAND starts the library behind a pipe (tests/caller)
 
 It and the library get the same streams, clean and damaged, and have to answer the same: check, unpack and probe with
-number, detail and every value; and pack, length and bound. The last line is 'N passed, M failed', a stream each.
+number, detail and every value; and pack, length and bound. One stream in twelve has up to three chunks and is damaged
+within them, for the place that refusal 10 names. The last line is 'N passed, M failed', a stream each.
 """
 
+import itertools
 import pathlib
 import random
 import sys
@@ -48,21 +50,25 @@ def some_values(pick, width, k):
 
 # ---- what is damaged
 
+def words(numbers):
+    return b"".join(n.to_bytes(4, "little") for n in numbers)
+
+
 def with_sides(pick, data):
     parts = [bytes(pick.randrange(256) for _ in range(pick.randrange(4))) for _ in range(pick.choice([1, 2, 3, 64, 65]))]
     place, ids, table = len(data) + 12 * len(parts), -1, b""
     for part in parts:
         ids += 1 + pick.randrange(3)
-        table += b"".join(n.to_bytes(4, "little") for n in (ids, place, len(part)))
+        table += words([ids, place, len(part)])
         place += len(part)
-    return data[:40] + len(parts).to_bytes(4, "little") + data[44:] + table + b"".join(parts)
+    return data[:40] + words([len(parts)]) + data[44:] + table + b"".join(parts)
 
 
 def other_word(pick, data):
     at = 4 * pick.randrange(HEADER_WORDS + 2)
     old = int.from_bytes(data[at:at + 4], "little")
     new = pick.choice(INTERESTING + [old + 1, old - 1, len(data), len(data) + 1]) % 2**32
-    return data[:at] + new.to_bytes(4, "little") + data[at + 4:]
+    return data[:at] + words([new]) + data[at + 4:]
 
 
 def other_byte(pick, data):
@@ -85,10 +91,56 @@ def damaged(pick, data):
     return data
 
 
+# ---- what is damaged within chunks
+
+def chunks_of(data):
+    """The chunks of a clean stream, each as the list of its groups."""
+    h = reader.header_of(data)
+    chunks, at = [], h.data_at
+    for first in range(0, h.n, reader.CHUNK):
+        chunks.append([])
+        for left in range(min(reader.CHUNK, h.n - first), 0, -reader.GROUP):
+            behind = at + 1 + (data[at] * min(reader.GROUP, left) + 7) // 8
+            chunks[-1].append(data[at:behind])
+            at = behind
+    return chunks
+
+
+def with_chunks(data, chunks):
+    """The stream with other chunks. The header and the chunk table are made to fit: only 10 can refuse it, unless a chunk is left empty."""
+    bodies = [b"".join(groups) for groups in chunks]
+    *starts, length = itertools.accumulate(map(len, bodies), initial=0)
+    return data[:44] + words([reader.header_of(data).data_at + length] + starts) + b"".join(bodies)
+
+
+def other_group(pick, width, group):
+    """A group with too large a w, a w that is not the smallest, codes and fill bits of ones, missing bytes, or bytes behind it."""
+    w, codes = group[:1], group[1:]
+    return pick.choice([bytes([pick.choice([width + 1, 255])]) + codes, w + bytes(len(codes)), w + b"\xff" * len(codes),
+                        other_bit(pick, group), group[:pick.randrange(len(group))], group + bytes(pick.randrange(1, 4))])
+
+
+def other_groups(pick, width, groups):
+    """Alters one group or more, the first and the last more often than others. Now and then the chunk ends with such a group."""
+    places = {pick.choice([0, len(groups) - 1, pick.randrange(len(groups))]) for _ in range(pick.choice([1, 1, 2, 3]))}
+    for at in sorted(places, reverse=True):
+        groups[at] = other_group(pick, width, groups[at])
+        if pick.random() < 0.1:
+            del groups[at + 1:]
+
+
+def damaged_within(pick, width, data):
+    chunks = chunks_of(data)
+    for groups in pick.sample(chunks, min(pick.choice([1, 1, 1, 2, 3]), len(chunks))):
+        other_groups(pick, width, groups)
+    data = with_chunks(data, chunks)
+    return with_sides(pick, data) if pick.random() < 0.2 else data
+
+
 # ---- the comparison
 
-def differences(pick, library):
-    """What differs for one more stream, each as the call and both answers."""
+def calls_of_any(pick, library):
+    """The calls for one more stream of any kind: those that write, and those that read it once it is damaged."""
     width, mode, k = some_setting(pick)
     values = some_values(pick, width, k)
     level = pick.choice([8, 9, 10, 10, 10, 10])
@@ -100,6 +152,21 @@ def differences(pick, library):
     other = width if pick.random() < 0.95 else 96 - width
     calls += [("check", acting, data), ("unpack", other, acting, data, max(n + pick.choice([0, 0, 0, 1, -1]), 0))]
     calls += [("probe", other, acting, data, index) for index in (pick.randrange(n + 1), pick.choice([0, n, 1023, 1024, 2**64 - 1]))]
+    return calls
+
+
+def calls_of_chunks(pick, library):
+    """The calls that read one more stream of up to three chunks, once it is damaged within them."""
+    width, mode, k = some_setting(pick)
+    n = pick.choice([1024, 1025, 2048, pick.randrange(1, 1024), pick.randrange(1, 3072), 32 * pick.randrange(1, 96)])
+    values = list(itertools.islice(itertools.cycle(some_values(pick, width, k) or [0]), n))
+    data = damaged_within(pick, width, library.pack(width, 10, mode, k, values, 2**15)[2])
+    return [("check", 10, data), ("unpack", width, 10, data, n)] + [("probe", width, 10, data, index) for index in (pick.randrange(n), n - 1)]
+
+
+def differences(pick, library):
+    """What differs for one more stream, each as the call and both answers."""
+    calls = (calls_of_any if pick.randrange(12) else calls_of_chunks)(pick, library)
     answers = [(call, getattr(reader, call[0])(*call[1:]), getattr(library, call[0])(*call[1:])) for call in calls]
     return [answer for answer in answers if answer[1] != answer[2]]
 

@@ -16,6 +16,7 @@ MOST_VALUES = 1048576                         # "tooMany"
 MOST_PARTS = 64
 CHUNK = 1024                                  # values in a chunk
 GROUP = 32                                    # codes in a group
+GROUPS = 32                                   # groups in a full chunk
 HEADER_BYTES = 48
 ENTRY_BYTES = 12                              # one entry of the side table
 
@@ -243,29 +244,42 @@ def group_codes(h, chunk, at, g):
     return codes, behind
 
 
-def chunk_codes(h, data, i):
-    """All codes of the chunk i, or None when it breaks a rule ("chunkAnswer")."""
-    chunk = data[h.data_at + start_at(h, data, i):h.data_at + start_at(h, data, i + 1)]
-    left = min(CHUNK, h.n - CHUNK * i)
+def groups_codes(h, chunk, count):
+    """The first bad group of a chunk of so many values or None, then all codes or None.
+
+    Where bytes are left over behind the last group, that one is bad ("firstFault").
+    """
     codes, at = [], 0
-    while left > 0:
-        g = min(GROUP, left)
-        group = group_codes(h, chunk, at, g)
+    for first in range(0, count, GROUP):
+        group = group_codes(h, chunk, at, min(GROUP, count - first))
         if group is None:
-            return None
+            return first // GROUP, None
         codes += group[0]
         at = group[1]
-        left -= g
-    return codes if at == len(chunk) else None               # no byte is left over
+    if at < len(chunk):
+        return (count - 1) // GROUP, None
+    return None, codes
+
+
+def chunk_codes(h, data, i):
+    """Test 10 of the chunk i: its refusal or None, then all its codes or None ("chunkAnswer").
+
+    The detail names the chunk and its first bad group ("faultDetail").
+    """
+    chunk = data[h.data_at + start_at(h, data, i):h.data_at + start_at(h, data, i + 1)]
+    bad, codes = groups_codes(h, chunk, min(CHUNK, h.n - CHUNK * i))
+    if bad is not None:
+        return (10, GROUPS * i + bad), None
+    return None, codes
 
 
 def all_codes(h, data):
     """Test 10 of check and unpack: the refusal of the first bad chunk, or all codes."""
     codes = []
     for i in range(h.c):
-        chunk = chunk_codes(h, data, i)
-        if chunk is None:
-            return (10, i), None
+        refusal, chunk = chunk_codes(h, data, i)
+        if refusal is not None:
+            return refusal, None
         codes += chunk
     return None, codes
 
@@ -309,7 +323,8 @@ def kind_of(width, p):
 def probe(width, level, data, index):
     """Order 1 5 6 7 8 14 11 9 10. Gives (0, kind, pattern), or (number, detail, None).
 
-    By 10 it tests its own chunk alone, but that one whole.
+    By 10 it tests its own chunk alone, but that one whole: the detail has the chunk's
+    first bad group, whichever group the index lies in.
     """
     refusal, h = opening(level, data)
     if refusal is None and h.width != width:
@@ -319,9 +334,7 @@ def probe(width, level, data, index):
     if refusal is None:
         refusal = tables_refusal(h, data)
     if refusal is None:
-        codes = chunk_codes(h, data, index // CHUNK)
-        if codes is None:
-            refusal = (10, index // CHUNK)
+        refusal, codes = chunk_codes(h, data, index // CHUNK)
     if refusal is not None:
         return refusal + (None,)
     p = restored(width, h.mode, h.k, codes[index % CHUNK])
