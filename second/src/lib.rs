@@ -1,5 +1,5 @@
 //! The second program: packed float fields written again, from the scope
-//! document alone, to judge another implementation.
+//! document and change request R-1 alone, to judge another implementation.
 //!
 //! * [`numbers`]: the lossless code, the tolerance code and bound.
 //! * [`stream`]: pack, length, unpack, check and probe, as simply as possible.
@@ -34,7 +34,7 @@ impl Refusal {
 
     /// A refusal for which the table states a detail. Every detail of the
     /// table fits 32 bits: lengths are bounded by the value limit, the needed
-    /// minor is a header number, chunk numbers are below 1,024.
+    /// minor is a header number, and of groups there are at most 32,768.
     pub const fn with_detail(number: u32, detail: u64) -> Refusal {
         Refusal { number, detail: detail as u32 }
     }

@@ -63,6 +63,8 @@ enum { M64 = 52, LEAST_K64 = -1075, GREATEST_K64 = 970 };
 
 INLINED uint64_t refused(uint64_t number, uint64_t detail) { return (number << 32) | detail; }
 INLINED uint64_t refused_if(int broken, uint64_t number) { return broken ? refused(number, 0) : 0; }
+/* Refusal 10 for the group of a chunk's value: as all chunks before are full, this is chunk·32 + group. */
+INLINED uint64_t refused_group(size_t chunk, size_t value) { return refused(10, (chunk * CHUNK + value) / GROUP); }
 INLINED size_t least(size_t a, size_t b) { return a < b ? a : b; }
 INLINED size_t chunks_of(size_t n) { return (n + CHUNK - 1) / CHUNK; }
 INLINED size_t groups_of(size_t n) { return (n + GROUP - 1) / GROUP; }
@@ -513,21 +515,23 @@ static int NAME(group_holds)(const struct stream *stream, size_t place, size_t c
     return all_fit;
 }
 
-/* Refusal 10 of one chunk, or 0. */
+/* Refusal 10 of one chunk with its first bad group, or 0. Bytes left over count for the last group. */
 static uint64_t NAME(check_chunk)(const struct stream *stream, size_t chunk)
 {
     WORD most = NAME(largest_code)(&stream->header);
     size_t at = chunk_place(stream, chunk), end = chunk_place(stream, chunk + 1);
-    size_t left = least(CHUNK, stream->header.n - chunk * CHUNK);
+    size_t values = least(CHUNK, stream->header.n - chunk * CHUNK), left = values;
     while (left > 0 && at < end) {
         size_t count = least(GROUP, left);
         unsigned w = stream->bytes[at++];
         if (w > WIDTH || bytes_of(count, w) > end - at || !NAME(group_holds)(stream, at, count, w, most))
-            return refused(10, chunk);
+            return refused_group(chunk, values - left);
         at += bytes_of(count, w);
         left -= count;
     }
-    return left == 0 && at == end ? 0 : refused(10, chunk);
+    if (left > 0)
+        return refused_group(chunk, values - left);
+    return at == end ? 0 : refused_group(chunk, values - 1);
 }
 
 static uint64_t NAME(check_chunks)(const struct stream *stream)

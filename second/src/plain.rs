@@ -525,31 +525,38 @@ fn check_chunk<P: Lane>(
         header.data_end
     };
     let count = (header.n - chunk * CHUNK).min(CHUNK);
-    if chunk_holds(&stream[start..], end - start, count, most) {
-        Ok(())
-    } else {
-        Err(Refusal::with_detail(10, chunk as u64))
+    match value_in_bad_group(&stream[start..], end - start, count, most) {
+        None => Ok(()),
+        // All chunks before are full, so the groups count on from one to the
+        // next: this is chunk·32 + group.
+        Some(value) => Err(Refusal::with_detail(10, ((chunk * CHUNK + value) / GROUP) as u64)),
     }
 }
 
-/// Whether a chunk of this length begins the bytes.
-fn chunk_holds<P: Lane>(bytes: &[u8], length: usize, count: usize, most: P) -> bool {
+/// A value in the first bad group of the chunk of this length that begins the
+/// bytes, if it has one. Bytes left over count for the last group.
+fn value_in_bad_group<P: Lane>(
+    bytes: &[u8],
+    length: usize,
+    count: usize,
+    most: P,
+) -> Option<usize> {
     let mut at = 0;
     let mut left = count;
     while left > 0 {
         if at == length {
-            return false;
+            return Some(count - left);
         }
         let w = bytes[at] as u32;
         let group = left.min(GROUP);
         let end = at + 1 + bytes_of(group, w);
         if w > P::W || end > length || !group_holds(&bytes[at + 1..], group, w, most) {
-            return false;
+            return Some(count - left);
         }
         at = end;
         left -= group;
     }
-    at == length
+    (at != length).then(|| count - 1)
 }
 
 /// The smallest width, zero padding and the largest code of the group whose

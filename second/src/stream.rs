@@ -17,6 +17,7 @@ const SIDE_ENTRY_BYTES: u64 = 12;
 const MOST_SIDES: u64 = 64;
 const VALUES_IN_CHUNK: u64 = 1024;
 const VALUES_IN_GROUP: u64 = 32;
+const GROUPS_IN_CHUNK: u64 = 32;
 
 /// A bit pattern of one of the two widths.
 pub trait Pattern: Copy {
@@ -359,7 +360,8 @@ fn side_table_holds(stream: &[u8], header: &Header) -> bool {
 
 // -------------------------------------------------------- the chunks, 10
 
-/// The patterns of one chunk, or refusal 10 with that chunk's number.
+/// The patterns of one chunk, or refusal 10 with its first bad group:
+/// chunk·32 + group.
 fn read_chunk(
     stream: &[u8],
     header: &Header,
@@ -369,32 +371,34 @@ fn read_chunk(
     // Both ends are at most data_end, which is at most the stream's length.
     let start = (header.data_place + stretch.start) as usize;
     let end = (header.data_place + stretch.end) as usize;
-    stream
-        .get(start..end)
-        .and_then(|bytes| patterns_of_chunk(bytes, header.values_in_chunk(chunk), header.setting))
-        .ok_or(Refusal::with_detail(10, chunk))
+    patterns_of_chunk(&stream[start..end], header.values_in_chunk(chunk), header.setting)
+        .map_err(|group| Refusal::with_detail(10, chunk * GROUPS_IN_CHUNK + group))
 }
 
-/// The patterns in a chunk's bytes, or nothing if a rule is broken.
-fn patterns_of_chunk(mut bytes: &[u8], values: u64, setting: Setting) -> Option<Vec<u64>> {
+/// The patterns in a chunk's bytes, or the first bad group. All rules of a
+/// group come before the next group.
+fn patterns_of_chunk(mut bytes: &[u8], values: u64, setting: Setting) -> Result<Vec<u64>, u64> {
+    let groups = values.div_ceil(VALUES_IN_GROUP);
     let mut patterns = Vec::new();
-    let mut left = values;
-    while left > 0 {
-        let count = left.min(VALUES_IN_GROUP);
-        let (codes, rest) = codes_of_group(bytes, count as usize, setting.width())?;
+    for group in 0..groups {
+        let count = (values - group * VALUES_IN_GROUP).min(VALUES_IN_GROUP);
+        let (codes, rest) = codes_of_group(bytes, count as usize, setting.width()).ok_or(group)?;
         for code in codes {
-            patterns.push(setting.restored(code)?);
+            patterns.push(setting.restored(code).ok_or(group)?);
         }
         bytes = rest;
-        left -= count;
     }
-    // A chunk ends with its last group: nothing may be left over.
-    bytes.is_empty().then_some(patterns)
+    // A chunk ends with its last group: what is left over counts for that one.
+    if bytes.is_empty() {
+        Ok(patterns)
+    } else {
+        Err(groups - 1)
+    }
 }
 
 /// The codes of the group at the front of the bytes, and the bytes after it;
 /// nothing if w is above W or not smallest, bytes are missing or a padding bit
-/// is set.
+/// is set. Bytes are missing where the width byte or the codes do not fit.
 fn codes_of_group(bytes: &[u8], count: usize, width: Width) -> Option<(Vec<u64>, &[u8])> {
     let (&w, bytes) = bytes.split_first()?;
     let w = w as u32;

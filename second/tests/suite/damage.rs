@@ -50,15 +50,16 @@ fn probes_follow<P: Bits>(
             }
             (Ok(_), Probed::Infinity { .. }) => {}
             (Ok(_), Probed::Refused(refusal)) => panic!("{refusal:?} after success"),
-            // Chunks before the first broken one are sound; it is refused.
-            (Err(Refusal { number: 10, detail }), probed) => {
-                let chunk = index / 1024;
+            // Chunks before the first bad one are sound; it is refused alike.
+            (Err(first @ Refusal { number: 10, .. }), probed) => {
+                let (chunk, first_bad) = (index as u32 / 1024, first.detail / 32);
                 match probed {
+                    Probed::Refused(r) if chunk == first_bad => assert_eq!(r, first),
                     Probed::Refused(r) => {
-                        assert_eq!(r, Refusal::with_detail(10, chunk));
-                        assert!(chunk >= detail as u64);
+                        assert_eq!((r.number, r.detail / 32), (10, chunk));
+                        assert!(chunk > first_bad);
                     }
-                    _ => assert_ne!(chunk, detail as u64),
+                    _ => assert_ne!(chunk, first_bad),
                 }
             }
             (Err(refusal), probed) => assert_eq!(probed, Probed::Refused(refusal)),

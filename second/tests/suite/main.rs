@@ -8,5 +8,6 @@ mod example;
 mod harness;
 mod known;
 mod numbers;
+mod places;
 mod random;
 mod streams;

@@ -396,9 +396,10 @@ fn chunk_table_rules() {
     };
     let nine = Err((9, 0));
     assert_eq!(checked([0, 32, 64]), Ok(2049));
-    assert_eq!(checked([0, 33, 64]), Err((10, 0))); // a byte left over
-    assert_eq!(checked([0, 31, 64]), Err((10, 0))); // a byte missing
-    assert_eq!(checked([0, 32, 63]), Err((10, 1)));
+    assert_eq!(checked([0, 33, 64]), Err((10, 31))); // a byte left over
+    assert_eq!(checked([0, 31, 64]), Err((10, 31))); // a byte missing
+    assert_eq!(checked([0, 30, 64]), Err((10, 30)));
+    assert_eq!(checked([0, 32, 63]), Err((10, 32 + 31)));
     assert_eq!(checked([1, 32, 64]), nine); // the first is not 0
     assert_eq!(checked([0, 0, 64]), nine);
     assert_eq!(checked([0, 32, 32]), nine);
