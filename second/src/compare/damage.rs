@@ -108,6 +108,11 @@ pub fn bytes_altered(judge: &mut Judge, rng: &mut XorShift, extent: Extent) {
 fn other_bytes(rng: &mut XorShift, byte: u8, extent: Extent) -> Vec<u8> {
     let mut others: Vec<u8> = (0..8).map(|bit| byte ^ 1 << bit).collect();
     others.extend([0, 255, byte.wrapping_add(1), byte.wrapping_sub(1), rng.next() as u8]);
+    without(byte, others, rng, extent)
+}
+
+/// The bytes that differ from this one, each once; of a quick run one alone.
+pub fn without(byte: u8, mut others: Vec<u8>, rng: &mut XorShift, extent: Extent) -> Vec<u8> {
     others.sort_unstable();
     others.dedup();
     others.retain(|&other| other != byte);

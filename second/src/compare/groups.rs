@@ -11,15 +11,15 @@ use crate::stream::HIGHEST_LEVEL;
 
 /// Width, mode and k of the groups' codes.
 #[derive(Clone, Copy)]
-struct Setting {
-    width: Width,
-    mode: u32,
-    k: i32,
+pub struct Setting {
+    pub width: Width,
+    pub mode: u32,
+    pub k: i32,
 }
 
 impl Setting {
     /// The largest code: in mode 1 that of the largest u.
-    fn largest_code(self) -> u64 {
+    pub fn largest_code(self) -> u64 {
         let tolerance = Tolerance::allowed(self.width, self.k).filter(|_| self.mode == 1);
         match tolerance {
             Some(tolerance) => 2 * tolerance.largest_magnitude_code() + 1,
@@ -57,7 +57,7 @@ fn variants(rng: &mut XorShift, setting: Setting, count: usize) -> Vec<Vec<u8>> 
 }
 
 /// Codes of which the largest has w bits.
-fn codes_of_width(rng: &mut XorShift, w: u8, count: usize) -> Vec<u64> {
+pub fn codes_of_width(rng: &mut XorShift, w: u8, count: usize) -> Vec<u64> {
     if w == 0 {
         return vec![0; count];
     }

@@ -11,6 +11,9 @@ use std::io::Write;
 /// The library under comparison: what it makes of a call.
 pub type Library<'a> = &'a dyn Fn(&Call) -> Outcome;
 
+/// The operations that refuse 10 because of a group.
+const READERS: [&str; 5] = ["check", "unpack32", "unpack64", "probe32", "probe64"];
+
 /// How often each answer number was met.
 type Met = BTreeMap<u32, u64>;
 
@@ -31,6 +34,8 @@ struct Section {
     cases: u64,
     failed: u64,
     shown: BTreeSet<&'static str>,
+    /// The details with which each operation refused 10.
+    details_of_10: BTreeMap<&'static str, BTreeSet<u32>>,
 }
 
 impl<'a> Judge<'a> {
@@ -82,6 +87,10 @@ impl<'a> Judge<'a> {
         let number = call.number_of(reference.answer);
         let met = self.met.entry(call.operation()).or_default();
         *met.entry(number).or_default() += 1;
+        if number == 10 {
+            let details = self.section.details_of_10.entry(call.operation()).or_default();
+            details.insert(reference.answer as u32);
+        }
         self.section.cases += 1;
         if reference != library {
             self.section.failed += 1;
@@ -90,6 +99,19 @@ impl<'a> Judge<'a> {
             }
         }
         reference
+    }
+
+    /// Says how many different details each reader gave with refusal 10 in this
+    /// section. Fewer than these are a failure.
+    pub fn require_details_of_10(&mut self, least: usize) {
+        let details = &self.section.details_of_10;
+        let counts = READERS.map(|reader| (reader, details.get(reader).map_or(0, BTreeSet::len)));
+        let texts = counts.map(|(reader, count)| format!("{reader} {count}"));
+        self.say(&format!("different details of 10: {}", texts.join(", ")));
+        for (reader, _) in counts.iter().filter(|(_, count)| *count < least) {
+            self.section.failed += 1;
+            self.say(&format!("FAILURE: {reader} gave fewer than {least} details with 10"));
+        }
     }
 
     /// The reference is not as it was meant or is known to be.

@@ -6,8 +6,8 @@
 //! * [`caller`]: a library at the other end of a pipe.
 //! * [`judge`]: compares and counts; `shrink`: shortens a differing input.
 //! * [`random`]: the seeded generator of patterns and lists.
-//! * `known`, `rules`, `lists`, `orders`, `damage`, `tables`, `groups`: the
-//!   sections, each a source of calls.
+//! * `known`, `rules`, `lists`, `orders`, `damage`, `tables`, `groups`,
+//!   `places`: the sections, each a source of calls.
 //! * [`listings`]: the inputs for the listing program, which is run apart.
 
 pub mod call;
@@ -24,6 +24,7 @@ mod damage;
 mod groups;
 mod lists;
 mod orders;
+mod places;
 mod readings;
 mod rules;
 mod shrink;
@@ -64,7 +65,7 @@ pub struct Options {
 
 type Section = (&'static str, fn(&mut Judge, &mut XorShift, Extent));
 
-const SECTIONS: [Section; 21] = [
+const SECTIONS: [Section; 22] = [
     ("known values", known::known_values),
     ("lossless codes", rules::lossless_codes),
     ("tolerance codes", rules::tolerance_codes),
@@ -86,12 +87,14 @@ const SECTIONS: [Section; 21] = [
     ("side parts", tables::side_parts),
     ("groups", groups::groups),
     ("random damage", damage::random_damage),
+    ("the first bad group", places::places),
 ];
 
-const BRIEF_SECTIONS: [Section; 3] = [
+const BRIEF_SECTIONS: [Section; 4] = [
     ("lists for every k", lists::every_k),
     ("random lists", lists::random_lists),
     ("random damage", damage::random_damage),
+    ("the first bad group", places::places),
 ];
 
 /// Runs every section and writes what was compared; answers whether nothing
@@ -102,9 +105,9 @@ pub fn run(options: &Options, library: Library, out: &mut dyn Write) -> bool {
     judge.finish()
 }
 
-/// Puts some ten thousand calls with random lists and damaged streams to an
-/// implementation of the operations, in a fraction of a second; writes how it
-/// differs from the reference, and answers whether it never does.
+/// Puts some eighty thousand calls with random lists and damaged streams to an
+/// implementation of the operations, in a second or two; writes how it differs
+/// from the reference, and answers whether it never does.
 pub fn run_briefly(library: Library, out: &mut dyn Write) -> bool {
     let options = Options { seed: 1, extent: Extent::Quick, trace: false };
     let mut judge = Judge::new(library, out, options.seed, options.trace);

@@ -95,7 +95,7 @@ struct Reading {
 type ReadingBreak = (u32, fn(&mut Reading));
 
 /// Each breaks one rule of the refusal with its number in a sound reading.
-const READING_BREAKS: [ReadingBreak; 46] = [
+const READING_BREAKS: [ReadingBreak; 48] = [
     (1, |r| r.level = 7),
     (1, |r| r.level = 11),
     (1, |r| r.level = 0),
@@ -138,11 +138,17 @@ const READING_BREAKS: [ReadingBreak; 46] = [
     (9, |r| put(&mut r.stream, STARTS, u32::MAX)),
     (9, |r| r.stream.push(0)),
     (9, |r| add(&mut r.stream, DATA_END, u32::MAX)), // one byte earlier
-    (10, |r| put_width_byte(&mut r.stream, 255)),
-    (10, |r| put_width_byte(&mut r.stream, 65)),
-    (10, |r| put_width_byte(&mut r.stream, 0)),
-    (10, |r| put_width_byte(&mut r.stream, 9)),
+    (10, |r| put_width_byte(&mut r.stream, FIRST_GROUP, 255)),
+    (10, |r| put_width_byte(&mut r.stream, FIRST_GROUP, 65)),
+    (10, |r| put_width_byte(&mut r.stream, FIRST_GROUP, 0)),
+    (10, |r| put_width_byte(&mut r.stream, FIRST_GROUP, 9)),
+    (10, |r| put_width_byte(&mut r.stream, SECOND_GROUP, 255)),
+    (10, |r| put_width_byte(&mut r.stream, SECOND_GROUP, 1)),
 ];
+
+/// Where the first two groups of a sound reading begin, counted from the data.
+const FIRST_GROUP: usize = 0;
+const SECOND_GROUP: usize = 1 + 32;
 
 fn add(stream: &mut [u8], order: usize, step: u32) {
     if let Some(old) = number_at(stream, order) {
@@ -158,10 +164,10 @@ fn other(width: Width) -> Width {
     }
 }
 
-/// Sets the width byte of the first group.
-fn put_width_byte(stream: &mut [u8], w: u8) {
+/// Sets the width byte of the group that begins there in the data.
+fn put_width_byte(stream: &mut [u8], group: usize, w: u8) {
     if let Some(place) = number_at(stream, DATA_PLACE) {
-        stream[place as usize] = w;
+        stream[place as usize + group] = w;
     }
 }
 
@@ -215,12 +221,12 @@ pub fn reading(judge: &mut Judge, _: &mut XorShift, _: Extent) {
 }
 
 /// A sound reading for both widths and modes, of one chunk and of three, with
-/// and without side parts. The first group holds one code of 8 bits.
+/// and without side parts. The first group, a whole one, holds a code of 8 bits.
 fn sound_readings() -> Vec<Reading> {
     let mut readings = Vec::new();
     for width in WIDTHS {
         for (mode, k) in [(0, 0), (1, -2)] {
-            for n in [3, 2049] {
+            for n in [40, 2049] {
                 for sides in [vec![], vec![(7, vec![1, 2]), (9, vec![])]] {
                     let chunks = sound_chunks(n);
                     let draft = Draft { width, mode, k, n, chunks, sides };

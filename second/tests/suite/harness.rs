@@ -109,6 +109,27 @@ fn a_write_past_the_room_is_found() {
 }
 
 #[test]
+fn too_few_details_of_10_fail() {
+    // A stream of two groups, of which the first or the second is too wide.
+    let numbers = [1, 8, 8, 32, 0, 0, 33, 1, 48, 52, 0, 54, 0u32].map(u32::to_le_bytes).concat();
+    let failed = |least: usize| {
+        let mut text = Vec::new();
+        let mut judge = Judge::new(&by_tuned, &mut text, 7, false);
+        judge.begin("two groups");
+        for group in [[33, 0], [0, 33], [0, 33]] {
+            let stream = [&numbers[..], &group].concat();
+            judge.compare(Call::Check { level: 8, stream: &stream });
+        }
+        judge.require_details_of_10(least);
+        judge.end();
+        let text = String::from_utf8(text).unwrap();
+        assert!(text.contains("different details of 10: check 2, unpack32 0,"), "{text}");
+        text.matches("FAILURE").count()
+    };
+    assert_eq!([failed(0), failed(1), failed(2), failed(3)], [0, 4, 4, 5]);
+}
+
+#[test]
 fn a_seed_repeats_and_its_uses_differ() {
     let first = |seed, usage| XorShift::seeded(seed, usage).next();
     assert_eq!(first(1, 1), first(1, 1));
