@@ -74,6 +74,22 @@ faults! {
     first_chunk_checked,
     /// Refusal 10 has detail 0.
     detail_of_10,
+    /// Refusal 10 names the chunk alone.
+    chunk_named,
+    /// Refusal 10 names the chunk's first group.
+    group_dropped,
+    /// Refusal 10 names the last bad group.
+    last_bad_group_named,
+    /// The bytes of all groups of a chunk are looked for before the codes of any.
+    bytes_before_codes,
+    /// Bytes left over count for a group after the last.
+    leftover_past_last_group,
+    /// Bytes left over count for group 31 in a short chunk, too.
+    leftover_always_31,
+    /// A missing width byte counts for the group before.
+    missing_for_group_before,
+    /// Probe names the group of its index.
+    probe_names_own_group,
     /// Refusal 10 of unpack leaves the chunks before the fault written, and a
     /// refused probe a zero.
     output_touched_on_refusal,

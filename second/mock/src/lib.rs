@@ -4,6 +4,7 @@
 
 mod codes;
 mod faults;
+mod naming;
 mod packing;
 mod reading;
 

@@ -5,22 +5,22 @@
 
 use crate::codes;
 use crate::faults::{planted, Fault};
-use crate::Word;
+use crate::{naming, Word};
 use second::numbers::{bit_length, Tolerance, Width};
 use second::stream::{self, Probed};
 use second::{plain, Answer, Refusal};
 use std::ops::Range;
 
-fn number(stream: &[u8], order: usize) -> u32 {
+pub fn number(stream: &[u8], order: usize) -> u32 {
     let bytes = stream.get(4 * order..4 * order + 4);
     bytes.map_or(0, |b| u32::from_le_bytes([b[0], b[1], b[2], b[3]]))
 }
 
-fn put(stream: &mut [u8], order: usize, number: u32) {
+pub fn put(stream: &mut [u8], order: usize, number: u32) {
     stream[4 * order..4 * order + 4].copy_from_slice(&number.to_le_bytes());
 }
 
-fn count(stream: &[u8]) -> u64 {
+pub fn count(stream: &[u8]) -> u64 {
     number(stream, 6) as u64
 }
 
@@ -34,7 +34,7 @@ pub fn check(level: u32, stream: &[u8]) -> Answer {
     };
     match answer {
         Err(Refusal { number: 10, detail })
-            if planted(Fault::first_chunk_checked) && detail > 0 =>
+            if planted(Fault::first_chunk_checked) && detail >= 32 =>
         {
             Ok(count(stream))
         }
@@ -55,7 +55,7 @@ pub fn unpack<P: Word>(level: u32, stream: &[u8], out: &mut [P]) -> Answer {
             touch_values(&mended, out, n as usize);
         }
         Err(Refusal { number: 10, detail }) if planted(Fault::output_touched_on_refusal) => {
-            out[..1024 * detail as usize].fill(P::default());
+            out[..1024 * (detail as usize / 32)].fill(P::default());
         }
         Err(Refusal { number: 4, .. }) if planted(Fault::detail_of_4) => {
             return Err(Refusal::with_detail(4, out.len() as u64));
@@ -83,7 +83,7 @@ pub fn probe<P: Word>(level: u32, stream: &[u8], index: u64) -> Result<(u64, u64
     };
     let answer = answer.and_then(|(kind, pattern)| {
         let allowed = codes_allowed(&mended, &[P::of_number(pattern)]);
-        allowed.map_err(|_| Refusal::with_detail(10, index / 1024))?;
+        allowed.map_err(|_| Refusal::with_detail(10, index / 32))?;
         Ok((kind, restored(&mended, pattern)))
     });
     if planted(Fault::probe_all_chunks) && answer.is_ok() {
@@ -91,6 +91,9 @@ pub fn probe<P: Word>(level: u32, stream: &[u8], index: u64) -> Result<(u64, u64
     }
     let beyond = index >= count(stream);
     match answer.map_err(|refusal| refusal.number) {
+        Err(10) if planted(Fault::probe_names_own_group) => {
+            Err(Refusal::with_detail(10, index / 32))
+        }
         Err(14) if planted(Fault::order_11_before_14) && beyond => Err(Refusal::bare(11)),
         Err(11) if planted(Fault::order_9_before_11) && refused_tables(level, stream) => {
             Err(Refusal::bare(9))
@@ -121,9 +124,9 @@ fn changed(level: u32, stream: &[u8], answer: Answer) -> Answer {
         }
         9 if planted(Fault::data_without_chunks_is_8) && count(stream) == 0 => Refusal::bare(8),
         9 if planted(Fault::equal_starts_are_10) => {
-            equal_starts(stream).map_or(refusal, |chunk| Refusal::with_detail(10, chunk))
+            equal_starts(stream).map_or(refusal, |chunk| Refusal::with_detail(10, 32 * chunk))
         }
-        10 if planted(Fault::detail_of_10) => Refusal::bare(10),
+        10 => Refusal::with_detail(10, naming::named(stream, refusal.detail as usize) as u64),
         _ => refusal,
     };
     Err(changed)
@@ -183,14 +186,14 @@ fn quiet(width: Width, pattern: u64) -> u64 {
 
 // ------------------------------------------------------ codes refused
 
-/// Refusal 10 for the first chunk with a code that a planted fault refuses.
+/// Refusal 10 for the first group with a code that a planted fault refuses.
 fn codes_allowed<P: Word>(stream: &[u8], values: &[P]) -> Result<(), Refusal> {
     let k = number(stream, 5) as i32;
     let tolerance = Tolerance::allowed(P::WIDTH, k).filter(|_| number(stream, 4) == 1);
     let refused =
         |value: &P| tolerance.is_some_and(|t| codes::is_refused_code(t, t.code(value.number())));
     match values.iter().position(refused) {
-        Some(index) => Err(Refusal::with_detail(10, index as u64 / 1024)),
+        Some(index) => Err(Refusal::with_detail(10, index as u64 / 32)),
         None => Ok(()),
     }
 }
@@ -276,7 +279,7 @@ fn rebuilt(stream: &[u8]) -> Option<Vec<u8>> {
     Some([&front, &data[..], &stream[end..]].concat())
 }
 
-fn stretch(stream: &[u8], chunk: usize, c: usize) -> Range<usize> {
+pub fn stretch(stream: &[u8], chunk: usize, c: usize) -> Range<usize> {
     let place = number(stream, 9) as usize;
     let start = place + number(stream, 12 + chunk) as usize;
     match chunk + 1 < c {
