@@ -171,16 +171,18 @@ uint64_t gwz_probe64(uint32_t level, const uint8_t *bytes, size_t len, uint64_t 
 /* ---- Where a stream is bad */
 
 /*
- * The detail of refusal 10, GWZ_BROKEN_CHUNK, taken apart: a chunk and a group of it, both counted from 0. Of gwz_check and
- * gwz_unpack it is the first bad chunk, of gwz_probe the value's own; the group is the first bad one in it. (Bytes left over
- * behind a chunk's last group count for that group.) The chunk's values have the indices from 1024 * chunk on, 1,024 of them,
- * and the group's those from 1024 * chunk + 32 * group on, 32 of them; the last chunk and its last group have what is left.
+ * The detail of refusal 10, GWZ_BROKEN_CHUNK, taken apart: a chunk and a group of it, both counted from 0. From
+ * gwz_check and gwz_unpack it is the first bad chunk, from gwz_probe the value's own; the group is the first bad one
+ * in it. (Bytes left over behind a chunk's last group count for that group.) The chunk's values have the indices from
+ * 1024 * chunk on, 1,024 of them, and the group's those from 1024 * chunk + 32 * group on, 32 of them; the last chunk
+ * and its last group have what is left.
  *
- * - It is where a rule is first seen broken. The altered byte may stand in that group, before it in the chunk, or in the
- *   header or the chunk table.
- * - gwz_probe refuses every value of that chunk, with the same detail: those of the good groups in it too.
- * - Of gwz_check and gwz_unpack, every chunk before it is good, and gwz_probe reads its values. Of the chunks behind it
- *   nothing is told: gwz_probe at the index 1024 * j asks about chunk j. Of gwz_probe, nothing is told of any other chunk.
+ * - It is where a rule is first seen broken. The altered byte may stand in that group, before it in the chunk, or in
+ *   the header or the chunk table.
+ * - gwz_probe refuses every value of that chunk with the same detail: those of the good groups in it too.
+ * - From gwz_check and gwz_unpack: every chunk before it is good, and gwz_probe reads its values. Of the chunks behind
+ *   it nothing is told; gwz_probe at the index 1024 * j asks about chunk j.
+ * - From gwz_probe: nothing is told of any other chunk.
  */
 GWZ_HELPER uint32_t gwz_bad_chunk(uint32_t detail)
 {

@@ -64,7 +64,7 @@ enum gwz_refusal_number {
     GWZ_TOO_NEW = 7,              /* needed minor above the level; detail: the needed minor */
     GWZ_BROKEN_HEADER = 8,        /* another header rule broken, as when the bytes end before the data */
     GWZ_BROKEN_TABLE = 9,         /* chunk table or side table rule broken */
-    GWZ_BROKEN_CHUNK = 10,        /* a chunk breaks a rule; detail: chunk * 32 + group (gwz_bad_chunk of gwizdorad.h); of a single code: 0 */
+    GWZ_BROKEN_CHUNK = 10,        /* a chunk breaks a rule; detail: chunk * 32 + group (of a code alone: 0) */
     GWZ_NO_SUCH_INDEX = 11,       /* index not below the count of values */
     GWZ_NO_TOLERANCE = 12,        /* tolerance not a finite number above 0 */
     GWZ_TOLERANCE_TOO_SMALL = 13, /* no allowed k is small enough */
@@ -131,7 +131,8 @@ GWZ_HELPER const char *gwz_refusal_text(uint32_t number)
     case GWZ_BROKEN_TABLE:
         return "The chunk table or the side table is broken: the file was cut, damaged or added to, fetch it again.";
     case GWZ_BROKEN_CHUNK:
-        return "A chunk breaks a rule, first at chunk detail / 32, group detail % 32: fetch the file again. (Of a single code: no value has it at this k.)";
+        return "A chunk breaks a rule, first seen at chunk detail / 32, group detail % 32: fetch the file again. "
+               "(Of a code alone: no value has it at this k.)";
     case GWZ_NO_SUCH_INDEX:
         return "There is no value at this index: indices run from 0 to the count of values less 1.";
     case GWZ_NO_TOLERANCE:

@@ -127,8 +127,8 @@ static void print_damage(const struct content *content, uint32_t detail)
 {
     uint64_t chunk = gwz_bad_chunk(detail), first = CHUNK_VALUES * chunk, next = first + CHUNK_VALUES;
     uint64_t values = number_at(content, VALUES_AT);
-    printf("chunk %" PRIu64 " breaks a rule, first seen in group %" PRIu32 ": values %" PRIu64 " to %" PRIu64 " are lost, ",
-           chunk, gwz_bad_group(detail), first, (next < values ? next : values) - 1);
+    printf("chunk %" PRIu64 " breaks a rule, first seen in group %" PRIu32 ": ", chunk, gwz_bad_group(detail));
+    printf("values %" PRIu64 " to %" PRIu64 " are lost, ", first, (next < values ? next : values) - 1);
     printf("bytes %" PRIu64 " to %" PRIu64 " of the file; ", chunk_at(content, chunk),
            chunk_at(content, chunk + 1) - 1);
     print_others(content, chunk);

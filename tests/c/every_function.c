@@ -646,7 +646,7 @@ static void put_three_chunks_of(uint8_t *stream, uint32_t first, uint32_t second
     put_number(stream + 56, first + second);
 }
 
-/* Check and unpack name the first bad place; probe that of its own chunk. `bad`: each chunk's first bad group, or -1. */
+/* Check and unpack name the first bad place, probe that of its own chunk. `bad`: each chunk's first bad group, or -1. */
 static void expect_places(struct tally *tally, const char *what, const uint8_t *stream, size_t len, const int bad[3])
 {
     const uint32_t zero = 0;
@@ -686,7 +686,7 @@ static void test_damaged_chunks(struct tally *tally)
         }
 }
 
-/* Bytes left over count for the chunk's last group, behind every other fault; bytes missing, for the group that lacks them. */
+/* Bytes left over count for the last group, after every other fault; missing ones for the group that lacks them. */
 static void test_chunk_ends(struct tally *tally)
 {
     static const int full[3] = {31, -1, -1}, second[3] = {-1, 31, -1}, last[3] = {-1, -1, 0}, earlier[3] = {4, -1, -1};
