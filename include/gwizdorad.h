@@ -179,9 +179,10 @@ uint64_t gwz_probe64(uint32_t level, const uint8_t *bytes, size_t len, uint64_t 
  *
  * - It is where a rule is first seen broken. The altered byte may stand in that group, before it in the chunk, or in
  *   the header or the chunk table.
- * - gwz_probe refuses every value of that chunk with the same detail: those of the good groups in it too.
- * - From gwz_check and gwz_unpack: every chunk before it is good, and gwz_probe reads its values. Of the chunks behind
- *   it nothing is told; gwz_probe at the index 1024 * j asks about chunk j.
+ * - gwz_probe, at the same level, refuses every value of that chunk with the same detail: those of the good groups in
+ *   it too. It reads the values of every good chunk.
+ * - From gwz_check and gwz_unpack: every chunk before it is good. Of the chunks behind it nothing is told; gwz_probe at
+ *   the index 1024 * j asks about chunk j.
  * - From gwz_probe: nothing is told of any other chunk.
  */
 GWZ_HELPER uint32_t gwz_bad_chunk(uint32_t detail)

@@ -146,9 +146,9 @@ module _ (level : ℕ) (s : List ℕ) (bytes : Below 256 s) where
   pub probe32-tells-the-place : (i : ℕ) → let r = probeResult32 (probeAnswer32 level s i) in r / 2 ^ 32 ≡ 10
       → (r % 2 ^ 32 / 32 ≡ i / 1024) × BadGroup s (r % 2 ^ 32 / 32) (r % 2 ^ 32 % 32)
   probe32-tells-the-place i ten =
-      probe-names-the-place32 level s (probeResult32 (probeAnswer32 level s i) % 2 ^ 32) i (probe-refused-so32 (probeAnswer32 level s i) 10 (probe32-is-uncut level s bytes i) (lit< tt) ten)
+      probe-names-the-place32 level s (probeResult32 (probeAnswer32 level s i) % 2 ^ 32) i (probe-refused-so32 (probeAnswer32 level s i) 10 (probeResult32 (probeAnswer32 level s i)) (probe32-is-uncut level s bytes i) (lit< tt) ten)
 
   pub probe64-tells-the-place : (i : ℕ) → let r = probeResult64 (probeAnswer64 level s i) in r / 2 ^ 32 ≡ 10
       → (r % 2 ^ 32 / 32 ≡ i / 1024) × BadGroup s (r % 2 ^ 32 / 32) (r % 2 ^ 32 % 32)
   probe64-tells-the-place i ten =
-      probe-names-the-place64 level s (probeResult64 (probeAnswer64 level s i) % 2 ^ 32) i (probe-refused-so64 (probeAnswer64 level s i) 10 (probe64-is-uncut level s bytes i) (lit< tt) ten)
+      probe-names-the-place64 level s (probeResult64 (probeAnswer64 level s i) % 2 ^ 32) i (probe-refused-so64 (probeAnswer64 level s i) 10 (probeResult64 (probeAnswer64 level s i)) (probe64-is-uncut level s bytes i) (lit< tt) ten)

@@ -56,13 +56,17 @@ probe-spelled64 (p64.Refused number detail) h = let r = h number detail refl in 
 
 -- ---- a refusal, from its result: the halves are a number that is not 0, and the detail
 
+module _ {A : Type 0} (number detail : A → ℕ) (refused : ℕ → ℕ → A) (told : (a : A) (x y : ℕ) → 0 < x → number a ≡ x → detail a ≡ y → a ≡ refused x y) where
+  from-result : (a : A) (x r : ℕ) → Uncut (number a) (detail a) r → 0 < x → r / 2 ^ 32 ≡ x → a ≡ refused x (r % 2 ^ 32)
+  from-result a x r uncut some is = let t = a-result-is-taken-apart uncut in told a x (r % 2 ^ 32) some (sym (t .0) ∙ is) (sym (t .1))
+
 refusal-of : (a : Answer) (x y : ℕ) → 0 < x → answerNumber a ≡ x → answerDetail a ≡ y → a ≡ Refused x y
 unfolding answerNumber answerDetail
 refusal-of (Done n) x y some number detail = absurd (omega (arith, number))
 refusal-of (Refused a b) x y some number detail = ap₂ Refused number detail
 
 pub refused-so : (a : Answer) (x : ℕ) → Spelled a → 0 < x → answerResult a / 2 ^ 32 ≡ x → a ≡ Refused x (answerResult a % 2 ^ 32)
-refused-so a x spelled some is = let t = a-result-is-taken-apart (spelled .uncut) in refusal-of a x (answerResult a % 2 ^ 32) some (sym (t .0) ∙ is) (sym (t .1))
+refused-so a x spelled = from-result answerNumber answerDetail Refused refusal-of a x (answerResult a) (spelled .uncut)
 
 probe-refusal-of32 : (a : Probe32) (x y : ℕ) → 0 < x → probeNumber32 a ≡ x → probeDetail32 a ≡ y → a ≡ p32.Refused x y
 unfolding probeNumber32 probeDetail32
@@ -71,9 +75,8 @@ probe-refusal-of32 (p32.Infinity negative) x y some number detail = absurd (omeg
 probe-refusal-of32 (p32.NotANumber p) x y some number detail = absurd (omega (arith, number))
 probe-refusal-of32 (p32.Refused a b) x y some number detail = ap₂ p32.Refused number detail
 
-pub probe-refused-so32 : (a : Probe32) (x : ℕ) → Uncut (probeNumber32 a) (probeDetail32 a) (probeResult32 a) → 0 < x → probeResult32 a / 2 ^ 32 ≡ x
-    → a ≡ p32.Refused x (probeResult32 a % 2 ^ 32)
-probe-refused-so32 a x uncut some is = let t = a-result-is-taken-apart uncut in probe-refusal-of32 a x (probeResult32 a % 2 ^ 32) some (sym (t .0) ∙ is) (sym (t .1))
+pub probe-refused-so32 : (a : Probe32) (x r : ℕ) → Uncut (probeNumber32 a) (probeDetail32 a) r → 0 < x → r / 2 ^ 32 ≡ x → a ≡ p32.Refused x (r % 2 ^ 32)
+probe-refused-so32 = from-result probeNumber32 probeDetail32 p32.Refused probe-refusal-of32
 
 probe-refusal-of64 : (a : Probe64) (x y : ℕ) → 0 < x → probeNumber64 a ≡ x → probeDetail64 a ≡ y → a ≡ p64.Refused x y
 unfolding probeNumber64 probeDetail64
@@ -82,6 +85,5 @@ probe-refusal-of64 (p64.Infinity negative) x y some number detail = absurd (omeg
 probe-refusal-of64 (p64.NotANumber p) x y some number detail = absurd (omega (arith, number))
 probe-refusal-of64 (p64.Refused a b) x y some number detail = ap₂ p64.Refused number detail
 
-pub probe-refused-so64 : (a : Probe64) (x : ℕ) → Uncut (probeNumber64 a) (probeDetail64 a) (probeResult64 a) → 0 < x → probeResult64 a / 2 ^ 32 ≡ x
-    → a ≡ p64.Refused x (probeResult64 a % 2 ^ 32)
-probe-refused-so64 a x uncut some is = let t = a-result-is-taken-apart uncut in probe-refusal-of64 a x (probeResult64 a % 2 ^ 32) some (sym (t .0) ∙ is) (sym (t .1))
+pub probe-refused-so64 : (a : Probe64) (x r : ℕ) → Uncut (probeNumber64 a) (probeDetail64 a) r → 0 < x → r / 2 ^ 32 ≡ x → a ≡ p64.Refused x (r % 2 ^ 32)
+probe-refused-so64 = from-result probeNumber64 probeDetail64 p64.Refused probe-refusal-of64

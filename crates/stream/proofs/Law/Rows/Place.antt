@@ -5,7 +5,7 @@ use mathlib.Core.Bool.{Bool, true, false, _&&_, not}
 use mathlib.Core.List.{List, [], _∷_, _++_}
 use Prim.Native.Nat.{ℕ, _+_, _*_, _/_, _%_, _≤_, _<_}
 use native.Mathlib.Omega.{arith}
-use borrow.Author.Tests.{ltb-true, eq-eqb, not-false}
+use borrow.Author.Tests.{ltb-true, eqb-true, eq-eqb, not-false}
 use lib.Dec.{ltb, eqb}
 use lib.ListN.{length}
 use Rattle.stream.specs.Setting.{groupSize, limitOf}
@@ -125,44 +125,74 @@ module _ (level : ℕ) (s : List ℕ) (detail : ℕ) where
   unfolding checkRows
   check-named e = let o = opening-others (contentRows (headerOf s) s) e in content-named (o .0) (o .1)
 
-  pub unpack-named : (W room : ℕ) → first (unpackRows W level s room) ≡ Stop 10 detail → Fault s (detail / 32) (detail % 32)
-  unfolding unpackRows widthRow roomRow numbersOf without
-  unpack-named W room e =
+  -- unpack's rows before 9 are others too, so it stops where check does
+  pub unpack-checked : (W room : ℕ) → first (unpackRows W level s room) ≡ Stop 10 detail → first (checkRows level s) ≡ Stop 10 detail
+  unfolding unpackRows checkRows widthRow roomRow numbersOf without
+  unpack-checked W room e =
       let h = headerOf s in
       let o = opening-others (widthRow W h ∷ roomRow room h ∷ contentRows h s) e in
-      content-named (o .0) (others 10 detail (widthRow W h ∷ roomRow room h ∷ []) (contentRows h s) refl (o .1) .1)
+      opened (openingRows level s) (contentRows h s) (o .0) ∙ others 10 detail (widthRow W h ∷ roomRow room h ∷ []) (contentRows h s) refl (o .1) .1
 
-  pub probe-named : (W i : ℕ) → first (probeRows W level s i) ≡ Stop 10 detail → (detail / 32 ≡ i / 1024) × BadGroup s (detail / 32) (detail % 32)
+  -- ---- probe: what is known where it stops at 10
+
+  record Probed (W i : ℕ) : Type 0 where
+    pass : first (openingRows level s) ≡ Pass
+    width : headerOf s .width ≡ W
+    below : i < headerOf s .count
+    right : first (tableRows (headerOf s) s) ≡ Pass
+    row : first (chunkRow (headerOf s) s (i / 1024) ∷ []) ≡ Stop 10 detail
+
+  probed : (W i : ℕ) → first (probeRows W level s i) ≡ Stop 10 detail → Probed W i
   unfolding probeRows widthRow indexRow ownRows numbersOf without
-  probe-named W i e =
+  probed W i e =
       let h = headerOf s in
       let o = opening-others (widthRow W h ∷ indexRow i h ∷ ownRows h s i) e in
       let m = others 10 detail (widthRow W h ∷ indexRow i h ∷ []) (ownRows h s i) refl (o .1) in
-      let below = ltb-true i (h .count) (not-false (ltb i (h .count)) (not-given 11 0 (not (ltb i (h .count))) (passed-both (widthRow W h) (indexRow i h ∷ []) (m .0) .1))) in
-      let n = chunk-named h s (length s) (laid (o .0)) detail (i / 1024) (omega (arith, laid (o .0) .chunks)) (table-others (chunkRow h s (i / 1024) ∷ []) (m .1) .1) in
-      (sym (n .0), bad-group h s (length s) (laid (o .0)) (detail / 32) (n .1 .is-chunk) (detail % 32) .0 (n .1 .own))
+      let both = passed-both (widthRow W h) (indexRow i h ∷ []) (m .0) in
+      let t = table-others (chunkRow h s (i / 1024) ∷ []) (m .1) in
+      record {
+        pass = o .0;
+        width = eqb-true (h .width) W (not-false (eqb (h .width) W) (not-given 14 0 (not (eqb (h .width) W)) (both .0)));
+        below = ltb-true i (h .count) (not-false (ltb i (h .count)) (not-given 11 0 (not (ltb i (h .count))) (both .1)));
+        right = t .0;
+        row = t .1;
+      }
 
-  -- ---- of a stream that check refuses so, probe refuses the values of the named chunk, and reads those of the chunks before it
+  pub probe-named : (W i : ℕ) → first (probeRows W level s i) ≡ Stop 10 detail → (detail / 32 ≡ i / 1024) × BadGroup s (detail / 32) (detail % 32)
+  probe-named W i e =
+      let h = headerOf s in
+      let p = probed W i e in
+      let n = chunk-named h s (length s) (laid (p .pass)) detail (i / 1024) (omega (arith, laid (p .pass) .chunks, p .below)) (p .row) in
+      (sym (n .0), bad-group h s (length s) (laid (p .pass)) (detail / 32) (n .1 .is-chunk) (detail % 32) .0 (n .1 .own))
 
-  module _ (refused : first (checkRows level s) ≡ Stop 10 detail) where
+  -- ---- header and tables are right: a probe answers what the row of its chunk says
+
+  module _ (pass : first (openingRows level s) ≡ Pass) (right : first (tableRows (headerOf s) s) ≡ Pass) (W i : ℕ) (width : headerOf s .width ≡ W) (below : i < headerOf s .count) where
+    chunk-probed : first (probeRows W level s i) ≡ first (chunkRow (headerOf s) s (i / 1024) ∷ [])
+    unfolding ownRows
+    chunk-probed =
+        sym (probe-own level s pass (headerOf s) refl W i width below)
+        ∙ opened (tableRows (headerOf s) s) (chunkRow (headerOf s) s (i / 1024) ∷ []) right
+
+    at-chunk : (j : ℕ) → i / 1024 ≡ j → first (chunkRow (headerOf s) s j ∷ []) ≡ Stop 10 detail → first (probeRows W level s i) ≡ Stop 10 detail
+    at-chunk j same stop = chunk-probed ∙ ap (λ (x : ℕ). first (chunkRow (headerOf s) s x ∷ [])) same ∙ stop
+
+  -- where one value is refused, so is each of its chunk
+  pub probe-whole : (W i : ℕ) → first (probeRows W level s i) ≡ Stop 10 detail → (k : ℕ) → k < headerOf s .count → k / 1024 ≡ i / 1024 → first (probeRows W level s k) ≡ Stop 10 detail
+  probe-whole W i e k below same = let p = probed W i e in at-chunk (p .pass) (p .right) W k (p .width) below (i / 1024) same (p .row)
+
+  -- where check refuses, so does the probe of each value of the named chunk; the values of every good chunk are read
+  module _ (refused : first (checkRows level s) ≡ Stop 10 detail) (W i : ℕ) (width : headerOf s .width ≡ W) (below : i < headerOf s .count) where
     open-tables : (first (openingRows level s) ≡ Pass) × (first (tableRows (headerOf s) s) ≡ Pass)
     unfolding checkRows contentRows
     open-tables = let o = opening-others (contentRows (headerOf s) s) refused in (o .0, table-others (chunkRows (headerOf s) s) (o .1) .0)
 
-    chunk-probed : (W i : ℕ) → headerOf s .width ≡ W → i < headerOf s .count → first (chunkRow (headerOf s) s (i / 1024) ∷ []) ≡ first (probeRows W level s i)
-    unfolding ownRows
-    chunk-probed W i w l =
-        sym (opened (tableRows (headerOf s) s) (chunkRow (headerOf s) s (i / 1024) ∷ []) (open-tables .1))
-        ∙ probe-own level s (open-tables .0) (headerOf s) refl W i w l
-
-    pub probe-lost : (W i : ℕ) → headerOf s .width ≡ W → i < headerOf s .count → i / 1024 ≡ detail / 32 → first (probeRows W level s i) ≡ Stop 10 detail
-    probe-lost W i w l same =
+    pub probe-lost : i / 1024 ≡ detail / 32 → first (probeRows W level s i) ≡ Stop 10 detail
+    probe-lost same =
         let f = check-named refused in
         let own = bad-group (headerOf s) s (length s) (laid (open-tables .0)) (detail / 32) (f .chunk) (detail % 32) .1 (f .group) in
-        sym (chunk-probed W i w l)
-        ∙ ap (λ (j : ℕ). first (chunkRow (headerOf s) s j ∷ [])) same
-        ∙ sym (bad-row (headerOf s) s (detail / 32) (detail % 32) own)
-        ∙ ap (Stop 10) (let whole : detail / 32 * 32 + detail % 32 ≡ detail = omega arith in whole)
+        at-chunk (open-tables .0) (open-tables .1) W i width below (detail / 32) same
+        (sym (bad-row (headerOf s) s (detail / 32) (detail % 32) own) ∙ ap (Stop 10) (let whole : detail / 32 * 32 + detail % 32 ≡ detail = omega arith in whole))
 
-    pub probe-kept : (W i : ℕ) → headerOf s .width ≡ W → i < headerOf s .count → i / 1024 < detail / 32 → first (probeRows W level s i) ≡ Pass
-    probe-kept W i w l before = sym (good-row (headerOf s) s (i / 1024) (check-named refused .earlier (i / 1024) before) ∙ chunk-probed W i w l)
+    pub probe-kept : chunkState (headerOf s) s (i / 1024) ≡ Good → first (probeRows W level s i) ≡ Pass
+    probe-kept good = chunk-probed (open-tables .0) (open-tables .1) W i width below ∙ sym (good-row (headerOf s) s (i / 1024) good)
