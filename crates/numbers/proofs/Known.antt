@@ -6,6 +6,7 @@ use mathlib.Core.List.{List, [], _∷_}
 use Prim.Native.Nat.{ℕ, zero, suc, _+_, _-_, _*_, _^_}
 use lib.Dec.{leb, eqb}
 use lib.IntN.{ℤ, pos, negsuc}
+use Rattle.numbers.specs.Difference.{differenceCode, differenceCodes}
 use Rattle.bins.proofs.Known.{wrong, toleranceRight}
 use Rattle.numbers.specs.Signed.{signedView, folded, unfolded, bitsOf}
 use Rattle.numbers.specs.Lossless.{rotated, field, minus, lowered, stepped, losslessCode, plus, raised, unstepped, unrotated, losslessRestored}
@@ -58,3 +59,12 @@ exponentsRight W m half (suc e) =
 exponents-known : exponentsRight 32 23 128 255 && exponentsRight 64 52 1024 2047 ≡ true
 unfolding exponentsRight
 exponents-known = refl
+
+-- ---- differences: small steps up, none and down; and the patterns at the ends, where the difference wraps
+
+differences-known :
+    (differenceCodes 32 0 (5 ∷ 7 ∷ 7 ∷ 4 ∷ []) ≡ 10 ∷ 4 ∷ 0 ∷ 5 ∷ [])
+    × (differenceCodes 32 0 (0xFFFFFFFF ∷ 0 ∷ 0x80000000 ∷ 0x7FFFFFFF ∷ []) ≡ 1 ∷ 2 ∷ 0xFFFFFFFF ∷ 1 ∷ [])
+    × (differenceCodes 64 0 (0x3FF0000000000000 ∷ 0x3FF0000000000001 ∷ 0 ∷ []) ≡ 0x7FE0000000000000 ∷ 2 ∷ 0x7FE0000000000001 ∷ [])
+unfolding differenceCodes differenceCode minus signedView folded
+differences-known = (refl, refl, refl)

@@ -2,6 +2,7 @@
 -- small laws of numbers, are laws of `bins`.
 pub mod Signed
 pub mod Lossless
+pub mod Difference
 pub mod Answers
 pub mod Bound
 pub mod Read

@@ -2,12 +2,14 @@
 -- The proofs are citations of the laws in proofs/Law/, here and in `bins`. The words are those of specs/, here and there.
 use mathlib.Core.Path.{_≡_, refl, sym, ap, subst, _∙_}
 use mathlib.Core.Bool.{Bool, true, false, cond}
+use mathlib.Core.List.{List}
 use Prim.Native.Nat.{ℕ, _+_, _-_, _*_, _/_, _%_, _^_, _≤_, _<_}
 use native.Mathlib.Nat.{mod-lt, le-refl}
 use native.Mathlib.Omega.{arith}
 use borrow.Author.Tests.{le-leb}
 use lib.Dec.{leb, eqb, lit<, lit≤}
 use lib.IntN.{ℤ}
+use lib.ListN.{getD}
 use lib.Pow.{pow-pos}
 use lib.Ieee.{binary32, binary64, inf, nan, ofBits}
 use lib.Ieee.Exact.{HasValue}
@@ -17,11 +19,13 @@ use Rattle.numbers.specs.declared.tolerance.CodeAnswer.the-variants as c
 use Rattle.numbers.specs.declared.tolerance.PatternAnswer.the-variants as pattern
 use Rattle.numbers.specs.Answers.{codeAnswer, patternAnswer}
 use Rattle.numbers.specs.Lossless.{losslessCode, losslessRestored}
+use Rattle.numbers.specs.Difference.{differenceCodes, runningSums}
 use Rattle.bins.specs.Tolerance.{kOffset, lastBin, allowedK, binOf, sign, ordinal, magnitude, restoredOrdinal, toleranceCode, toleranceRestored, largestU}
 use Rattle.bins.specs.Answers.{binAnswer}
 use Rattle.numbers.specs.Bound.{isTolerance, exponentOf, notAbove, boundAt}
 use Rattle.numbers.specs.Theorem.{Format, distance, Within, IsBound, Returned, BoundFor}
 use Rattle.numbers.proofs.Law.Lossless as Lossless
+use Rattle.numbers.proofs.Law.Difference as Difference
 use Rattle.bins.proofs.Law.Tolerance as Tolerance
 use Rattle.bins.proofs.Law.Answers.{bin-small, allowed, bin-is, refused-is}
 use Rattle.bins.proofs.Law.Exponent.{leZ-both}
@@ -62,6 +66,32 @@ module _ (W m : ℕ) (format : Format W m) where
 
   pub the-k-of-its-bin : (k : ℤ) → allowedK W m k ≡ true → exponentOf W m (binOf W m k) ≡ k
   the-k-of-its-bin = Bound.exponent-back W m format
+
+-- ---- differences, which know no fraction bits: `before` is the pattern that a list stands behind
+
+module _ (W : ℕ) (some : 0 < W) where
+  -- A code has W bits, and so has a pattern that is restored.
+  pub difference-codes-have-W-bits : (before : ℕ) (ps : List ℕ) (i : ℕ) → getD (differenceCodes W before ps) i 0 < 2 ^ W
+  difference-codes-have-W-bits = Difference.codes-under W some
+
+  pub running-sums-have-W-bits : (before : ℕ) (cs : List ℕ) (i : ℕ) → getD (runningSums W before cs) i 0 < 2 ^ W
+  running-sums-have-W-bits = Difference.sums-under W some
+
+  -- Demand 2: lossless packing restores every bit pattern, here those of a whole list.
+  pub every-list-is-restored : (before : ℕ) (ps : List ℕ) → before < 2 ^ W → ((i : ℕ) → getD ps i 0 < 2 ^ W)
+      → runningSums W before (differenceCodes W before ps) ≡ ps
+  every-list-is-restored = Difference.sums-of-codes W some
+
+  -- Every list of codes of W bits has exactly one list of patterns.
+  pub every-list-of-codes-has-one-list : (before : ℕ) (cs : List ℕ) → before < 2 ^ W → ((i : ℕ) → getD cs i 0 < 2 ^ W)
+      → (ps : List ℕ) × ((i : ℕ) → getD ps i 0 < 2 ^ W) × (differenceCodes W before ps ≡ cs)
+      × ((qs : List ℕ) → ((i : ℕ) → getD qs i 0 < 2 ^ W) → differenceCodes W before qs ≡ cs → qs ≡ ps)
+  every-list-of-codes-has-one-list before cs b h = (
+    runningSums W before cs,
+    Difference.sums-under W some before cs,
+    Difference.codes-of-sums W some before cs b h,
+    λ qs l e. sym (every-list-is-restored before qs b l) ∙ ap (runningSums W before) e,
+  )
 
 -- ---- lossless
 

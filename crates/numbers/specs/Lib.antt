@@ -3,6 +3,7 @@
 -- W = 32 and m = 23 is binary32, W = 64 and m = 52 binary64. Every definition is executable and total.
 pub mod Signed
 pub mod Lossless
+pub mod Difference
 pub mod Answers
 pub mod Bound
 pub mod Theorem

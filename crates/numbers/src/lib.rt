@@ -1,6 +1,7 @@
 // The number rules of document 01: the lossless code, the tolerance code and bound, for binary32 and binary64 bit patterns.
 // It links nothing but std and `bins`, so that a solver can link it without the streams.
 pub mod bound;
+pub mod difference;
 pub mod lossless;
 pub mod signed;
 pub mod tolerance;

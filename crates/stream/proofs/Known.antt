@@ -11,7 +11,7 @@ use Rattle.bins.specs.Tolerance.{kOffset, lastBin, binOf, largestU}
 use Rattle.numbers.specs.Lossless.{rotated, field, minus, lowered, stepped, losslessCode}
 use Rattle.blocks.specs.Bytes.{number, digits}
 use Rattle.stream.specs.Group.{bytesFor, largest, widthOf, packed, groupBytes, givenWidth, groupLength, groupNumber, groupCodes, within, goodGroup}
-use Rattle.stream.specs.Setting.{fractionBits, binFor, settingOf, clipped, codeAt, codesOf, limitOf}
+use Rattle.stream.specs.Setting.{fractionBits, binFor, settingOf, clipped, codeAt, codesAfter, codesOf, limitOf}
 use Rattle.stream.specs.Chunk.{groupsIn, groupsBytes, chunkBytes, firstFault, chunkAnswer}
 use Rattle.stream.specs.declared.chunk.ChunkAnswer.{ChunkAnswer}
 use Rattle.stream.specs.declared.chunk.ChunkAnswer.the-variants.{Bad}
@@ -74,10 +74,10 @@ places-known = refl
 
 -- the list itself, coded losslessly, as a chunk
 three-values : chunkBytes 32 (codesOf (settingOf 32 0 (pos 0)) (0x00000000 ∷ 0x80000000 ∷ 0x00000001 ∷ [])) ≡ 3 ∷ 16 ∷ 1 ∷ []
-unfolding chunkBytes groupsBytes groupsIn binFor codesOf codeAt fractionBits losslessCode rotated stepped lowered minus field signedView folded groupBytes widthOf largest packed bytesFor digits number size
+unfolding chunkBytes groupsBytes groupsIn binFor codesAfter codeAt fractionBits losslessCode rotated stepped lowered minus field signedView folded groupBytes widthOf largest packed bytesFor digits number size
 three-values = refl
 
 -- "1,024 zeros": 32 groups of one byte
 zeros : chunkBytes 32 (codesOf (settingOf 32 0 (pos 0)) (replicate 1024 0)) ≡ replicate 32 0
-unfolding chunkBytes groupsBytes groupsIn binFor codesOf codeAt fractionBits losslessCode rotated stepped lowered minus field signedView folded groupBytes widthOf largest packed bytesFor digits number size
+unfolding chunkBytes groupsBytes groupsIn binFor codesAfter codeAt fractionBits losslessCode rotated stepped lowered minus field signedView folded groupBytes widthOf largest packed bytesFor digits number size
 zeros = refl

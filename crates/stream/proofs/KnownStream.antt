@@ -10,7 +10,7 @@ use Rattle.numbers.specs.Signed.{signedView, folded, unfolded, bitsOf}
 use Rattle.numbers.specs.Lossless.{rotated, field, minus, lowered, stepped, losslessCode, plus, raised, unstepped, unrotated, losslessRestored}
 use Rattle.blocks.specs.Bytes.{number, digits}
 use Rattle.stream.specs.Group.{bytesFor, largest, widthOf, packed, groupBytes, givenWidth, groupLength, groupNumber, groupCodes, within, goodGroup}
-use Rattle.stream.specs.Setting.{knownLevel, knownWidth, fractionBits, widthNeed, modeNeed, need, isZero, allowedSetting, binFor, settingOf, kBits, groupSize, codeAt, patternAt, codesOf, patternsOf, limitOf}
+use Rattle.stream.specs.Setting.{highestLevel, knownLevel, knownWidth, fractionBits, widthNeed, modeNeed, need, losslessMode, isZero, allowedSetting, binFor, settingOf, kBits, groupSize, codeAt, patternAt, codesAfter, patternsAfter, limitOf}
 use Rattle.stream.specs.Chunk.{groupsIn, groupsBytes, chunkBytes, firstFault, chunkAnswer, groupsCodes, chunkCodes}
 use Rattle.stream.specs.Rows.{rowsFrom, first, answer, after}
 use Rattle.stream.specs.Header.{word, headerOf, kOf, chunksIn, tooMany, needRight, settingRight, layoutRight}
@@ -27,15 +27,15 @@ pub theirBytes : List ℕ
 theirBytes = spell (1 ∷ 8 ∷ 8 ∷ 32 ∷ 0 ∷ 0 ∷ 3 ∷ 1 ∷ 48 ∷ 52 ∷ 0 ∷ 55 ∷ 0 ∷ []) ++ (0x03 ∷ 0x10 ∷ 0x01 ∷ [])
 
 pub packed-known : stream 8 (settingOf 32 0 (pos 0)) threeValues ≡ theirBytes
-unfolding size signedView folded bitsOf rotated field minus lowered stepped losslessCode number digits bytesFor largest widthOf packed groupBytes fractionBits widthNeed modeNeed need kBits binFor groupSize codeAt codesOf groupsIn groupsBytes chunkBytes chunksIn joined spell piece pieceBytes dataOf startsOf headerNumbers endOf body stream threeValues theirBytes
+unfolding size signedView folded bitsOf rotated field minus lowered stepped losslessCode number digits bytesFor largest widthOf packed groupBytes fractionBits widthNeed modeNeed need kBits binFor groupSize codeAt codesAfter groupsIn groupsBytes chunkBytes chunksIn joined spell piece pieceBytes dataOf startsOf headerNumbers endOf body stream threeValues theirBytes
 packed-known = refl
 
 pub checked-known : map (λ (level : ℕ). checkAnswer level theirBytes) (8 ∷ 9 ∷ 10 ∷ []) ≡ Done 3 ∷ Done 3 ∷ Done 3 ∷ []
-unfolding size signedView folded bitsOf number digits bytesFor largest widthOf givenWidth groupLength groupNumber groupCodes within goodGroup knownLevel knownWidth fractionBits widthNeed modeNeed need isZero allowedSetting binFor groupSize limitOf groupsIn firstFault chunkAnswer first answer word headerOf kOf chunksIn tooMany needRight settingRight layoutRight every startAt startRight chunkTableRight partAt sideTableRight countOf chunkOf chunkState spell headerRows openingRows tableRows faultDetail faultRow rowsFrom chunkRow chunkRows contentRows checkRows checkAnswer theirBytes
+unfolding size signedView folded bitsOf number digits bytesFor largest widthOf givenWidth groupLength groupNumber groupCodes within goodGroup highestLevel knownLevel knownWidth fractionBits widthNeed modeNeed need losslessMode isZero allowedSetting binFor groupSize limitOf groupsIn firstFault chunkAnswer first answer word headerOf kOf chunksIn tooMany needRight settingRight layoutRight every startAt startRight chunkTableRight partAt sideTableRight countOf chunkOf chunkState spell headerRows openingRows tableRows faultDetail faultRow rowsFrom chunkRow chunkRows contentRows checkRows checkAnswer theirBytes
 checked-known = refl
 
 pub unpacked-known : unpackOut 32 10 theirBytes (7 ∷ 7 ∷ 7 ∷ 7 ∷ []) ≡ threeValues ++ (7 ∷ [])
-unfolding size signedView folded unfolded bitsOf number digits plus raised unstepped unrotated losslessRestored field bytesFor largest widthOf givenWidth groupLength groupNumber groupCodes within goodGroup knownLevel knownWidth fractionBits widthNeed modeNeed need isZero allowedSetting binFor groupSize limitOf patternAt patternsOf groupsIn firstFault chunkAnswer groupsCodes chunkCodes first answer after word headerOf kOf chunksIn tooMany needRight settingRight layoutRight every startAt startRight chunkTableRight partAt sideTableRight joined countOf chunkOf chunkState chunkValues valuesIn values spell headerRows openingRows tableRows faultDetail faultRow rowsFrom chunkRow chunkRows contentRows widthRow roomRow unpackRows unpackOut threeValues theirBytes
+unfolding size signedView folded unfolded bitsOf number digits plus raised unstepped unrotated losslessRestored field bytesFor largest widthOf givenWidth groupLength groupNumber groupCodes within goodGroup highestLevel knownLevel knownWidth fractionBits widthNeed modeNeed need losslessMode isZero allowedSetting binFor groupSize limitOf patternAt patternsAfter groupsIn firstFault chunkAnswer groupsCodes chunkCodes first answer after word headerOf kOf chunksIn tooMany needRight settingRight layoutRight every startAt startRight chunkTableRight partAt sideTableRight joined countOf chunkOf chunkState chunkValues valuesIn values spell headerRows openingRows tableRows faultDetail faultRow rowsFrom chunkRow chunkRows contentRows widthRow roomRow unpackRows unpackOut threeValues theirBytes
 unpacked-known = refl
 
 -- "Lengths at level 8, mode 0: no values, 48 bytes; 1,024 zeros, 84; 1,025 values have two chunks."
@@ -43,5 +43,5 @@ pub lengths : List ℕ
 lengths = length (stream 8 (settingOf 32 0 (pos 0)) []) ∷ length (stream 8 (settingOf 32 0 (pos 0)) (replicate 1024 0)) ∷ chunksIn 1025 ∷ []
 
 pub lengths-known : lengths ≡ 48 ∷ 84 ∷ 2 ∷ []
-unfolding lengths stream body spell headerNumbers startsOf endOf dataOf joined pieceBytes piece chunksIn need kBits widthNeed modeNeed bitsOf binFor groupSize chunkBytes groupsBytes groupsIn codesOf codeAt fractionBits losslessCode rotated stepped lowered minus field signedView folded groupBytes widthOf largest packed bytesFor digits number size
+unfolding lengths stream body spell headerNumbers startsOf endOf dataOf joined pieceBytes piece chunksIn need kBits widthNeed modeNeed bitsOf binFor groupSize chunkBytes groupsBytes groupsIn codesAfter codeAt fractionBits losslessCode rotated stepped lowered minus field signedView folded groupBytes widthOf largest packed bytesFor digits number size
 lengths-known = refl

@@ -3,18 +3,17 @@
 use mathlib.Core.Path.{_≡_, refl, sym, ap, subst, _∙_}
 use mathlib.Core.Logic.{_⊎_, inl, inr, _↔_}
 use mathlib.Core.Bool.{true, cond}
-use mathlib.Core.List.{List, [], _∷_, _++_, map}
+use mathlib.Core.List.{List, [], _∷_, _++_}
 use Prim.Native.Nat.{ℕ, _+_, _-_, _*_, _/_, _^_, _≤_, _<_}
-use native.Mathlib.Nat.{lt-of-le-of-lt}
-use borrow.Author.Tests.{leb-true, eq-eqb, lt-ltb, le-ltb}
-use lib.Dec.{leb, ltb, lit<}
+use borrow.Author.Tests.{eq-eqb, lt-ltb, le-ltb}
+use lib.Dec.{ltb}
 use lib.IntN.{ℤ}
-use lib.ListN.{length, take, drop, getD, length-map}
+use lib.ListN.{length, take, drop, getD}
 use lib.Seq.{take-at}
 use Rattle.bins.specs.Tolerance.{binOf, ordinal}
 use Rattle.numbers.specs.Theorem.{Within}
 use Rattle.blocks.specs.Bytes.{Below}
-use Rattle.stream.specs.Setting.{knownLevel, knownWidth, fractionBits, binFor, settingOf, need, groupSize, codeAt, patternAt, codesOf, patternsOf}
+use Rattle.stream.specs.Setting.{knownLevel, knownWidth, fractionBits, losslessMode, binFor, settingOf, need, groupSize}
 use Rattle.stream.specs.Chunk.{groupsIn}
 use Rattle.stream.specs.Rows.{row, first, Decides, numbersOf, answer, after}
 use Rattle.stream.specs.Header.{word, headerOf, chunksIn, settingRight, layoutRight}
@@ -22,6 +21,7 @@ use Rattle.stream.specs.Tables.{chunkTableRight, sideTableRight}
 use Rattle.stream.specs.Stream.{chunkState, values}
 use Rattle.stream.specs.Writing.{headerNumbers, endOf, stream, Side, addSides, WellFormedSides}
 use Rattle.stream.specs.Packing.{Packable, Sent, mostBytes}
+use Rattle.stream.specs.Theorem.{comingBack}
 use Rattle.stream.specs.Operations.{checkRows, checkAnswer, unpackRows, unpackAnswer, unpackOut, probeRows, lengthRows, lengthAnswer, packRows, packAnswer, packOut}
 use Rattle.stream.specs.declared.answers.Answer.the-variants.{Done, Refused}
 use Rattle.stream.specs.declared.answers.Step.{Step}
@@ -29,14 +29,13 @@ use Rattle.stream.specs.declared.answers.Step.the-variants.{Pass, Stop}
 use Rattle.stream.specs.declared.chunk.ChunkAnswer.the-variants.{Good}
 use Rattle.stream.specs.declared.header.Header.{Header}
 use Rattle.blocks.proofs.Law.Truth.{le-or-lt}
-use Rattle.stream.proofs.Law.Plain.Truth.{and-right}
 use Rattle.stream.proofs.Law.Rows.First.{opened-both, decides, decided}
 use Rattle.stream.proofs.Law.Values.ThreeReaders.{done-pass, refused-stop}
 use Rattle.stream.proofs.Law.Written.Pieces.{end-most}
 use Rattle.stream.proofs.Law.Rows.Packing.{length-passed, rows-pass, room-enough, length-stream, length-done, pack-done}
 use Rattle.stream.proofs.Law.ReadBack.Readers.{plain-sent, bytes-sent, header-words, header-read, setting-kept, layout-kept, chunk-table-kept, side-table-kept, chunks-kept, values-read, check-pass, check-stop, unpack-pass, unpack-stop, probe-pass, probe-stop}
-use Rattle.stream.proofs.Law.Setting.Allowed.{made-allowed, storable}
-use Rattle.stream.proofs.Law.ReadBack.Values.{lossless-back, tolerance-back, special-back}
+use Rattle.stream.proofs.Law.Setting.Allowed.{level-small, made-allowed, storable}
+use Rattle.stream.proofs.Law.ReadBack.Values.{lossless-back, length-back, tolerance-back, special-back}
 
 -- Demand 1: a refused pack leaves its output as it was.
 pub refused-pack-untouched : (W level mode : ℕ) (k : ℤ) (vs out : List ℕ) (number detail : ℕ)
@@ -78,14 +77,14 @@ module _ (W level mode : ℕ) (k : ℤ) (vs out : List ℕ) (n : ℕ) (done : pa
   passes = done-pass (first (packRows W level mode k vs (length out))) (length (stream level (settingOf W mode k) vs)) n done
 
   pub accepted-list : knownWidth W ≡ true → Below (2 ^ W) vs → Packable W level mode k vs
-  unfolding packRows knownLevel
+  unfolding packRows
   accepted-list width below =
       let size = length (stream level (settingOf W mode k) vs) in
       let three = opened-both (lengthRows W level mode k (length vs)) (row 4 (ltb (length out) size) size ∷ []) (passes .0) .0 in
       let p = length-passed W level mode k (length vs) three in
       record {
         width = width;
-        minor = lt-of-le-of-lt (leb-true level 10 (and-right (leb 8 level) (leb level 10) (p .known))) (lit< tt);
+        minor = level-small level (p .known);
         allowed = p .allowed;
         needs = p .needs;
         few = p .few;
@@ -168,18 +167,16 @@ module _ (W level mode : ℕ) (k : ℤ) (vs : List ℕ) (p : Packable W level mo
       chunks-kept level (settingOf W mode k) vs (storable W level mode k vs p) s sent,
     )
 
-    -- the values are the patterns of the codes
-    pub the-values-are-read : values s ≡ patternsOf (settingOf W mode k) (codesOf (settingOf W mode k) vs)
+    -- the values are the patterns of the codes, chunk by chunk
+    pub the-values-are-read : values s ≡ comingBack (settingOf W mode k) vs
     the-values-are-read = values-read level (settingOf W mode k) vs (storable W level mode k vs p) s sent
 
     -- as many as there were
     pub as-many-values : length (values s) ≡ length vs
-    unfolding codesOf patternsOf
-    as-many-values =
-        ap length the-values-are-read ∙ length-map (map (codeAt (settingOf W mode k)) vs) (patternAt (settingOf W mode k)) ∙ length-map vs (codeAt (settingOf W mode k))
+    as-many-values = ap length the-values-are-read ∙ length-back (settingOf W mode k) vs
 
-    -- "Lossless packing restores every bit pattern."
-    pub lossless-values : mode ≡ 0 → values s ≡ vs
+    -- "Lossless packing restores every bit pattern", in mode 0 and in mode 2
+    pub lossless-values : losslessMode mode ≡ true → values s ≡ vs
     lossless-values e = the-values-are-read ∙ lossless-back (settingOf W mode k) (made-allowed W mode k (p .width) (p .allowed)) vs (p .patterns) e
 
     bin-is : mode ≡ 1 → binFor W mode k ≡ binOf W (fractionBits W) k
@@ -189,7 +186,7 @@ module _ (W level mode : ℕ) (k : ℤ) (vs : List ℕ) (p : Packable W level mo
     -- "Under tolerance 2^k, a value whose magnitude is below the threshold returns at most 2^k off, exactly; all else returns bit for bit."
     pub tolerance-values : mode ≡ 1 → (i : ℕ) → i < length vs → Within W (fractionBits W) (binOf W (fractionBits W) k) (getD vs i 0) (getD (values s) i 0)
     tolerance-values e i h = rw the-values-are-read
-        (subst (λ (j : ℕ). Within W (fractionBits W) j (getD vs i 0) (getD (patternsOf (settingOf W mode k) (codesOf (settingOf W mode k) vs)) i 0)) (bin-is e)
+        (subst (λ (j : ℕ). Within W (fractionBits W) j (getD vs i 0) (getD (comingBack (settingOf W mode k) vs) i 0)) (bin-is e)
         (tolerance-back (settingOf W mode k) (made-allowed W mode k (p .width) (p .allowed)) vs (p .patterns) e i h))
 
     -- "infinities and not-a-numbers too": their ordinals are those from the largest exponent on

@@ -2,11 +2,11 @@
 -- walk over a chunk or a stream exists once, and only the leaves look at the width.
 use mathlib.Core.Path.{_≡_}
 use mathlib.Core.Bool.{cond}
-use mathlib.Core.List.{List, _++_}
+use mathlib.Core.List.{List, map, _++_}
 use Prim.Native.Nat.{ℕ, _+_}
 use lib.Dec.{eqb}
 use lib.ListN.{length, take, drop}
-use Rattle.stream.specs.Setting.{groupSize, codesOf, limitOf}
+use Rattle.stream.specs.Setting.{groupSize, codeAt, codesOf, patternsAfter, limitOf}
 use Rattle.stream.specs.Chunk.{chunkAnswer}
 use Rattle.stream.specs.declared.chunk.ChunkAnswer.the-variants.{Good}
 use Rattle.stream.specs.declared.setting.Setting.{Setting}
@@ -23,9 +23,17 @@ landed at new out = take at out ++ new ++ drop (at + length new) out
 unfoldable pub lentCodes : Setting → List ℕ → List ℕ → List ℕ
 lentCodes t v32 v64 = codesOf t (chosen (t .width) v32 v64)
 
--- at width 32, but for mode 0, a chunk's codes stand in the scratch before its groups are made
+-- at width 32 in mode 1, a chunk's codes stand in the scratch before its groups are made
 abbrev pub Staged : Setting → List ℕ → List ℕ → Type 0
-Staged t v32 c32 = t .width ≡ 32 → (t .mode ≡ 0 → ⊥) → take (length v32) c32 ≡ codesOf t v32
+Staged t v32 c32 = t .width ≡ 32 → (t .mode ≡ 0 → ⊥) → (t .mode ≡ 2 → ⊥) → take (length v32) c32 ≡ map (codeAt t) v32
+
+-- the pattern before, as far as the mode looks at it: the code 0 repeats it, in mode 2 the pattern before, in the others 0
+unfoldable pub carry : Setting → ℕ → ℕ
+carry t before = cond (eqb (t .mode) 2) before 0
+
+-- what follows the pattern a is as if it followed b: the same pattern, or a mode that does not look
+abbrev pub SameBehind : Setting → ℕ → ℕ → Type 0
+SameBehind t a b = (cs : List ℕ) → patternsAfter t a cs ≡ patternsAfter t b cs
 
 -- the bytes begin with those of a good chunk of n values
 pub record Begun (t : Setting) (n : ℕ) (s : List ℕ) : Type 0 where

@@ -6,7 +6,7 @@ use mathlib.Core.List.{List, [], _∷_, _++_}
 use lib.Dec.{ltb}
 use lib.IntN.{ℤ, pos, negsuc}
 use lib.ListN.{length, take, drop}
-use Rattle.stream.specs.Setting.{groupSize}
+use Rattle.stream.specs.Setting.{highestLevel, groupSize}
 use Rattle.stream.specs.Chunk.{groupsIn}
 use Rattle.stream.specs.Header.{headerOf, kOf, settingIn}
 use Rattle.stream.specs.Tables.{startAt}
@@ -19,10 +19,6 @@ use Rattle.stream.specs.declared.header.Header.{Header}
 -- "reads standard input, at most 65,536 bytes"
 unfoldable pub mostInput : ℕ
 mostInput = 65536
-
--- "checks at the highest level, 10 for now"
-unfoldable pub highestLevel : ℕ
-highestLevel = 10
 
 -- ---- numbers
 
@@ -157,7 +153,7 @@ unfoldable pub answerLines : Answer → List ℕ → List ℕ
 answerLines (Done n) s = streamLines (headerOf s) s
 answerLines (Refused number detail) s = refusedLine number detail
 
--- the whole text: "at most 65,536 bytes (else it prints `too long`)"
+-- the whole text: "at most 65,536 bytes (else it prints `too long`)", and "checks at the highest level"
 unfoldable pub listing : List ℕ → List ℕ
 listing s = cond (ltb mostInput (length s)) (tooLong ++ newline) (answerLines (checkAnswer highestLevel s) s)
 

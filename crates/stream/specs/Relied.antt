@@ -21,7 +21,7 @@ pub record Words (h : Header) : Type 0 where
 -- a setting that document 01 allows
 pub record Allowed (t : Setting) : Type 0 where
   pub known : knownWidth (t .width) ≡ true
-  pub mode : t .mode ≤ 1
+  pub mode : t .mode ≤ 2
   pub bin : t .bin ≤ lastBin (t .width) (fractionBits (t .width))
   pub none : (t .mode ≡ 1 → ⊥) → t .bin ≡ 0
 
@@ -29,7 +29,7 @@ pub record Allowed (t : Setting) : Type 0 where
 pub record Settled (h : Header) : Type 0 where
   pub known : knownWidth (h .width) ≡ true
   pub narrow : h .width ≤ 64
-  pub mode : h .mode ≤ 1
+  pub mode : h .mode ≤ 2
   pub allowed : allowedSetting (h .width) (h .mode) (kOf h) ≡ true
 
 -- the places lie as document 01 says, in a stream of so many bytes

@@ -1,4 +1,4 @@
--- Document 01, "Levels", and what a setting says of codes. A setting is a record of natural numbers (`Setting` of src/setting.rt): a width, a
+-- Document 01, "Levels", document 02, R-2, and what a setting says of codes. A setting is a record of natural numbers (`Setting` of src/setting.rt): a width, a
 -- mode and a bin. It is made here, from the width, the mode and the k of a call or of a header; all else is said of the record.
 -- The number rules are those of the libraries `numbers` and `bins`.
 use Prim.Native.Nat.{ℕ, _-_, _^_, min, max}
@@ -8,13 +8,17 @@ use lib.Dec.{leb, eqb}
 use lib.IntN.{ℤ, pos, negsuc}
 use Rattle.numbers.specs.Signed.{bitsOf}
 use Rattle.numbers.specs.Lossless.{losslessCode, losslessRestored}
+use Rattle.numbers.specs.Difference.{differenceCodes, runningSums}
 use Rattle.bins.specs.Tolerance.{allowedK, binOf, lastBin, toleranceCode, toleranceRestored, largestU}
 use Rattle.numbers.specs.Bound.{exponentOf}
 use Rattle.stream.specs.declared.setting.Setting.{Setting}
 
--- "A level is a minor number: 8, 9 or 10."
+-- "A level is a minor number", and "levels are now 8 to 11" (R-2)
+unfoldable pub highestLevel : ℕ
+highestLevel = 11
+
 unfoldable pub knownLevel : ℕ → Bool
-knownLevel level = leb 8 level && leb level 10
+knownLevel level = leb 8 level && leb level highestLevel
 
 -- "W is the width, 32 or 64", and "With m fraction bits (23 or 52)"
 unfoldable pub knownWidth : ℕ → Bool
@@ -25,15 +29,19 @@ fractionBits W = cond (eqb W 32) 23 52
 
 -- ---- the setting of a width, a mode and a k
 
--- "mode or k not allowed (in mode 0 only k = 0 is)"
+-- the modes that lose nothing: 0, each pattern by itself, and 2, the differences
+unfoldable pub losslessMode : ℕ → Bool
+losslessMode mode = eqb mode 0 || eqb mode 2
+
+-- not "mode or k not allowed (in mode 0 only k = 0 is)"; in mode 2 "k is 0, both widths"
 unfoldable pub isZero : ℤ → Bool
 isZero (pos n) = eqb n 0
 isZero (negsuc n) = false
 
 unfoldable pub allowedSetting : ℕ → ℕ → ℤ → Bool
-allowedSetting W mode k = cond (eqb mode 0) (isZero k) (eqb mode 1 && allowedK W (fractionBits W) k)
+allowedSetting W mode k = cond (eqb mode 1) (allowedK W (fractionBits W) k) (losslessMode mode && isZero k)
 
--- the bin: that of k in mode 1, and 0 in mode 0, which has none
+-- the bin: that of k in mode 1, and 0 in the others, which have none
 unfoldable pub binFor : ℕ → ℕ → ℤ → ℕ
 binFor W mode k = cond (eqb mode 1) (binOf W (fractionBits W) k) 0
 
@@ -42,17 +50,17 @@ settingOf W mode k = record { width = W; mode = mode; bin = binFor W mode k }
 
 -- ---- what a setting says
 
--- "Width 64 needs 10; else mode 1 needs 9; else 8": the larger of the two needs
+-- "Width 64 needs 10; else mode 1 needs 9; else 8", mode 2 "needs level 11", and "Where several needs apply, the largest stands"
 unfoldable pub widthNeed : ℕ → ℕ
 widthNeed W = cond (eqb W 64) 10 8
 
 unfoldable pub modeNeed : ℕ → ℕ
-modeNeed mode = cond (eqb mode 1) 9 8
+modeNeed mode = cond (eqb mode 1) 9 (cond (eqb mode 2) 11 8)
 
 unfoldable pub need : Setting → ℕ
 need t = max (widthNeed (t .width)) (modeNeed (t .mode))
 
--- "k in two's complement (0 in mode 0)": the number that the header has for it
+-- "k in two's complement (0 in mode 0)", and in mode 2 too: the number that the header has for it
 unfoldable pub kBits : Setting → ℕ
 kBits t = cond (eqb (t .mode) 1) (bitsOf 32 (exponentOf (t .width) (fractionBits (t .width)) (t .bin))) 0
 
@@ -60,8 +68,9 @@ kBits t = cond (eqb (t .mode) 1) (bitsOf 32 (exponentOf (t .width) (fractionBits
 unfoldable pub groupSize : Setting → ℕ
 groupSize t = 32
 
--- ---- the code of a pattern and the pattern of a code. A bin past the last counts as the last.
+-- ---- the codes of a chunk's values, and the values of a chunk's codes
 
+-- modes 0 and 1: the code of a pattern and the pattern of a code, each by itself. A bin past the last counts as the last.
 unfoldable pub clipped : Setting → ℕ
 clipped t = min (t .bin) (lastBin (t .width) (fractionBits (t .width)))
 
@@ -74,13 +83,20 @@ patternAt t c =
     cond (eqb (t .mode) 0) (losslessRestored (t .width) (fractionBits (t .width)) c)
     (toleranceRestored (t .width) (fractionBits (t .width)) (clipped t) c)
 
--- the codes of a chunk's values, and the values of a chunk's codes
-unfoldable pub codesOf : Setting → List ℕ → List ℕ
-codesOf t = map (codeAt t)
+-- all modes, of values that stand behind the pattern `before`, which counts in mode 2 alone
+unfoldable pub codesAfter : Setting → ℕ → List ℕ → List ℕ
+codesAfter t before vs = cond (eqb (t .mode) 2) (differenceCodes (t .width) before vs) (map (codeAt t) vs)
 
-unfoldable pub patternsOf : Setting → List ℕ → List ℕ
-patternsOf t = map (patternAt t)
+unfoldable pub patternsAfter : Setting → ℕ → List ℕ → List ℕ
+patternsAfter t before cs = cond (eqb (t .mode) 2) (runningSums (t .width) before cs) (map (patternAt t) cs)
 
--- "u above its largest": the largest u of the mode; in mode 0 every u of W - 1 bits is allowed
+-- a whole chunk: "the first minus 0"
+abbrev pub codesOf : Setting → List ℕ → List ℕ
+codesOf t = codesAfter t 0
+
+abbrev pub patternsOf : Setting → List ℕ → List ℕ
+patternsOf t = patternsAfter t 0
+
+-- "u above its largest": the largest u of mode 1; in the others every u of W - 1 bits is allowed
 unfoldable pub limitOf : Setting → ℕ
-limitOf t = cond (eqb (t .mode) 0) (2 ^ (t .width - 1) - 1) (largestU (t .width) (fractionBits (t .width)) (clipped t))
+limitOf t = cond (eqb (t .mode) 1) (largestU (t .width) (fractionBits (t .width)) (clipped t)) (2 ^ (t .width - 1) - 1)

@@ -7,18 +7,20 @@ use Prim.Native.Nat.{ℕ, zero, suc, _+_, _-_, _*_, _/_, _^_, _≤_, _<_, min}
 use lib.Dec.{ltb}
 use lib.ListN.{length, take, drop, getD}
 use Rattle.blocks.specs.Bytes.{Below, digits}
-use Rattle.stream.specs.Setting.{knownLevel, groupSize, limitOf}
+use Rattle.stream.specs.Setting.{knownLevel, groupSize, codesOf, patternsOf, limitOf}
 use Rattle.stream.specs.Group.{groupBytes, groupLength, goodGroup}
 use Rattle.stream.specs.Chunk.{groupsIn, chunkBytes, chunkCodes}
-use Rattle.stream.specs.Header.{headerOf, settingIn}
+use Rattle.stream.specs.Header.{headerOf, settingIn, chunksIn}
 use Rattle.stream.specs.Tables.{startAt}
-use Rattle.stream.specs.Stream.{countOf, chunkOf, chunkState}
+use Rattle.stream.specs.Stream.{joined, countOf, chunkOf, chunkState}
+use Rattle.stream.specs.Writing.{piece}
 use Rattle.stream.specs.Probe.{shown32, shown64}
 use Rattle.stream.specs.Operations.{checkAnswer, unpackAnswer, probeAnswer32, probeAnswer64}
 use Rattle.stream.specs.declared.answers.Answer.{Answer}
 use Rattle.stream.specs.declared.answers.Answer.the-variants.{Done, Refused}
 use Rattle.stream.specs.declared.chunk.ChunkAnswer.the-variants.{Good}
 use Rattle.stream.specs.declared.header.Header.{Header}
+use Rattle.stream.specs.declared.setting.Setting.{Setting}
 
 -- ---- groups and chunks
 
@@ -64,6 +66,10 @@ pub record FirstBad (W U size n : ℕ) (s : List ℕ) (g : ℕ) : Type 0 where
   pub bad : (goodAt W U size n s g ≡ false) ⊎ ((suc g ≡ groupsIn size n) × (0 < length (fromGroup size (suc g) n s)))
 
 -- ---- streams
+
+-- what comes back of a list that is packed: each of its chunks, coded and restored
+unfoldable pub comingBack : Setting → List ℕ → List ℕ
+comingBack t vs = joined (λ j. patternsOf t (codesOf t (piece vs j))) (chunksIn (length vs))
 
 -- the group g is the first bad one of the chunk j
 abbrev pub BadGroup : List ℕ → ℕ → ℕ → Type 0

@@ -147,7 +147,7 @@ pub(crate) fn restored(
     }
 }
 
-// The i-th value of a good chunk of n values: the full groups before its own are passed over.
+// The i-th value of a good chunk of n values: the full groups before its own are passed over, and in mode 2 summed up.
 pub(crate) fn value(t: Setting, s: &[u8], n: usize, i: usize) -> u64
     requires { ⌜ Allowed t × (n ≤ 1024) × (i < n) × (chunkAnswer (t .width) (limitOf t) (groupSize t) n (now s) ≡ ChunkAnswer.Good) ⌝ }
     ensures { λ r. ⌜ r ≡ getD (patternsOf t (chunkCodes (groupSize t) n (now (s .entry)))) i 0 ⌝ }
@@ -156,12 +156,14 @@ pub(crate) fn value(t: Setting, s: &[u8], n: usize, i: usize) -> u64
     let mut left = n;
     let mut at: usize = 0;
     let mut index = i;
+    let mut before: u64 = 0;
     while size <= index {
+        before = lent::carried(t, before, &s[at..], size);
         at += group_length(&s[at..], size);
         left -= size;
         index -= size;
     }
     let g = group_read::codes_of(&s[at..], group_count(size, left));
     let codes = g.codes;
-    lent::pattern(t, codes[index])
+    lent::value(t, before, &codes, index)
 }

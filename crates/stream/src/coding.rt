@@ -1,9 +1,10 @@
-// Values and their codes, for one width: by mode, one by one and side by side. The functions of `lent` choose between the widths.
+// Values and their codes in the modes that code each value by itself, 0 and 1, for one width: one by one and side by side. The functions of
+// `lent` choose between the widths, and between these and the differences.
 ghost use mathlib.Core.Path.{_≡_};
-ghost use mathlib.Core.List.{_++_};
+ghost use mathlib.Core.List.{map, _++_};
 ghost use Prim.Native.Nat.{_≤_};
 ghost use lib.ListN.{length, take, drop};
-ghost use Rattle.stream.specs.Setting.{codeAt, patternAt, codesOf, patternsOf};
+ghost use Rattle.stream.specs.Setting.{codeAt, patternAt};
 use crate::group::Group;
 use crate::group::Narrow;
 use crate::setting::Setting;
@@ -59,7 +60,7 @@ pub(crate) fn pattern64(t: Setting, c: u64) -> u64
 // The codes of all values, at the front of `c`.
 pub(crate) fn put_codes32(t: Setting, values: &[u32], c: &mut [u32])
     requires { ⌜ (t .width ≡ 32) × (length (now values) ≤ length (now c)) ⌝ }
-    ensures { λ _. ⌜ now (c .exit) ≡ codesOf t (now (values .entry)) ++ drop (length (now (values .entry))) (now (c .entry)) ⌝ }
+    ensures { λ _. ⌜ now (c .exit) ≡ map (codeAt t) (now (values .entry)) ++ drop (length (now (values .entry))) (now (c .entry)) ⌝ }
 {
     let mut i: usize = 0;
     while i < values.len() {
@@ -71,7 +72,7 @@ pub(crate) fn put_codes32(t: Setting, values: &[u32], c: &mut [u32])
 // The codes of up to 32 values.
 fn codes32(t: Setting, values: &[u32]) -> [u32; 32]
     requires { ⌜ (t .width ≡ 32) × (length (now values) ≤ 32) ⌝ }
-    ensures { λ r. ⌜ take (length (now (values .entry))) r ≡ codesOf t (now (values .entry)) ⌝ }
+    ensures { λ r. ⌜ take (length (now (values .entry))) r ≡ map (codeAt t) (now (values .entry)) ⌝ }
 {
     let mut codes = [0u32; 32];
     let mut i: usize = 0;
@@ -85,7 +86,7 @@ fn codes32(t: Setting, values: &[u32]) -> [u32; 32]
 // The codes of up to 32 values, as a group.
 pub(crate) fn coded32(t: Setting, values: &[u32]) -> Narrow
     requires { ⌜ (t .width ≡ 32) × (length (now values) ≤ 32) ⌝ }
-    ensures { λ g. ⌜ (g .count ≡ length (now (values .entry))) × (take (g .count) (g .codes) ≡ codesOf t (now (values .entry))) ⌝ }
+    ensures { λ g. ⌜ (g .count ≡ length (now (values .entry))) × (take (g .count) (g .codes) ≡ map (codeAt t) (now (values .entry))) ⌝ }
 {
     Narrow {
         count: values.len(),
@@ -95,7 +96,7 @@ pub(crate) fn coded32(t: Setting, values: &[u32]) -> Narrow
 
 pub(crate) fn coded64(t: Setting, values: &[u64]) -> Group
     requires { ⌜ (t .width ≡ 64) × (length (now values) ≤ 32) ⌝ }
-    ensures { λ g. ⌜ (g .count ≡ length (now (values .entry))) × (take (g .count) (g .codes) ≡ codesOf t (now (values .entry))) ⌝ }
+    ensures { λ g. ⌜ (g .count ≡ length (now (values .entry))) × (take (g .count) (g .codes) ≡ map (codeAt t) (now (values .entry))) ⌝ }
 {
     let mut codes = [0u64; 32];
     let mut i: usize = 0;
@@ -112,7 +113,7 @@ pub(crate) fn coded64(t: Setting, values: &[u64]) -> Group
 // The patterns of the first n codes, at the front of `out`.
 pub(crate) fn put_patterns32(t: Setting, codes: &[u32], n: usize, out: &mut [u32])
     requires { ⌜ (t .width ≡ 32) × (n ≤ length (now codes)) × (n ≤ length (now out)) ⌝ }
-    ensures { λ _. ⌜ now (out .exit) ≡ patternsOf t (take n (now (codes .entry))) ++ drop n (now (out .entry)) ⌝ }
+    ensures { λ _. ⌜ now (out .exit) ≡ map (patternAt t) (take n (now (codes .entry))) ++ drop n (now (out .entry)) ⌝ }
 {
     let mut i: usize = 0;
     while i < n {
@@ -123,7 +124,7 @@ pub(crate) fn put_patterns32(t: Setting, codes: &[u32], n: usize, out: &mut [u32
 
 pub(crate) fn put_patterns64(t: Setting, codes: &[u64], n: usize, out: &mut [u64])
     requires { ⌜ (t .width ≡ 64) × (n ≤ length (now codes)) × (n ≤ length (now out)) ⌝ }
-    ensures { λ _. ⌜ now (out .exit) ≡ patternsOf t (take n (now (codes .entry))) ++ drop n (now (out .entry)) ⌝ }
+    ensures { λ _. ⌜ now (out .exit) ≡ map (patternAt t) (take n (now (codes .entry))) ++ drop n (now (out .entry)) ⌝ }
 {
     let mut i: usize = 0;
     while i < n {

@@ -1,15 +1,17 @@
 // What the walks over a chunk do with the lists that are lent, one for each width: of the walks, only these functions look
 // at the width. What is left in the scratch (c32, c64), in the output of the other width, and in a group behind its count, nobody asks.
 ghost use mathlib.Core.Path.{_≡_};
-ghost use mathlib.Core.List.{_++_};
+ghost use mathlib.Core.List.{map, _++_};
 ghost use Prim.Native.Nat.{_≤_, _<_, _-_, _+_, _^_, min};
-ghost use lib.ListN.{length, take, drop, replicate};
+ghost use lib.ListN.{length, take, drop, getD, replicate};
+ghost use Rattle.numbers.specs.Difference.{differenceCodes, lastOf};
 ghost use Rattle.blocks.specs.Bytes.{Below};
 ghost use Rattle.stream.specs.Group.{groupBytes, givenWidth, groupLength, groupCodes};
-ghost use Rattle.stream.specs.Setting.{groupSize, codesOf, patternAt, patternsOf};
-ghost use Rattle.stream.specs.Lent.{chosen, landed, lentCodes, Staged};
+ghost use Rattle.stream.specs.Setting.{groupSize, codeAt, patternAt, patternsAfter};
+ghost use Rattle.stream.specs.Lent.{chosen, landed, lentCodes, carry, Staged, SameBehind};
 ghost use Rattle.stream.specs.Relied.{Allowed};
 use crate::coding;
+use crate::differences;
 use crate::group;
 use crate::group::Group;
 use crate::group::Narrow;
@@ -37,11 +39,11 @@ pub(crate) fn count(t: Setting, v32: &[u32], v64: &[u64]) -> usize
 
 // At width 32 the codes of mode 1 are made beforehand, for the whole chunk; all others are made group by group.
 pub(crate) fn stage(t: Setting, v32: &[u32], c32: &mut [u32])
-    requires { ⌜ length (now v32) ≤ length (now c32) ⌝ }
+    requires { ⌜ Allowed t × (length (now v32) ≤ length (now c32)) ⌝ }
     ensures { λ _. ⌜ Staged t (now (v32 .entry)) (now (c32 .exit)) ⌝ }
 {
     if t.width == 32 {
-        if t.mode != 0 {
+        if t.mode == 1 {
             coding::put_codes32(t, v32, c32);
         }
     }
@@ -64,11 +66,11 @@ fn grouped32(codes: &[u32]) -> Narrow
     }
 }
 
-// The codes from `at` to `end` of the whole chunk's codes, as a group: at width 32, and at width 64.
+// The codes from `at` to `end` of the whole chunk's codes, as a group, in the modes 0 and 1: at width 32, and at width 64.
 fn coded_narrow(t: Setting, v32: &[u32], c32: &[u32], at: usize, end: usize) -> Narrow
     requires { ⌜ (t .width ≡ 32) × (at ≤ end) × (end ≤ at + 32) × (end ≤ length (now v32)) × (end ≤ 1024) ⌝ }
-    requires { ⌜ (length (now v32) ≤ length (now c32)) × Staged t (now v32) (now c32) ⌝ }
-    ensures { λ g. ⌜ (g .count ≡ end - at) × (take (g .count) (g .codes) ≡ take (end - at) (drop at (codesOf t (now (v32 .entry))))) ⌝ }
+    requires { ⌜ (length (now v32) ≤ length (now c32)) × Staged t (now v32) (now c32) × (t .mode ≡ 2 → ⊥) ⌝ }
+    ensures { λ g. ⌜ (g .count ≡ end - at) × (take (g .count) (g .codes) ≡ take (end - at) (drop at (map (codeAt t) (now (v32 .entry))))) ⌝ }
 {
     if t.mode == 0 {
         coding::coded32(t, &v32[at..end])
@@ -79,9 +81,39 @@ fn coded_narrow(t: Setting, v32: &[u32], c32: &[u32], at: usize, end: usize) -> 
 
 fn coded_wide(t: Setting, v64: &[u64], at: usize, end: usize) -> Group
     requires { ⌜ (t .width ≡ 64) × (at ≤ end) × (end ≤ at + 32) × (end ≤ length (now v64)) × (end ≤ 1024) ⌝ }
-    ensures { λ g. ⌜ (g .count ≡ end - at) × (take (g .count) (g .codes) ≡ take (end - at) (drop at (codesOf t (now (v64 .entry))))) ⌝ }
+    ensures { λ g. ⌜ (g .count ≡ end - at) × (take (g .count) (g .codes) ≡ take (end - at) (drop at (map (codeAt t) (now (v64 .entry))))) ⌝ }
 {
     coding::coded64(t, &v64[at..end])
+}
+
+// The pattern before the place `at` in a chunk's values: 0 before the first.
+fn before32(values: &[u32], at: usize) -> u32
+    requires { ⌜ at ≤ length (now values) ⌝ }
+    ensures { λ r. ⌜ r ≡ lastOf 0 (take at (now (values .entry))) ⌝ }
+{
+    if at == 0 { 0 } else { values[at - 1] }
+}
+
+fn before64(values: &[u64], at: usize) -> u64
+    requires { ⌜ at ≤ length (now values) ⌝ }
+    ensures { λ r. ⌜ r ≡ lastOf 0 (take at (now (values .entry))) ⌝ }
+{
+    if at == 0 { 0 } else { values[at - 1] }
+}
+
+// The same codes in mode 2: the group goes on from the pattern before it.
+fn differenced_narrow(v32: &[u32], at: usize, end: usize) -> Narrow
+    requires { ⌜ (at ≤ end) × (end ≤ at + 32) × (end ≤ length (now v32)) × (end ≤ 1024) ⌝ }
+    ensures { λ g. ⌜ (g .count ≡ end - at) × (take (g .count) (g .codes) ≡ take (end - at) (drop at (differenceCodes 32 0 (now (v32 .entry))))) ⌝ }
+{
+    differences::coded32(before32(v32, at), &v32[at..end])
+}
+
+fn differenced_wide(v64: &[u64], at: usize, end: usize) -> Group
+    requires { ⌜ (at ≤ end) × (end ≤ at + 32) × (end ≤ length (now v64)) × (end ≤ 1024) ⌝ }
+    ensures { λ g. ⌜ (g .count ≡ end - at) × (take (g .count) (g .codes) ≡ take (end - at) (drop at (differenceCodes 64 0 (now (v64 .entry))))) ⌝ }
+{
+    differences::coded64(before64(v64, at), &v64[at..end])
 }
 
 // The same group in the record of both widths.
@@ -115,13 +147,18 @@ pub(crate) fn coded(
     ensures { λ g. ⌜ (g .count ≡ end - at) × (take (g .count) (g .codes) ≡ take (end - at) (drop at (lentCodes t (now (v32 .entry)) (now (v64 .entry))))) ⌝ }
 {
     if t.width == 32 {
-        widened(coded_narrow(t, v32, c32, at, end))
-    } else {
-        coded_wide(t, v64, at, end)
+        if t.mode == 2 {
+            return widened(differenced_narrow(v32, at, end));
+        }
+        return widened(coded_narrow(t, v32, c32, at, end));
     }
+    if t.mode == 2 {
+        return differenced_wide(v64, at, end);
+    }
+    coded_wide(t, v64, at, end)
 }
 
-// How many bytes the full group from `at` on takes.
+// How many bytes the full group from `at` on takes. Mode 2 has a way of its own here and below, so that the other modes' loops stay whole.
 pub(crate) fn measured_group(t: Setting, v32: &[u32], c32: &[u32], v64: &[u64], at: usize) -> usize
     requires { ⌜ Allowed t × (at + groupSize t ≤ length (chosen (t .width) (now v32) (now v64))) × (at + groupSize t ≤ 1024) ⌝ }
     requires { ⌜ (length (now v32) ≤ length (now c32)) × Staged t (now v32) (now c32) ⌝ }
@@ -129,10 +166,15 @@ pub(crate) fn measured_group(t: Setting, v32: &[u32], c32: &[u32], v64: &[u64], 
 {
     let end = at + setting::group_size(t);
     if t.width == 32 {
-        group::measured_full32(coded_narrow(t, v32, c32, at, end))
-    } else {
-        group::measured_full(coded_wide(t, v64, at, end))
+        if t.mode == 2 {
+            return group::measured_full32(differenced_narrow(v32, at, end));
+        }
+        return group::measured_full32(coded_narrow(t, v32, c32, at, end));
     }
+    if t.mode == 2 {
+        return group::measured_full(differenced_wide(v64, at, end));
+    }
+    group::measured_full(coded_wide(t, v64, at, end))
 }
 
 // The bytes of the full group from `at` on, at the front of `out`, and how many they are.
@@ -152,10 +194,15 @@ pub(crate) fn put_group(
 {
     let end = at + setting::group_size(t);
     if t.width == 32 {
-        group_written::full32(coded_narrow(t, v32, c32, at, end), out)
-    } else {
-        group_written::full(coded_wide(t, v64, at, end), out)
+        if t.mode == 2 {
+            return group_written::full32(differenced_narrow(v32, at, end), out);
+        }
+        return group_written::full32(coded_narrow(t, v32, c32, at, end), out);
     }
+    if t.mode == 2 {
+        return group_written::full(differenced_wide(v64, at, end), out);
+    }
+    group_written::full(coded_wide(t, v64, at, end), out)
 }
 
 // The first n codes, at the front of `out`.
@@ -181,25 +228,25 @@ fn copied64(codes: &[u64], n: usize, out: &mut [u64])
     }
 }
 
-// n zeros, at the front of `out`.
-fn zeros32(n: usize, out: &mut [u32])
+// The pattern p, n times, at the front of `out`.
+fn repeated32(p: u32, n: usize, out: &mut [u32])
     requires { ⌜ n ≤ length (now out) ⌝ }
-    ensures { λ _. ⌜ now (out .exit) ≡ replicate n 0 ++ drop n (now (out .entry)) ⌝ }
+    ensures { λ _. ⌜ now (out .exit) ≡ replicate n p ++ drop n (now (out .entry)) ⌝ }
 {
     let mut i: usize = 0;
     while i < n {
-        out[i] = 0;
+        out[i] = p;
         i += 1;
     }
 }
 
-fn zeros64(n: usize, out: &mut [u64])
+fn repeated64(p: u64, n: usize, out: &mut [u64])
     requires { ⌜ n ≤ length (now out) ⌝ }
-    ensures { λ _. ⌜ now (out .exit) ≡ replicate n 0 ++ drop n (now (out .entry)) ⌝ }
+    ensures { λ _. ⌜ now (out .exit) ≡ replicate n p ++ drop n (now (out .entry)) ⌝ }
 {
     let mut i: usize = 0;
     while i < n {
-        out[i] = 0;
+        out[i] = p;
         i += 1;
     }
 }
@@ -236,33 +283,80 @@ fn read_codes64(s: &[u8], n: usize, out: &mut [u64])
     copied64(&g.codes, n, out);
 }
 
-// The patterns of the group at the front of `s`, at the front of `out`; its codes go through the scratch `c`. In both modes the code 0 is that
-// of the pattern 0, so that a group of no bits, as nearly constant fields have many, is not opened.
-fn put_values32(t: Setting, s: &[u8], n: usize, c: &mut [u32], out: &mut [u32])
-    requires { ⌜ Allowed t × (t .width ≡ 32) × (n ≤ 32) × (givenWidth (now s) ≤ 32) × (groupLength n (now s) ≤ length (now s)) × (n ≤ length (now c)) × (n ≤ length (now out)) ⌝ }
-    ensures { λ _. ⌜ now (out .exit) ≡ patternsOf t (groupCodes n (now (s .entry))) ++ drop n (now (out .entry)) ⌝ }
+// The patterns of the first n codes, at the front of `out`.
+fn put_patterns32(t: Setting, before: u32, codes: &[u32], n: usize, out: &mut [u32])
+    requires { ⌜ (t .width ≡ 32) × (n ≤ length (now codes)) × (n ≤ length (now out)) ⌝ }
+    ensures { λ _. ⌜ now (out .exit) ≡ patternsAfter t before (take n (now (codes .entry))) ++ drop n (now (out .entry)) ⌝ }
+{
+    if t.mode == 2 {
+        differences::put_sums32(before, codes, n, out);
+    } else {
+        coding::put_patterns32(t, codes, n, out);
+    }
+}
+
+fn put_patterns64(t: Setting, before: u64, codes: &[u64], n: usize, out: &mut [u64])
+    requires { ⌜ (t .width ≡ 64) × (n ≤ length (now codes)) × (n ≤ length (now out)) ⌝ }
+    ensures { λ _. ⌜ now (out .exit) ≡ patternsAfter t before (take n (now (codes .entry))) ++ drop n (now (out .entry)) ⌝ }
+{
+    if t.mode == 2 {
+        differences::put_sums64(before, codes, n, out);
+    } else {
+        coding::put_patterns64(t, codes, n, out);
+    }
+}
+
+// The pattern that the patterns from `at` on stand behind, as far as the mode looks at it.
+fn carry32(t: Setting, values: &[u32], at: usize) -> u32
+    requires { ⌜ at ≤ length (now values) ⌝ }
+    ensures { λ r. ⌜ r ≡ carry t (lastOf 0 (take at (now (values .entry)))) ⌝ }
+{
+    if t.mode != 2 {
+        return 0;
+    }
+    before32(values, at)
+}
+
+fn carry64(t: Setting, values: &[u64], at: usize) -> u64
+    requires { ⌜ at ≤ length (now values) ⌝ }
+    ensures { λ r. ⌜ r ≡ carry t (lastOf 0 (take at (now (values .entry)))) ⌝ }
+{
+    if t.mode != 2 {
+        return 0;
+    }
+    before64(values, at)
+}
+
+// The patterns of the group at the front of `s`, at the front of `out`; its codes go through the scratch `c`. A group of no bits, as nearly
+// constant fields have many, is not opened: the code 0 repeats the carry.
+fn put_values32(t: Setting, before: u32, s: &[u8], n: usize, c: &mut [u32], out: &mut [u32])
+    requires { ⌜ Allowed t × (carry t before ≡ before) ⌝ }
+    requires { ⌜ (t .width ≡ 32) × (n ≤ 32) × (givenWidth (now s) ≤ 32) × (groupLength n (now s) ≤ length (now s)) × (n ≤ length (now c)) × (n ≤ length (now out)) ⌝ }
+    ensures { λ _. ⌜ now (out .exit) ≡ patternsAfter t before (groupCodes n (now (s .entry))) ++ drop n (now (out .entry)) ⌝ }
 {
     if 0 < s[0] {
         read_codes32(s, n, c);
-        coding::put_patterns32(t, c, n, out);
+        put_patterns32(t, before, c, n, out);
     } else {
-        zeros32(n, out);
+        repeated32(before, n, out);
     }
 }
 
-fn put_values64(t: Setting, s: &[u8], n: usize, c: &mut [u64], out: &mut [u64])
-    requires { ⌜ Allowed t × (t .width ≡ 64) × (n ≤ 32) × (givenWidth (now s) ≤ 64) × (groupLength n (now s) ≤ length (now s)) × (n ≤ length (now c)) × (n ≤ length (now out)) ⌝ }
-    ensures { λ _. ⌜ now (out .exit) ≡ patternsOf t (groupCodes n (now (s .entry))) ++ drop n (now (out .entry)) ⌝ }
+fn put_values64(t: Setting, before: u64, s: &[u8], n: usize, c: &mut [u64], out: &mut [u64])
+    requires { ⌜ Allowed t × (carry t before ≡ before) ⌝ }
+    requires { ⌜ (t .width ≡ 64) × (n ≤ 32) × (givenWidth (now s) ≤ 64) × (groupLength n (now s) ≤ length (now s)) × (n ≤ length (now c)) × (n ≤ length (now out)) ⌝ }
+    ensures { λ _. ⌜ now (out .exit) ≡ patternsAfter t before (groupCodes n (now (s .entry))) ++ drop n (now (out .entry)) ⌝ }
 {
     if 0 < s[0] {
         read_codes64(s, n, c);
-        coding::put_patterns64(t, c, n, out);
+        put_patterns64(t, before, c, n, out);
     } else {
-        zeros64(n, out);
+        repeated64(before, n, out);
     }
 }
 
-// The patterns of the group at the front of `s`, from `at` on in the output of the width; its codes go through the scratch of the width.
+// The patterns of the group at the front of `s`, from `at` on in the output of the width, where the patterns before it stand already; its codes
+// go through the scratch of the width.
 pub(crate) fn put_values(
     t: Setting,
     s: &[u8],
@@ -275,17 +369,19 @@ pub(crate) fn put_values(
 )
     requires { ⌜ Allowed t × (n ≤ 32) × (givenWidth (now s) ≤ t .width) × (groupLength n (now s) ≤ length (now s)) ⌝ }
     requires { ⌜ (at ≤ 1024) × (n ≤ length (chosen (t .width) (now c32) (now c64))) × (at + n ≤ length (chosen (t .width) (now o32) (now o64))) ⌝ }
-    ensures { λ _. ⌜ chosen (t .width) (now (o32 .exit)) (now (o64 .exit)) ≡ landed at (patternsOf t (groupCodes n (now (s .entry)))) (chosen (t .width) (now (o32 .entry)) (now (o64 .entry))) ⌝ }
+    ensures { λ _. ⌜ chosen (t .width) (now (o32 .exit)) (now (o64 .exit)) ≡ landed at (patternsAfter t (lastOf 0 (take at (chosen (t .width) (now (o32 .entry)) (now (o64 .entry))))) (groupCodes n (now (s .entry)))) (chosen (t .width) (now (o32 .entry)) (now (o64 .entry))) ⌝ }
 {
     if t.width == 32 {
-        put_values32(t, s, n, c32, &mut o32[at..]);
+        let before = carry32(t, o32, at);
+        put_values32(t, before, s, n, c32, &mut o32[at..]);
     } else {
-        put_values64(t, s, n, c64, &mut o64[at..]);
+        let before = carry64(t, o64, at);
+        put_values64(t, before, s, n, c64, &mut o64[at..]);
     }
 }
 
 // The pattern of one code, in a word of either width.
-pub(crate) fn pattern(t: Setting, c: u64) -> u64
+fn pattern(t: Setting, c: u64) -> u64
     requires { ⌜ Allowed t × (c < 2 ^ t .width) ⌝ }
     ensures { λ p. ⌜ p ≡ patternAt t c ⌝ }
 {
@@ -294,4 +390,29 @@ pub(crate) fn pattern(t: Setting, c: u64) -> u64
     } else {
         coding::pattern64(t, c)
     }
+}
+
+// The i-th of the patterns of the first codes. In mode 2 it takes all codes before it, else its own.
+pub(crate) fn value(t: Setting, before: u64, codes: &[u64], i: usize) -> u64
+    requires { ⌜ Allowed t × (before < 2 ^ t .width) × (i < length (now codes)) × (i < 1024) × Below (2 ^ t .width) (take (i + 1) (now codes)) ⌝ }
+    ensures { λ p. ⌜ p ≡ getD (patternsAfter t before (take (i + 1) (now (codes .entry)))) i 0 ⌝ }
+{
+    if t.mode == 2 {
+        differences::last_sum(t, before, codes, i + 1)
+    } else {
+        pattern(t, codes[i])
+    }
+}
+
+// The pattern that what follows a good group of n codes stands behind. It counts in mode 2 alone, so the others do not open the group.
+pub(crate) fn carried(t: Setting, before: u64, s: &[u8], n: usize) -> u64
+    requires { ⌜ Allowed t × (before < 2 ^ t .width) × (n ≤ 32) × (givenWidth (now s) ≤ t .width) × (groupLength n (now s) ≤ length (now s)) ⌝ }
+    ensures { λ r. ⌜ (r < 2 ^ t .width) × SameBehind t r (lastOf before (patternsAfter t before (groupCodes n (now (s .entry))))) ⌝ }
+{
+    if t.mode != 2 {
+        return before;
+    }
+    let g = group_read::codes_of(s, n);
+    let codes = g.codes;
+    differences::last_sum(t, before, &codes, n)
 }

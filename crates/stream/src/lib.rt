@@ -3,6 +3,7 @@ pub mod answers;
 mod chunk;
 mod chunks;
 mod coding;
+mod differences;
 mod group;
 mod group_checked;
 mod group_read;

@@ -15,14 +15,12 @@ use crate::chunks;
 use crate::header;
 use crate::header::Header;
 use crate::reading;
+use crate::setting;
 use crate::tables;
 use numbers::signed;
 
 // "at most 65,536 bytes"
 const MOST_INPUT: usize = 65536;
-
-// "checks at the highest level, 10 for now"
-const HIGHEST_LEVEL: u32 = 10;
 
 // Each of the functions below writes a piece of the text at the place `at`, and answers the place behind it.
 fn put_byte(b: u8, text: &mut [u8], at: usize) -> usize
@@ -176,7 +174,7 @@ fn put_listing(bytes: &[u8], text: &mut [u8]) -> usize
     if MOST_INPUT < bytes.len() {
         return put_text(b"too long\n", text, 0);
     }
-    let found = reading::check(HIGHEST_LEVEL, bytes);
+    let found = reading::check(setting::HIGHEST_LEVEL, bytes);
     match found {
         Answer::Done(_) => put_stream(bytes, text),
         Answer::Refused(number, detail) => put_refused_line(number, detail, text),

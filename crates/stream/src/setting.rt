@@ -17,10 +17,12 @@ pub(crate) struct Setting {
     pub bin: u32,
 }
 
+pub(crate) const HIGHEST_LEVEL: u32 = 11;
+
 pub(crate) fn known_level(level: usize) -> bool
     ensures { λ r. ⌜ r ≡ knownLevel level ⌝ }
 {
-    (8 <= level) & (level <= 10)
+    (8 <= level) & (level <= HIGHEST_LEVEL as usize)
 }
 
 pub(crate) fn known_width(width: usize) -> bool
@@ -45,9 +47,6 @@ pub(crate) fn allowed(width: usize, mode: usize, k: i32) -> bool
     requires { ⌜ knownWidth width ≡ true ⌝ }
     ensures { λ r. ⌜ r ≡ allowedSetting width mode k ⌝ }
 {
-    if mode == 0 {
-        return k == 0;
-    }
     if mode == 1 {
         let bin = bin_at(width, k);
         return match bin {
@@ -55,15 +54,15 @@ pub(crate) fn allowed(width: usize, mode: usize, k: i32) -> bool
             BinAnswer::NotAllowed => false,
         };
     }
-    false
+    ((mode == 0) | (mode == 2)) & (k == 0)
 }
 
-// The bin of an allowed setting. Mode 0 has none, and counts as bin 0.
+// The bin of an allowed setting. The lossless modes have none, and count as bin 0.
 fn bin_for(width: usize, mode: usize, k: i32) -> u32
     requires { ⌜ (knownWidth width ≡ true) × (allowedSetting width mode k ≡ true) ⌝ }
     ensures { λ r. ⌜ r ≡ binFor width mode k ⌝ }
 {
-    if mode == 0 {
+    if mode != 1 {
         return 0;
     }
     let bin = bin_at(width, k);
@@ -89,6 +88,9 @@ pub(crate) fn setting_of(width: usize, mode: usize, k: i32) -> Setting
 pub(crate) fn need_of(t: Setting) -> usize
     ensures { λ r. ⌜ r ≡ need t ⌝ }
 {
+    if t.mode == 2 {
+        return 11;
+    }
     if t.width == 64 {
         return 10;
     }
@@ -98,7 +100,7 @@ pub(crate) fn need_of(t: Setting) -> usize
     8
 }
 
-// "k in two's complement (0 in mode 0)": the smallest k, of bin 0, is -150 or -1075.
+// "k in two's complement (0 in mode 0)", and in mode 2: the smallest k, of bin 0, is -150 or -1075.
 pub(crate) fn k_bits(t: Setting) -> u32
     requires { ⌜ Allowed t ⌝ }
     ensures { λ r. ⌜ r ≡ kBits t ⌝ }
@@ -136,12 +138,12 @@ pub(crate) fn limit_of(t: Setting) -> u64
     ensures { λ r. ⌜ r ≡ limitOf t ⌝ }
 {
     if t.width == 32 {
-        if t.mode == 0 {
+        if t.mode != 1 {
             return 0x7FFF_FFFF;
         }
         return bin::largest_u32(t.bin) as u64;
     }
-    if t.mode == 0 {
+    if t.mode != 1 {
         return 0x7FFF_FFFF_FFFF_FFFF;
     }
     bin::largest_u64(t.bin)

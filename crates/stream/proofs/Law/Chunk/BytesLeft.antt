@@ -6,21 +6,17 @@ use mathlib.Core.List.{List, [], _++_}
 use Prim.Native.Nat.{ℕ, suc, _+_, _-_, _*_, _^_, _≤_, _<_, min}
 use native.Mathlib.Nat.{mul-le-mul, mul-comm, mul-suc, le-of-suc-le-suc, le-mul-of-pos-right, div-lt-iff-lt-mul}
 use native.Mathlib.Omega.{arith}
-use lib.ListN.{length, take, drop, length-append, length-map, length-drop, drop-of-length-le}
+use lib.ListN.{length, take, drop, length-append, length-drop, drop-of-length-le}
 use lib.Seq.{take-all, drop-drop}
 use Rattle.numbers.specs.Theorem.{Format}
 use Rattle.blocks.specs.Bytes.{Below}
 use Rattle.stream.specs.Group.{groupBytes}
-use Rattle.stream.specs.Setting.{fractionBits, codeAt, codesOf}
+use Rattle.stream.specs.Setting.{fractionBits, codesOf}
 use Rattle.stream.specs.Chunk.{groupsIn, chunkBytes}
 use Rattle.stream.specs.declared.setting.Setting.{Setting}
 use Rattle.blocks.proofs.Law.Truth.{le-or-lt}
 use Rattle.stream.proofs.Law.Chunk.Groups.{chunk-step, chunk-none, chunk-most}
-use Rattle.stream.proofs.Law.Setting.Codes.{codes-under}
-
-pub length-codes-of : (t : Setting) (vs : List ℕ) → length (codesOf t vs) ≡ length vs
-unfolding codesOf
-length-codes-of t vs = length-map vs (codeAt t)
+use Rattle.stream.proofs.Law.Setting.Codes.{codes-under, length-codes-after}
 
 -- as far as there are elements
 pub take-there : (k : ℕ) (l : List ℕ) → take k l ≡ take (min k (length l)) l
@@ -42,8 +38,8 @@ module _ (size : ℕ) (some : 0 < size) (t : Setting) (vs : List ℕ) where
   pub bytes-small : (b : ℕ) → t .width ≡ 8 * b → Format (t .width) (fractionBits (t .width)) → Below (2 ^ t .width) vs
       → length (chunkBytes size (codesOf t vs)) ≤ groupsIn size (length vs) + b * length vs
   bytes-small b e format below =
-      let under : Below (2 ^ (8 * b)) (codesOf t vs) = λ i. rw (← e) (codes-under t format vs below i) in
-      rw (← (length-codes-of t vs)) (chunk-most size some b (codesOf t vs) under)
+      let under : Below (2 ^ (8 * b)) (codesOf t vs) = λ i. rw (← e) (codes-under t format 0 vs below i) in
+      rw (← (length-codes-after t 0 vs)) (chunk-most size some b (codesOf t vs) under)
 
 -- The bytes of the codes that are left, however the codes came about.
 

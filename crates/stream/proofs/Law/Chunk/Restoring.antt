@@ -1,43 +1,46 @@
 -- A good chunk's values restored group by group: what has been put, and what the rest of the bytes has still to give. Over the width, the
 -- setting and the group size.
 use mathlib.Core.Path.{_≡_, refl, sym, ap, ap₂, _∙_}
-use mathlib.Core.Bool.{Bool, true, false}
-use mathlib.Core.List.{List, [], _∷_, _++_, map, map-append}
-use Prim.Native.Nat.{ℕ, zero, suc, _+_, _-_, _^_, _≤_, _<_, min}
-use native.Mathlib.Nat.{lt-of-lt-of-le, le-trans, le-of-suc-le-suc, not-suc-le-zero}
+use mathlib.Core.Bool.{Bool, true, false, cond}
+use mathlib.Core.List.{List, [], _++_, map}
+use Prim.Native.Nat.{ℕ, _+_, _-_, _^_, _≤_, _<_, min}
+use native.Mathlib.Nat.{lt-of-lt-of-le, le-trans}
 use native.Mathlib.Omega.{arith}
-use lib.ListN.{length, take, drop, getD, length-map, length-take, List·getD-append}
-use lib.Seq.{drop-drop, getD-append-add}
+use lib.Dec.{eqb}
+use lib.ListN.{length, take, drop, getD, length-take, List·getD-append, take-append-drop}
+use lib.Seq.{drop-drop, getD-append-add, length-take-le}
+use Rattle.numbers.specs.Difference.{runningSums, lastOf}
 use lib.Pow.{pow-mono}
 use Rattle.blocks.specs.Bytes.{Below}
 use Rattle.stream.specs.Group.{givenWidth, groupLength, groupCodes, goodGroup}
 use Rattle.stream.specs.declared.chunk.ChunkAnswer.the-variants.{Good}
-use Rattle.stream.specs.Setting.{patternAt, patternsOf}
+use Rattle.stream.specs.Setting.{patternAt, patternsAfter, patternsOf}
+use Rattle.stream.specs.Lent.{SameBehind}
 use Rattle.stream.specs.Chunk.{chunkAnswer, chunkCodes}
 use Rattle.stream.specs.declared.setting.Setting.{Setting}
 use Rattle.stream.proofs.Law.Group.RoundTrip.{codes-below, length-codes}
 use Rattle.stream.proofs.Law.Group.Exact.{true-good}
 use Rattle.stream.proofs.Law.Chunk.Groups.{codes-step, length-chunk-codes, never-good}
+use Rattle.stream.proofs.Law.Setting.Codes.{length-patterns, patterns-append}
 use Rattle.stream.proofs.Law.Chunk.Checking.{found, found-bad, found-good, part-is, within-bytes}
 
-pub length-patterns : (t : Setting) (cs : List ℕ) → length (patternsOf t cs) ≡ length cs
-unfolding patternsOf
-length-patterns t cs = length-map cs (patternAt t)
-
-pub patterns-none : (t : Setting) → patternsOf t [] ≡ []
-unfolding patternsOf
-patterns-none t = refl
+pub patterns-none : (t : Setting) (before : ℕ) → patternsAfter t before [] ≡ []
+unfolding patternsAfter runningSums
+patterns-none t before = go (eqb (t .mode) 2)
+  where
+    go : (b : Bool) → cond b (runningSums (t .width) before []) (map (patternAt t) []) ≡ []
+    go true = refl
+    go false = refl
 
 -- an array whose first n elements are n codes is long enough
 pub long-enough : (n : ℕ) (xs ys : List ℕ) → take n xs ≡ ys → length ys ≡ n → n ≤ length xs
 long-enough n xs ys e l = let q : min n (length xs) ≡ n = sym (length-take n xs) ∙ ap length e ∙ l in omega arith
 
--- the pattern at an index is that of the code there
-pub pattern-at : (t : Setting) (cs : List ℕ) (i : ℕ) → i < length cs → getD (patternsOf t cs) i 0 ≡ patternAt t (getD cs i 0)
-unfolding patternsOf
-pattern-at t [] i h = absurd (not-suc-le-zero h)
-pattern-at t (c ∷ cs) zero h = refl
-pattern-at t (c ∷ cs) (suc i) h = pattern-at t cs i (le-of-suc-le-suc h)
+-- the pattern at an index takes no code behind it
+pub pattern-first : (t : Setting) (before : ℕ) (cs ds : List ℕ) (i : ℕ) → i < length cs → getD (patternsAfter t before (cs ++ ds)) i 0 ≡ getD (patternsAfter t before cs) i 0
+pattern-first t before cs ds i h =
+    ap (λ (ps : List ℕ). getD ps i 0) (patterns-append t before cs ds)
+    ∙ List·getD-append (patternsAfter t before cs) (patternsAfter t (lastOf before (patternsAfter t before cs)) ds) 0 i (rw (length-patterns t before cs) h)
 
 -- the codes of the next group stand first among those that are left
 module _ (size : ℕ) (some : 0 < size) (s : List ℕ) (left at count k : ℕ) (h : 0 < left) (is : count ≡ min size left) (l : k ≡ groupLength count (drop at s)) where
@@ -48,10 +51,10 @@ module _ (size : ℕ) (some : 0 < size) (s : List ℕ) (left at count k : ℕ) (
       (ap₂ (chunkCodes size) (let q : left - size ≡ left - count = omega arith in q)
       (ap (λ (n : ℕ). drop (groupLength n (drop at s)) (drop at s)) (sym is) ∙ ap (λ (n : ℕ). drop n (drop at s)) (sym l) ∙ drop-drop k at s))
 
-  pub patterns-next : (t : Setting)
-      → patternsOf t (chunkCodes size left (drop at s)) ≡ patternsOf t (groupCodes count (drop at s)) ++ patternsOf t (chunkCodes size (left - count) (drop (at + k) s))
-  unfolding patternsOf
-  patterns-next t = ap (map (patternAt t)) codes-next ∙ map-append (patternAt t) (groupCodes count (drop at s)) (chunkCodes size (left - count) (drop (at + k) s))
+  pub patterns-next : (t : Setting) (before : ℕ) → let first = patternsAfter t before (groupCodes count (drop at s)) in
+      patternsAfter t before (chunkCodes size left (drop at s)) ≡ first ++ patternsAfter t (lastOf before first) (chunkCodes size (left - count) (drop (at + k) s))
+  patterns-next t before =
+      ap (patternsAfter t before) codes-next ∙ patterns-append t before (groupCodes count (drop at s)) (chunkCodes size (left - count) (drop (at + k) s))
 
 module _ (size : ℕ) (some : 0 < size) (W U : ℕ) (s : List ℕ) where
   -- where a walk that ends well stands: `left` values in the bytes from `at` on
@@ -94,25 +97,29 @@ module _ (size : ℕ) (some : 0 < size) (W U : ℕ) (s : List ℕ) where
     }
 
   -- an index behind the next group, and one within it
-  module _ (left at count : ℕ) (o : Onward left at) (h : 0 < left) (is : count ≡ min size left) (t : Setting) (k : ℕ) (l : k ≡ groupLength count (drop at s)) where
-    length-next : length (patternsOf t (groupCodes count (drop at s))) ≡ count
-    length-next = length-patterns t (groupCodes count (drop at s)) ∙ length-codes count (drop at s)
+  module _ (left at count : ℕ) (o : Onward left at) (h : 0 < left) (is : count ≡ min size left) (t : Setting) (before : ℕ) (k : ℕ) (l : k ≡ groupLength count (drop at s)) where
+    abbrev codes : List ℕ
+    codes = groupCodes count (drop at s)
 
-    pub behind-next : (i : ℕ) → count ≤ i
-        → getD (patternsOf t (chunkCodes size left (drop at s))) i 0 ≡ getD (patternsOf t (chunkCodes size (left - count) (drop (at + k) s))) (i - count) 0
-    behind-next i b =
-        let first = patternsOf t (groupCodes count (drop at s)) in
-        let more = patternsOf t (chunkCodes size (left - count) (drop (at + k) s)) in
-        ap₂ (λ (ps : List ℕ) (n : ℕ). getD ps n 0) (patterns-next size some s left at count k h is l t) (let q : i ≡ length first + (i - count) = omega (arith, length-next) in q)
+    length-next : length (patternsAfter t before codes) ≡ count
+    length-next = length-patterns t before codes ∙ length-codes count (drop at s)
+
+    pub behind-next : (i after : ℕ) → count ≤ i → SameBehind t after (lastOf before (patternsAfter t before codes))
+        → getD (patternsAfter t before (chunkCodes size left (drop at s))) i 0 ≡ getD (patternsAfter t after (chunkCodes size (left - count) (drop (at + k) s))) (i - count) 0
+    behind-next i after b same =
+        let first = patternsAfter t before codes in
+        let more = patternsAfter t (lastOf before first) (chunkCodes size (left - count) (drop (at + k) s)) in
+        ap₂ (λ (ps : List ℕ) (n : ℕ). getD ps n 0) (patterns-next size some s left at count k h is l t before) (let q : i ≡ length first + (i - count) = omega (arith, length-next) in q)
         ∙ getD-append-add first more (i - count) 0
+        ∙ ap (λ (ps : List ℕ). getD ps (i - count) 0) (sym (same (chunkCodes size (left - count) (drop (at + k) s))))
 
     pub within-next : (i : ℕ) → i < count
-        → getD (patternsOf t (chunkCodes size left (drop at s))) i 0 ≡ patternAt t (getD (groupCodes count (drop at s)) i 0)
+        → getD (patternsAfter t before (chunkCodes size left (drop at s))) i 0 ≡ getD (patternsAfter t before (take (i + 1) codes)) i 0
     within-next i b =
-        let first = patternsOf t (groupCodes count (drop at s)) in
-        ap (λ (ps : List ℕ). getD ps i 0) (patterns-next size some s left at count k h is l t)
-        ∙ List·getD-append first (patternsOf t (chunkCodes size (left - count) (drop (at + k) s))) 0 i (rw length-next b)
-        ∙ pattern-at t (groupCodes count (drop at s)) i (rw (length-codes count (drop at s)) b)
+        ap (λ (cs : List ℕ). getD (patternsAfter t before cs) i 0) (codes-next size some s left at count k h is l)
+        ∙ pattern-first t before codes (chunkCodes size (left - count) (drop (at + k) s)) i (rw (length-codes count (drop at s)) b)
+        ∙ ap (λ (cs : List ℕ). getD (patternsAfter t before cs) i 0) (sym (take-append-drop (i + 1) codes))
+        ∙ pattern-first t before (take (i + 1) codes) (drop (i + 1) codes) i (rw (length-take-le (i + 1) codes (rw (length-codes count (drop at s)) (omega arith))) (omega arith))
 
 pub length-restored : (size : ℕ) (some : 0 < size) (t : Setting) (n : ℕ) (s : List ℕ) → length (patternsOf t (chunkCodes size n s)) ≡ n
-length-restored size some t n s = length-patterns t (chunkCodes size n s) ∙ length-chunk-codes size some n s
+length-restored size some t n s = length-patterns t 0 (chunkCodes size n s) ∙ length-chunk-codes size some n s

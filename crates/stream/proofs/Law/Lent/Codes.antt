@@ -1,10 +1,13 @@
 -- The codes of the values lent: how many, how many bytes they take, and a part of them as the function of either width makes it.
 use mathlib.Core.Path.{_≡_, refl, sym, ap, ap₂, _∙_}
 use mathlib.Core.Bool.{true}
-use mathlib.Core.List.{List, _++_}
-use Prim.Native.Nat.{ℕ, _+_, _^_, _≤_}
-use lib.ListN.{length, take, drop}
-use lib.Seq.{take-at}
+use mathlib.Core.List.{List, _++_, map}
+use Prim.Native.Nat.{ℕ, _+_, _-_, _^_, _≤_}
+use native.Mathlib.Omega.{arith}
+use lib.ListN.{length, take, drop, length-map, length-drop, take-append-drop}
+use lib.Seq.{take-at, drop-at, length-take-le}
+use Rattle.numbers.specs.Difference.{differenceCodes, lastOf}
+use Rattle.numbers.proofs.Law.Difference.{codes-append, length-difference-codes}
 use Rattle.blocks.specs.Bytes.{Below}
 use Rattle.stream.specs.Setting.{knownWidth, groupSize, codeAt, codesOf}
 use Rattle.stream.specs.Chunk.{chunkBytes}
@@ -13,19 +16,34 @@ use Rattle.stream.specs.Writing.{piece, pieceBytes}
 use Rattle.stream.specs.declared.setting.Setting.{Setting}
 use Rattle.stream.proofs.Law.Lent.Chosen.{at-32, at-other, chosen-below, chosen-piece}
 use Rattle.stream.proofs.Law.Plain.Mapped.{map-take, map-drop, part-taken}
-use Rattle.stream.proofs.Law.Setting.Allowed.{size-some}
-use Rattle.stream.proofs.Law.Chunk.BytesLeft.{length-codes-of, chunk-small}
+use Rattle.stream.proofs.Law.Setting.Allowed.{size-some, one-block}
+use Rattle.stream.proofs.Law.Chunk.BytesLeft.{chunk-small}
+use Rattle.stream.proofs.Law.Setting.Codes.{codes-each, codes-by-difference, length-codes-after}
 use Rattle.stream.proofs.Law.Setting.Widths.{width-bytes}
 use Rattle.stream.proofs.Law.Written.Pieces.{piece-bytes}
 
 -- a part of the codes of a list: the codes of its part, or a part of the scratch where they stand
 module _ (t : Setting) (vs : List ℕ) (n at : ℕ) where
-  pub codes-part : codesOf t (take n (drop at vs)) ≡ take n (drop at (codesOf t vs))
-  unfolding codesOf
+  pub codes-part : map (codeAt t) (take n (drop at vs)) ≡ take n (drop at (map (codeAt t) vs))
   codes-part = map-take (codeAt t) n (drop at vs) ∙ ap (take n) (map-drop (codeAt t) at vs)
 
-  pub staged-part : (cs : List ℕ) → take (length vs) cs ≡ codesOf t vs → at + n ≤ length vs → take n (drop at cs) ≡ take n (drop at (codesOf t vs))
+  pub staged-part : (cs : List ℕ) → take (length vs) cs ≡ map (codeAt t) vs → at + n ≤ length vs → take n (drop at cs) ≡ take n (drop at (map (codeAt t) vs))
   staged-part cs is h = sym (part-taken n at (length vs) cs h) ∙ ap (λ (l : List ℕ). take n (drop at l)) is
+
+-- the same of the differences, which go on from the value before the part
+pub differences-part : (W : ℕ) (vs : List ℕ) (n at : ℕ) → at + n ≤ length vs
+    → differenceCodes W (lastOf 0 (take at vs)) (take n (drop at vs)) ≡ take n (drop at (differenceCodes W 0 vs))
+differences-part W vs n at h =
+    let b = lastOf 0 (take at vs) in
+    let rest = drop at vs in
+    let part : length (take n rest) ≡ n = length-take-le n rest (rw (length-drop at vs) (omega arith)) in
+    sym
+    (ap (λ (l : List ℕ). take n (drop at (differenceCodes W 0 l))) (sym (take-append-drop at vs))
+    ∙ ap (λ (l : List ℕ). take n (drop at l)) (codes-append W 0 (take at vs) rest)
+    ∙ ap (take n) (drop-at (differenceCodes W 0 (take at vs)) (differenceCodes W b rest) at (length-difference-codes W 0 (take at vs) ∙ length-take-le at vs (omega arith)))
+    ∙ ap (λ (l : List ℕ). take n (differenceCodes W b l)) (sym (take-append-drop n rest))
+    ∙ ap (take n) (codes-append W b (take n rest) (drop n rest))
+    ∙ take-at (differenceCodes W b (take n rest)) (differenceCodes W (lastOf b (take n rest)) (drop n rest)) n (length-difference-codes W b (take n rest) ∙ part))
 
 module _ (t : Setting) (v32 v64 : List ℕ) where
   pub lent-are : lentCodes t v32 v64 ≡ codesOf t (chosen (t .width) v32 v64)
@@ -33,14 +51,28 @@ module _ (t : Setting) (v32 v64 : List ℕ) where
   lent-are = refl
 
   pub length-lent : length (lentCodes t v32 v64) ≡ length (chosen (t .width) v32 v64)
-  length-lent = ap length lent-are ∙ length-codes-of t (chosen (t .width) v32 v64)
+  length-lent = ap length lent-are ∙ length-codes-after t 0 (chosen (t .width) v32 v64)
 
-  -- they are those of the list of the width
-  pub lent-32 : t .width ≡ 32 → codesOf t v32 ≡ lentCodes t v32 v64
-  lent-32 e = ap (codesOf t) (sym (at-32 (t .width) v32 v64 e)) ∙ sym lent-are
+  -- they are those of the list of the width, by mode
+  module _ (narrow : t .width ≡ 32) where
+    lent-32 : codesOf t v32 ≡ lentCodes t v32 v64
+    lent-32 = ap (codesOf t) (sym (at-32 (t .width) v32 v64 narrow)) ∙ sym lent-are
 
-  pub lent-64 : (t .width ≡ 32 → ⊥) → codesOf t v64 ≡ lentCodes t v32 v64
-  lent-64 e = ap (codesOf t) (sym (at-other (t .width) v32 v64 e)) ∙ sym lent-are
+    pub each-32 : (t .mode ≡ 2 → ⊥) → map (codeAt t) v32 ≡ lentCodes t v32 v64
+    each-32 n = sym (codes-each t 0 v32 n) ∙ lent-32
+
+    pub differences-32 : t .mode ≡ 2 → differenceCodes 32 0 v32 ≡ lentCodes t v32 v64
+    differences-32 e = ap (λ (w : ℕ). differenceCodes w 0 v32) (sym narrow) ∙ sym (codes-by-difference t 0 v32 e) ∙ lent-32
+
+  module _ (wide : t .width ≡ 64) where
+    lent-64 : codesOf t v64 ≡ lentCodes t v32 v64
+    lent-64 = ap (codesOf t) (sym (at-other (t .width) v32 v64 (λ e. omega arith))) ∙ sym lent-are
+
+    pub each-64 : (t .mode ≡ 2 → ⊥) → map (codeAt t) v64 ≡ lentCodes t v32 v64
+    each-64 n = sym (codes-each t 0 v64 n) ∙ lent-64
+
+    pub differences-64 : t .mode ≡ 2 → differenceCodes 64 0 v64 ≡ lentCodes t v32 v64
+    differences-64 e = ap (λ (w : ℕ). differenceCodes w 0 v64) (sym wide) ∙ sym (codes-by-difference t 0 v64 e) ∙ lent-64
 
   -- a chunk takes few bytes
   pub lent-small : knownWidth (t .width) ≡ true → Below (2 ^ 32) v32 → Below (2 ^ 64) v64 → length (chosen (t .width) v32 v64) ≤ 1024
@@ -49,12 +81,33 @@ module _ (t : Setting) (v32 v64 : List ℕ) where
       let b = width-bytes (t .width) known in
       rw lent-are (chunk-small (groupSize t) (size-some t) t (b .bytes) (chosen (t .width) v32 v64) (b .whole) (b .few) (b .format) (chosen-below (t .width) v32 v64 known under-32 under-64) few)
 
+-- a full group from `at` on, of r codes: where it lies, how many codes it has, and which
+module _ (t : Setting) (at r : ℕ) (is : r ≡ groupSize t) where
+  pub full-fits : (n long : ℕ) → n ≡ long → at + groupSize t ≤ n → at + groupSize t ≤ 1024 → (at ≤ at + r) × (at + r ≤ at + 32) × (at + r ≤ long) × (at + r ≤ 1024)
+  full-fits n long e h l = let o = one-block t in (omega arith, omega arith, omega arith, omega arith)
+
+  pub full-count : (count : ℕ) → count ≡ at + r - at → count ≡ 32
+  full-count count e = let o = one-block t in omega arith
+
+  pub full-codes : (count : ℕ) (codes cs lent : List ℕ) → take count codes ≡ take (at + r - at) (drop at cs) → cs ≡ lent
+      → take count codes ≡ take (groupSize t) (drop at lent)
+  full-codes count codes cs lent e same =
+      e ∙ ap₂ (λ (n : ℕ) (l : List ℕ). take n (drop at l)) (let q : at + r - at ≡ groupSize t = omega arith in q) same
+
+-- the list of the width is as long as all that is lent
+module _ (W : ℕ) (v32 v64 : List ℕ) where
+  pub length-32 : W ≡ 32 → length (chosen W v32 v64) ≡ length v32
+  length-32 e = ap length (at-32 W v32 v64 e)
+
+  pub length-other : (W ≡ 32 → ⊥) → length (chosen W v32 v64) ≡ length v64
+  length-other n = ap length (at-other W v32 v64 n)
+
 pub chosen-parts : (W : ℕ) (v32 v64 p32 p64 : List ℕ) (j : ℕ) → p32 ≡ piece v32 j → p64 ≡ piece v64 j → chosen W p32 p64 ≡ piece (chosen W v32 v64) j
 chosen-parts W v32 v64 p32 p64 j e32 e64 = ap₂ (chosen W) e32 e64 ∙ chosen-piece W v32 v64 j
 
 -- what is put at the front stands there
-pub staged-front : (t : Setting) (v32 rest c32 : List ℕ) → c32 ≡ codesOf t v32 ++ rest → take (length v32) c32 ≡ codesOf t v32
-staged-front t v32 rest c32 e = ap (take (length v32)) e ∙ take-at (codesOf t v32) rest (length v32) (length-codes-of t v32)
+pub staged-front : (t : Setting) (v32 rest c32 : List ℕ) → c32 ≡ map (codeAt t) v32 ++ rest → take (length v32) c32 ≡ map (codeAt t) v32
+staged-front t v32 rest c32 e = ap (take (length v32)) e ∙ take-at (map (codeAt t) v32) rest (length v32) (length-map v32 (codeAt t))
 
 -- the values of chunk j, lent from the lists that they come from
 pub lent-piece : (t : Setting) (v32 v64 p32 p64 : List ℕ) (j : ℕ) → p32 ≡ piece v32 j → p64 ≡ piece v64 j

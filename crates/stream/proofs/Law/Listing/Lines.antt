@@ -21,7 +21,8 @@ use Rattle.stream.specs.Stream.{joined, countOf}
 use Rattle.stream.specs.Relied.{Opened}
 use Rattle.stream.specs.Rows.{first, answer}
 use Rattle.stream.specs.Operations.{openingRows, contentRows, checkRows, checkAnswer}
-use Rattle.stream.specs.Listing.{mostInput, highestLevel, decimal, minus, signedDecimal, newline, labelled, tooLong}
+use Rattle.stream.specs.Setting.{highestLevel}
+use Rattle.stream.specs.Listing.{mostInput, decimal, minus, signedDecimal, newline, labelled, tooLong}
 use Rattle.stream.specs.Listing.{chunkWord, atWord, bytesWord, groupsWord, chunkLine, answerLines, listing, Appends}
 use Rattle.stream.specs.declared.answers.Answer.{Answer}
 use Rattle.stream.specs.declared.answers.Answer.the-variants.{Done, Refused}

@@ -7,6 +7,8 @@ use native.Mathlib.Omega.{arith}
 use lib.ListN.{length, take, drop, length-append, length-drop, drop-of-length-le}
 use lib.Seq.{take-at, drop-at, drop-drop, take-all, take-add, length-take-le}
 use borrow.Rule.Slice.PartMut.{putMid}
+use Rattle.numbers.specs.Difference.{lastOf}
+use Rattle.numbers.proofs.Law.Difference.{last-append}
 use Rattle.stream.specs.Lent.{landed}
 
 -- new elements, written into the part from `at` on
@@ -24,6 +26,16 @@ landed-mid at n new out ys l is =
     ∙ sym (append-assoc (take at out) new (drop (at + length new) out))
 
 -- Of `all`, the first `put` bytes stand in `out`, which was `base`; `rest` is still to come.
+-- what stands before the place behind them
+pub carried-on : (at n : ℕ) (new out now : List ℕ) → length new ≡ n → at ≤ length out → now ≡ landed at new out
+    → lastOf 0 (take (at + n) now) ≡ lastOf (lastOf 0 (take at out)) new
+unfolding landed
+carried-on at n new out now l h is =
+    ap (lastOf 0)
+    (ap (take (at + n)) is
+    ∙ take-at (take at out ++ new) (drop (at + length new) out) (at + n) (length-append (take at out) new ∙ ap₂ _+_ (length-take-le at out h) l))
+    ∙ last-append 0 (take at out) new
+
 pub record Appended (all rest base out : List ℕ) (put : ℕ) : Type 0 where
   pub whole : put + length rest ≡ length all
   pub left : drop put all ≡ rest

@@ -66,6 +66,11 @@ module _ (f : ℕ → List ℕ) where
   joined-same g zero h = refl
   joined-same g (suc k) h = ap₂ _++_ (joined-same g k (λ j l. h j (omega arith))) (h k (omega arith))
 
+  pub lengths-joined : (g : ℕ → List ℕ) (k : ℕ) → ((j : ℕ) → length (f j) ≡ length (g j)) → length (joined f k) ≡ length (joined g k)
+  unfolding joined
+  lengths-joined g zero h = refl
+  lengths-joined g (suc k) h = length-append (joined f k) (f k) ∙ ap₂ _+_ (lengths-joined g k h) (h k) ∙ sym (length-append (joined g k) (g k))
+
 -- one element each
 module _ (a : ℕ → ℕ) where
   pub length-singles : (k : ℕ) → length (joined (λ j. a j ∷ []) k) ≡ k

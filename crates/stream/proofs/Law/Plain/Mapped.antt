@@ -28,17 +28,22 @@ one-copied xs ys i h l e =
     ∙ ap (λ (l : List ℕ). l ++ (getD xs i 0 ∷ [])) e
     ∙ sym (ap (λ (k : ℕ). take k xs) (add-one i) ∙ take-suc xs i 0 h)
 
+-- one element more behind those that stand at the front, over what was there
+pub one-over-there : (done base : List ℕ) (i x : ℕ) → length done ≡ i → i < length base
+    → set (done ++ drop i base) i x ≡ (done ++ (x ∷ [])) ++ drop (i + 1) base
+one-over-there done base i x long h =
+    ap (λ (t : List ℕ). set (done ++ t) i x) (drop-cons base i 0 h)
+    ∙ set-at done (getD base i 0) (drop (suc i) base) x i long
+    ∙ sym (append-assoc done (x ∷ []) (drop (suc i) base))
+    ∙ ap (λ (k : ℕ). (done ++ (x ∷ [])) ++ drop k base) (sym (add-one i))
+
 -- the same over what was there: the images so far, and the rest of `base`
 pub one-put : (f : ℕ → ℕ) (xs base : List ℕ) (i : ℕ) → i < length xs → i < length base
     → set (map f (take i xs) ++ drop i base) i (f (getD xs i 0)) ≡ map f (take (i + 1) xs) ++ drop (i + 1) base
 one-put f xs base i h l =
-    let long : length (map f (take i xs)) ≡ i = length-map (take i xs) f ∙ length-take-le i xs (omega arith) in
-    ap (λ (t : List ℕ). set (map f (take i xs) ++ t) i (f (getD xs i 0))) (drop-cons base i 0 l)
-    ∙ set-at (map f (take i xs)) (getD base i 0) (drop (suc i) base) (f (getD xs i 0)) i long
-    ∙ sym (ap₂ (λ (a b : List ℕ). a ++ b)
-    (ap (map f) (ap (λ (k : ℕ). take k xs) (add-one i) ∙ take-suc xs i 0 h) ∙ map-append f (take i xs) (getD xs i 0 ∷ []))
-    (ap (λ (k : ℕ). drop k base) (add-one i))
-    ∙ append-assoc (map f (take i xs)) (f (getD xs i 0) ∷ []) (drop (suc i) base))
+    one-over-there (map f (take i xs)) base i (f (getD xs i 0)) (length-map (take i xs) f ∙ length-take-le i xs (omega arith)) l
+    ∙ ap (λ (a : List ℕ). a ++ drop (i + 1) base)
+    (sym (ap (map f) (ap (λ (k : ℕ). take k xs) (add-one i) ∙ take-suc xs i 0 h) ∙ map-append f (take i xs) (getD xs i 0 ∷ [])))
 
 -- the same of a copy
 map-same : (l : List ℕ) → map (λ (x : ℕ). x) l ≡ l
@@ -57,24 +62,25 @@ length-over xs base out i h l e =
     ap length e ∙ length-append (take i xs) (drop i base)
     ∙ ap₂ _+_ (length-take-le i xs h) (length-drop i base) ∙ (let q : i + (length base - i) ≡ length base = omega arith in q)
 
--- the same of zeros
-replicate-snoc : (i : ℕ) (t : List ℕ) → replicate i 0 ++ (0 ∷ t) ≡ replicate (suc i) 0 ++ t
-replicate-snoc zero t = refl
-replicate-snoc (suc i) t = ap (λ (r : List ℕ). 0 ∷ r) (replicate-snoc i t)
+-- the same of one number, repeated
+module _ (p : ℕ) where
+  replicate-snoc : (i : ℕ) (t : List ℕ) → replicate i p ++ (p ∷ t) ≡ replicate (suc i) p ++ t
+  replicate-snoc zero t = refl
+  replicate-snoc (suc i) t = ap (λ (r : List ℕ). p ∷ r) (replicate-snoc i t)
 
-pub one-zero : (base : List ℕ) (i : ℕ) → i < length base
-    → set (replicate i 0 ++ drop i base) i 0 ≡ replicate (i + 1) 0 ++ drop (i + 1) base
-one-zero base i h =
-    ap (λ (t : List ℕ). set (replicate i 0 ++ t) i 0) (drop-cons base i 0 h)
-    ∙ set-at (replicate i 0) (getD base i 0) (drop (suc i) base) 0 i (length-replicate i 0)
-    ∙ replicate-snoc i (drop (suc i) base)
-    ∙ ap (λ (k : ℕ). replicate k 0 ++ drop k base) (sym (add-one i))
+  pub one-repeated : (base : List ℕ) (i : ℕ) → i < length base
+      → set (replicate i p ++ drop i base) i p ≡ replicate (i + 1) p ++ drop (i + 1) base
+  one-repeated base i h =
+      one-over-there (replicate i p) base i p (length-replicate i p) h
+      ∙ append-assoc (replicate i p) (p ∷ []) (drop (i + 1) base)
+      ∙ replicate-snoc i (drop (i + 1) base)
+      ∙ ap (λ (k : ℕ). replicate k p ++ drop (i + 1) base) (sym (add-one i))
 
-pub length-zeros : (base : List ℕ) (i : ℕ) → i ≤ length base → length (replicate i 0 ++ drop i base) ≡ length base
-length-zeros base i h =
-    length-append (replicate i 0) (drop i base)
-    ∙ ap₂ _+_ (length-replicate i 0) (length-drop i base)
-    ∙ (let e : i + (length base - i) ≡ length base = omega arith in e)
+  pub length-repeated : (base : List ℕ) (i : ℕ) → i ≤ length base → length (replicate i p ++ drop i base) ≡ length base
+  length-repeated base i h =
+      length-append (replicate i p) (drop i base)
+      ∙ ap₂ _+_ (length-replicate i p) (length-drop i base)
+      ∙ (let e : i + (length base - i) ≡ length base = omega arith in e)
 
 -- and the length of what is filled by f
 pub length-put : (f : ℕ → ℕ) (xs base : List ℕ) (i : ℕ) → i ≤ length xs → i ≤ length base → length (map f (take i xs) ++ drop i base) ≡ length base
@@ -110,6 +116,12 @@ part-taken n at m l h =
         ap₂ (λ (x y : List ℕ). take n (drop at (x ++ take (m - at) y))) (take-all at l (omega arith)) (drop-of-length-le l {i = at} (omega arith))
         ∙ ap (λ (x : List ℕ). take n (drop at (l ++ x))) (take-none (m - at))
         ∙ ap (λ (x : List ℕ). take n (drop at x)) (append-nil l)
+
+-- the image at an index
+pub map-at : (f : ℕ → ℕ) (xs : List ℕ) (i : ℕ) → i < length xs → getD (map f xs) i 0 ≡ f (getD xs i 0)
+map-at f [] i h = absurd (omega arith)
+map-at f (x ∷ xs) zero h = refl
+map-at f (x ∷ xs) (suc i) h = map-at f xs i (omega arith)
 
 -- what holds of every image holds of the list of images
 pub map-below : (f : ℕ → ℕ) (a b : ℕ) → 0 < b → ((x : ℕ) → x < a → f x < b) → (xs : List ℕ) → Below a xs → Below b (map f xs)

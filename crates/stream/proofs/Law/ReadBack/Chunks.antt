@@ -6,37 +6,35 @@ use mathlib.Core.List.{List, [], _∷_, _++_, map}
 use Prim.Native.Nat.{ℕ, zero, suc, _+_, _-_, _*_, _/_, _^_, _≤_, _<_, min, zero-le}
 use native.Mathlib.Nat.{two-pow-succ}
 use native.Mathlib.Omega.{arith}
-use borrow.Author.Tests.{lt-ltb, le-ltb, eq-eqb}
+use borrow.Author.Tests.{lt-ltb, le-ltb, eq-eqb, ne-eqb, eqb-true}
 use lib.Dec.{eqb}
-use lib.ListN.{length, take, drop, length-append}
+use lib.ListN.{length, take, drop, getD, length-append}
 use lib.Seq.{drop-at, drop-drop, getD-append-add}
-use Rattle.numbers.specs.Lossless.{losslessCode}
-use Rattle.bins.specs.Tolerance.{toleranceCode, largestU}
+use Rattle.bins.specs.Tolerance.{largestU}
 use Rattle.numbers.specs.Theorem.{Format}
-use Rattle.numbers.proofs.Theorems.{lossless-code-has-W-bits, no-u-is-larger}
+use Rattle.numbers.proofs.Theorems.{no-u-is-larger}
 use Rattle.blocks.specs.Bytes.{Below}
 use Rattle.stream.specs.Group.{groupBytes}
-use Rattle.stream.specs.Setting.{knownWidth, fractionBits, groupSize, clipped, codeAt, patternAt, codesOf, patternsOf, limitOf}
+use Rattle.stream.specs.Setting.{knownWidth, fractionBits, groupSize, clipped, codeAt, codesOf, patternsOf, limitOf}
 use Rattle.stream.specs.Chunk.{chunkBytes}
 use Rattle.stream.specs.Header.{word, kOf, settingIn, chunksIn}
 use Rattle.stream.specs.Tables.{every, startAt, startRight, chunkTableRight}
 use Rattle.stream.specs.Stream.{joined, countOf, chunkOf, chunkState, chunkValues, valuesIn}
 use Rattle.stream.specs.Writing.{spell, piece, pieceBytes, dataOf, startsOf, headerNumbers, endOf}
-use Rattle.stream.specs.Theorem.{Limited}
+use Rattle.stream.specs.Theorem.{Limited, comingBack}
 use Rattle.stream.specs.declared.chunk.ChunkAnswer.the-variants.{Good}
 use Rattle.stream.specs.declared.header.Header.{Header}
 use Rattle.stream.specs.declared.setting.Setting.{Setting}
 use Rattle.blocks.proofs.Law.Truth.{le-or-lt}
 use Rattle.stream.proofs.Law.Group.RoundTrip.{length-group}
 use Rattle.stream.proofs.Law.Chunk.Groups.{chunk-step, written-is-good, written-is-read}
-use Rattle.stream.proofs.Law.Setting.Codes.{bin-in, codes-under}
-use Rattle.stream.proofs.Law.Chunk.BytesLeft.{length-codes-of}
+use Rattle.stream.proofs.Law.Setting.Codes.{bin-in, codes-each, codes-under, length-codes-after}
 use Rattle.stream.proofs.Law.Setting.Allowed.{Storable, size-some}
 use Rattle.stream.proofs.Law.Setting.Widths.{width-bytes}
 use Rattle.stream.proofs.Law.Setting.Exponent.{setting-back}
-use Rattle.stream.proofs.Law.Plain.Joined.{joined-part, joined-map, joined-same, singles-at}
+use Rattle.stream.proofs.Law.Plain.Joined.{joined-part, joined-same, singles-at}
 use Rattle.stream.proofs.Law.Written.Numbers.{length-spell}
-use Rattle.stream.proofs.Law.Written.Pieces.{length-piece, piece-below, pieces-whole, data-next, end-is}
+use Rattle.stream.proofs.Law.Written.Pieces.{length-piece, piece-below, data-next, end-is}
 use Rattle.stream.proofs.Law.ReadBack.Header.{headerFor, frontNumbers, length-numbers, front-word}
 
 -- what holds of each number of a scan holds of the scan
@@ -59,26 +57,25 @@ module _ (t : Setting) (known : knownWidth (t .width) ≡ true) where
   format : Format W (fractionBits W)
   format = width-bytes W known .format
 
-  lossless-limited : (p : ℕ) → p < 2 ^ W → losslessCode W (fractionBits W) p / 2 ≤ 2 ^ (W - 1) - 1
-  lossless-limited p h =
+  -- a code of W bits
+  half-small : (c : ℕ) → c < 2 ^ W → c / 2 ≤ 2 ^ (W - 1) - 1
+  half-small c h =
       let twice : 2 ^ W ≡ 2 ^ (W - 1) + 2 ^ (W - 1) = ap (λ (n : ℕ). 2 ^ n) (let e : W ≡ suc (W - 1) = omega (arith, format .room) in e) ∙ two-pow-succ (W - 1) in
-      omega (arith, lossless-code-has-W-bits W (fractionBits W) format p h, twice)
+      omega (arith, h, twice)
 
-  tolerance-limited : (p : ℕ) → p < 2 ^ W → toleranceCode W (fractionBits W) (clipped t) p / 2 ≤ largestU W (fractionBits W) (clipped t)
-  tolerance-limited = no-u-is-larger W (fractionBits W) format (clipped t) (bin-in t format)
-
-  code-limited : (p : ℕ) → p < 2 ^ W → codeAt t p / 2 ≤ limitOf t
-  unfolding codeAt limitOf
-  code-limited p h = go (eqb (t .mode) 0)
-    where
-      go : (b : Bool) → cond b (losslessCode W (fractionBits W) p) (toleranceCode W (fractionBits W) (clipped t) p) / 2
-          ≤ cond b (2 ^ (W - 1) - 1) (largestU W (fractionBits W) (clipped t))
-      go true = lossless-limited p h
-      go false = tolerance-limited p h
+  tolerance-limited : t .mode ≡ 1 → (p : ℕ) → p < 2 ^ W → codeAt t p / 2 ≤ largestU W (fractionBits W) (clipped t)
+  unfolding codeAt
+  tolerance-limited e p h = rw (ne-eqb (t .mode) 0 (λ z. omega arith)) (no-u-is-larger W (fractionBits W) format (clipped t) (bin-in t format) p h)
 
   codes-limited : (vs : List ℕ) → Below (2 ^ W) vs → Limited (limitOf t) (codesOf t vs)
-  unfolding codesOf
-  codes-limited = map-limited (codeAt t) (2 ^ W) (limitOf t) code-limited
+  unfolding limitOf
+  codes-limited vs below = go (eqb (t .mode) 1) refl
+    where
+      go : (b : Bool) → eqb (t .mode) 1 ≡ b → Limited (cond b (largestU W (fractionBits W) (clipped t)) (2 ^ (W - 1) - 1)) (codesOf t vs)
+      go true e =
+          let lossy = eqb-true (t .mode) 1 e in
+          rw (codes-each t 0 vs (λ z. omega arith)) (map-limited (codeAt t) (2 ^ W) (largestU W (fractionBits W) (clipped t)) (tolerance-limited lossy) vs below)
+      go false e = λ i. half-small (getD (codesOf t vs) i 0) (codes-under t format 0 vs below i)
 
 -- ---- the table and the chunks
 
@@ -87,7 +84,7 @@ piece-some : (t : Setting) (vs : List ℕ) (j : ℕ) → j < chunksIn (length vs
 unfolding pieceBytes chunksIn
 piece-some t vs j h =
     let cs = codesOf t (piece vs j) in
-    let long : length cs ≡ min 1024 (length vs - 1024 * j) = length-codes-of t (piece vs j) ∙ length-piece vs j in
+    let long : length cs ≡ min 1024 (length vs - 1024 * j) = length-codes-after t 0 (piece vs j) ∙ length-piece vs j in
     rw (chunk-step (groupSize t) (size-some t) cs (omega arith), length-append (groupBytes (take (groupSize t) cs)) (chunkBytes (groupSize t) (drop (groupSize t) cs)), length-group (take (groupSize t) cs)) (omega arith)
 
 module _ (level : ℕ) (t : Setting) (vs : List ℕ) (p : Storable level t vs) (sides : ℕ) (few : sides ≤ 64) (rest : List ℕ) where
@@ -147,7 +144,7 @@ module _ (level : ℕ) (t : Setting) (vs : List ℕ) (p : Storable level t vs) (
 
   count-is : (j : ℕ) → countOf header j ≡ length (codesOf t (piece vs j))
   unfolding countOf
-  count-is j = sym (length-codes-of t (piece vs j) ∙ length-piece vs j)
+  count-is j = sym (length-codes-after t 0 (piece vs j) ∙ length-piece vs j)
 
   pub chunk-good : (j : ℕ) → j < chunks → chunkState header bytes j ≡ Good
   unfolding chunkState pieceBytes
@@ -155,17 +152,12 @@ module _ (level : ℕ) (t : Setting) (vs : List ℕ) (p : Storable level t vs) (
       let below = piece-below (2 ^ t .width) vs j (p .patterns) in
       rw (setting-is, count-is j, chunk-is j h)
       (written-is-good (groupSize t) (size-some t) (t .width) (limitOf t) (codesOf t (piece vs j))
-      (codes-under t (width-bytes (t .width) (p .setting .known) .format) (piece vs j) below) (codes-limited t (p .setting .known) (piece vs j) below))
+      (codes-under t (width-bytes (t .width) (p .setting .known) .format) 0 (piece vs j) below) (codes-limited t (p .setting .known) (piece vs j) below))
 
   chunk-back : (j : ℕ) → j < chunks → chunkValues header bytes j ≡ patternsOf t (codesOf t (piece vs j))
   unfolding chunkValues pieceBytes
   chunk-back j h = rw (setting-is, count-is j, chunk-is j h) (ap (patternsOf t) (written-is-read (groupSize t) (size-some t) (codesOf t (piece vs j))))
 
-  pub values-back : valuesIn header bytes ≡ patternsOf t (codesOf t vs)
-  unfolding valuesIn patternsOf codesOf
-  values-back =
-      let code = codeAt t in
-      let pattern = patternAt t in
-      joined-same (chunkValues header bytes) (λ j. map pattern (map code (piece vs j))) chunks chunk-back
-      ∙ joined-map (λ j. map code (piece vs j)) pattern chunks
-      ∙ ap (map pattern) (joined-map (piece vs) code chunks ∙ ap (map code) (pieces-whole vs))
+  pub values-back : valuesIn header bytes ≡ comingBack t vs
+  unfolding valuesIn comingBack
+  values-back = joined-same (chunkValues header bytes) (λ j. patternsOf t (codesOf t (piece vs j))) chunks chunk-back

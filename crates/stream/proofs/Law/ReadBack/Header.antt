@@ -42,13 +42,11 @@ headerFor level t vs sides =
 
 need-least : (t : Setting) → 8 ≤ need t
 unfolding need widthNeed modeNeed
-need-least t = go (eqb (t .width) 64) (eqb (t .mode) 1)
+need-least t = go (eqb (t .width) 64)
   where
-    go : (a b : Bool) → 8 ≤ max (cond a 10 8) (cond b 9 8)
-    go true true = lit≤ tt
-    go true false = lit≤ tt
-    go false true = lit≤ tt
-    go false false = lit≤ tt
+    go : (a : Bool) → 8 ≤ max (cond a 10 8) (modeNeed (t .mode))
+    go true = omega arith
+    go false = omega arith
 
 -- elements below b, one by one, and then others
 abbrev Each : ℕ → List ℕ → Type 0

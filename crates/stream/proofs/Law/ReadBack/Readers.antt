@@ -10,13 +10,14 @@ use borrow.Author.Tests.{lt-ltb, le-ltb, eq-eqb}
 use lib.Dec.{lit<}
 use lib.ListN.{length, getD, List·getD-append}
 use Rattle.blocks.specs.Bytes.{Below}
-use Rattle.stream.specs.Setting.{knownLevel, need, kBits, groupSize, codesOf, patternsOf}
+use Rattle.stream.specs.Setting.{knownLevel, need, kBits, groupSize, codesOf}
 use Rattle.stream.specs.Rows.{Row, rowsFrom, first}
 use Rattle.stream.specs.Header.{word, headerOf, chunksIn, settingRight, layoutRight}
 use Rattle.stream.specs.Tables.{chunkTableRight, sideTableRight}
 use Rattle.stream.specs.Stream.{chunkState, valuesIn, values}
 use Rattle.stream.specs.Writing.{spell, piece, pieceBytes, dataOf, startsOf, headerNumbers, endOf, body, stream, Side, entries, parts, addSides, increasing, WellFormedSides}
 use Rattle.stream.specs.Packing.{Sent}
+use Rattle.stream.specs.Theorem.{comingBack}
 use Rattle.stream.specs.Operations.{headerRows, openingRows, tableRows, chunkRow, chunkRows, contentRows, widthRow, roomRow, indexRow, ownRows, checkRows, unpackRows, probeRows}
 use Rattle.stream.specs.declared.answers.Step.the-variants.{Pass, Stop}
 use Rattle.stream.specs.declared.chunk.ChunkAnswer.the-variants.{Good}
@@ -109,7 +110,7 @@ module _ (level : ℕ) (t : Setting) (vs : List ℕ) (p : Storable level t vs) (
       let data-below : Below 256 (dataOf t vs chunks) =
       joined-below (pieceBytes t vs) 256 byte
       (λ j. chunk-below (groupSize t) (t .width) (codesOf t (piece vs j)) (lt-of-le-of-lt (width-most (t .width) (p .setting .known)) (lit< tt))
-      (codes-under t (width-bytes (t .width) (p .setting .known) .format) (piece vs j) (piece-below (2 ^ t .width) vs j (p .patterns))))
+      (codes-under t (width-bytes (t .width) (p .setting .known) .format) 0 (piece vs j) (piece-below (2 ^ t .width) vs j (p .patterns))))
       chunks in
       let front = frontNumbers level t vs (length ps) in
       let table = entries (endOf t vs chunks + 12 * length ps) ps in
@@ -136,7 +137,7 @@ module _ (level : ℕ) (t : Setting) (vs : List ℕ) (p : Storable level t vs) (
   pub chunks-kept : (j : ℕ) → j < chunks → chunkState (headerOf s) s j ≡ Good
   chunks-kept j h = ap₂ (λ (x : Header) (l : List ℕ). chunkState x l j) header-read after-front ∙ chunk-good level t vs p (length ps) (well .few) behind j h
 
-  pub values-read : values s ≡ patternsOf t (codesOf t vs)
+  pub values-read : values s ≡ comingBack t vs
   unfolding values
   values-read = ap₂ valuesIn header-read after-front ∙ values-back level t vs p (length ps) (well .few) behind
 

@@ -188,7 +188,7 @@ module _ (level : ℕ) (s : List ℕ) (bytes : Below 256 s) where
         let set = settingIn g in
         let codes = good-is-exact (groupSize set) (size-some set) (g .width) (limitOf set) (countOf g j) part part-bytes (p .chunk) .below in
         let known = settled g (p .opening .setting) .known in
-        rw (← (p .width)) (patterns-under set (width-bytes (g .width) known .format) (chunkCodes (groupSize set) (countOf g j) part) codes (i % 1024))
+        rw (← (p .width)) (patterns-under set (width-bytes (g .width) known .format) 0 (chunkCodes (groupSize set) (countOf g j) part) codes (i % 1024))
 
 -- ---- writing
 

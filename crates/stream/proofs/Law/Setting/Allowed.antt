@@ -4,8 +4,9 @@ use mathlib.Core.Logic.{_⊎_, inl, inr, ⊎-elim}
 use mathlib.Core.Bool.{Bool, true, false, _&&_, cond}
 use Prim.Native.Nat.{ℕ, suc, _-_, _*_, _^_, _≤_, _<_, zero-le}
 use native.Mathlib.Omega.{arith}
-use borrow.Author.Tests.{eqb-true, eq-eqb, ne-eqb}
-use lib.Dec.{eqb, lit<, lit≤}
+use native.Mathlib.Nat.{lt-of-le-of-lt}
+use borrow.Author.Tests.{eqb-true, eq-eqb, ne-eqb, leb-true}
+use lib.Dec.{leb, eqb, lit<, lit≤}
 use mathlib.Core.List.{List}
 use lib.IntN.{ℤ, pos, negsuc}
 use lib.ListN.{length}
@@ -17,7 +18,7 @@ use Rattle.bins.specs.Tolerance.{allowedK, lastBin}
 use Rattle.numbers.specs.Theorem.{Format}
 use Rattle.bins.specs.Answers.{binAnswer}
 use Rattle.numbers.proofs.Theorems.{format-32, format-64, a-bin-is-that-of-k, no-bin-means-not-allowed, an-allowed-k-has-a-bin}
-use Rattle.stream.specs.Setting.{knownWidth, fractionBits, isZero, allowedSetting, binFor, settingOf, widthNeed, modeNeed, need, groupSize}
+use Rattle.stream.specs.Setting.{highestLevel, knownLevel, knownWidth, fractionBits, losslessMode, isZero, allowedSetting, binFor, settingOf, widthNeed, modeNeed, need, groupSize}
 use Rattle.stream.specs.Chunk.{groupsIn}
 use Rattle.stream.specs.Header.{kOf, needRight, settingRight}
 use Rattle.stream.specs.Relied.{Allowed, Settled}
@@ -36,6 +37,9 @@ width-cases W e = ⊎-elim (λ a. inl (eqb-true W 32 a)) (λ a. inr (eqb-true W 
 pub width-other : (W : ℕ) → knownWidth W ≡ true → (W ≡ 32 → ⊥) → W ≡ 64
 width-other W e n = ⊎-elim (λ a. absurd (n a)) (λ a. a) (width-cases W e)
 
+pub width-some : (W : ℕ) → knownWidth W ≡ true → 0 < W
+width-some W e = ⊎-elim (λ a. omega arith) (λ a. omega arith) (width-cases W e)
+
 pub width-format : (W : ℕ) → knownWidth W ≡ true → Format W (fractionBits W)
 unfolding fractionBits
 width-format W e =
@@ -50,18 +54,33 @@ mode-need-small : (b : Bool) → cond b 9 8 ≤ 9
 mode-need-small true = lit≤ tt
 mode-need-small false = lit≤ tt
 
+width-need-small : (b : Bool) → cond b 10 8 ≤ 10
+width-need-small true = lit≤ tt
+width-need-small false = lit≤ tt
+
 module _ (t : Setting) where
-  pub need-64 : t .width ≡ 64 → 10 ≡ need t
+  pub need-mode-2 : t .mode ≡ 2 → 11 ≡ need t
   unfolding need widthNeed modeNeed
-  need-64 e = rw (eq-eqb (t .width) 64 e) (omega (arith, mode-need-small (eqb (t .mode) 1)))
+  need-mode-2 e = rw e (omega (arith, width-need-small (eqb (t .width) 64)))
 
-  pub need-mode-1 : (t .width ≡ 64 → ⊥) → t .mode ≡ 1 → 9 ≡ need t
-  unfolding need widthNeed modeNeed
-  need-mode-1 n e = rw (ne-eqb (t .width) 64 n, eq-eqb (t .mode) 1 e)
+  -- and where the mode is another
+  module _ (other : t .mode ≡ 2 → ⊥) where
+    pub need-64 : t .width ≡ 64 → 10 ≡ need t
+    unfolding need widthNeed modeNeed
+    need-64 e = rw (eq-eqb (t .width) 64 e, ne-eqb (t .mode) 2 other) (omega (arith, mode-need-small (eqb (t .mode) 1)))
 
-  pub need-mode-0 : (t .width ≡ 64 → ⊥) → (t .mode ≡ 1 → ⊥) → 8 ≡ need t
-  unfolding need widthNeed modeNeed
-  need-mode-0 n m = rw (ne-eqb (t .width) 64 n, ne-eqb (t .mode) 1 m)
+    pub need-mode-1 : (t .width ≡ 64 → ⊥) → t .mode ≡ 1 → 9 ≡ need t
+    unfolding need widthNeed modeNeed
+    need-mode-1 n e = rw (ne-eqb (t .width) 64 n, eq-eqb (t .mode) 1 e)
+
+    pub need-mode-0 : (t .width ≡ 64 → ⊥) → (t .mode ≡ 1 → ⊥) → 8 ≡ need t
+    unfolding need widthNeed modeNeed
+    need-mode-0 n m = rw (ne-eqb (t .width) 64 n, ne-eqb (t .mode) 1 m, ne-eqb (t .mode) 2 other)
+
+-- a level has few bits
+pub level-small : (level : ℕ) → knownLevel level ≡ true → level < 2 ^ 32
+unfolding knownLevel highestLevel
+level-small level known = lt-of-le-of-lt (leb-true level 11 (and-right (leb 8 level) (leb level 11) known)) (lit< tt)
 
 -- ---- groups: a size is some, and a chunk is a whole number of groups
 
@@ -99,31 +118,57 @@ unfolding isZero
 zero-test (pos n) f = refl
 zero-test (negsuc n) f = let h : n < 2 ^ 31 = f .sfits in ne-eqb (2 ^ 32 - suc n) 0 (λ e. omega arith)
 
--- an allowed setting of another mode than 0 is of mode 1, and its k has a bin
-module _ (W mode : ℕ) (k : ℤ) (allowed : allowedSetting W mode k ≡ true) (some : mode ≡ 0 → ⊥) where
-  both : eqb mode 1 && allowedK W (fractionBits W) k ≡ true
+-- an allowed setting of mode 1: its k has a bin
+module _ (W mode : ℕ) (k : ℤ) (allowed : allowedSetting W mode k ≡ true) (lossy : mode ≡ 1) where
+  k-allowed : allowedK W (fractionBits W) k ≡ true
   unfolding allowedSetting
-  both = rw (ne-eqb mode 0 some) at allowed
+  k-allowed = rw (eq-eqb mode 1 lossy) at allowed
 
   pub setting-bin : (j : ℕ) → binAnswer W (fractionBits W) k ≡ bin.Bin j → j ≡ binFor W mode k
   unfolding binFor
-  setting-bin j is = rw (and-left (eqb mode 1) (allowedK W (fractionBits W) k) both) (sym (a-bin-is-that-of-k W (fractionBits W) k j is .1))
+  setting-bin j is = rw (eq-eqb mode 1 lossy) (sym (a-bin-is-that-of-k W (fractionBits W) k j is .1))
 
   pub setting-has-bin : binAnswer W (fractionBits W) k ≡ bin.NotAllowed → ⊥
   setting-has-bin is =
-      let f : true ≡ false = sym (and-right (eqb mode 1) (allowedK W (fractionBits W) k) both) ∙ no-bin-means-not-allowed W (fractionBits W) k is in
+      let f : true ≡ false = sym k-allowed ∙ no-bin-means-not-allowed W (fractionBits W) k is in
       let z : _≡_ {A = ℕ} 0 1 = cc in
       omega arith
 
+-- ---- the modes
+
+pub lossless-small : (mode : ℕ) → losslessMode mode ≡ true → mode ≤ 2
+unfolding losslessMode
+lossless-small mode e =
+    ⊎-elim (λ a. let q = eqb-true mode 0 a in omega arith) (λ a. let q = eqb-true mode 2 a in omega arith) (either (eqb mode 0) (eqb mode 2) e)
+
+-- there is no other mode than these
+pub no-other-mode : (mode : ℕ) → mode ≤ 2 → (mode ≡ 0 → ⊥) → (mode ≡ 1 → ⊥) → (mode ≡ 2 → ⊥) → ⊥
+no-other-mode mode h zero one two = go (le-or-lt mode 0) (le-or-lt 2 mode)
+  where
+    go : (mode ≤ 0) ⊎ (0 < mode) → (2 ≤ mode) ⊎ (mode < 2) → ⊥
+    go (inl z) b = zero (omega arith)
+    go (inr s) (inl b) = two (omega arith)
+    go (inr s) (inr b) = one (omega arith)
+
+-- a mode is 1, or loses nothing
+pub mode-cases : (mode : ℕ) → mode ≤ 2 → (mode ≡ 1) ⊎ ((mode ≡ 1 → ⊥) × (losslessMode mode ≡ true))
+unfolding losslessMode
+mode-cases mode h = go (le-or-lt mode 0) (le-or-lt 2 mode)
+  where
+    go : (mode ≤ 0) ⊎ (0 < mode) → (2 ≤ mode) ⊎ (mode < 2) → (mode ≡ 1) ⊎ ((mode ≡ 1 → ⊥) × (losslessMode mode ≡ true))
+    go (inl z) b = inr (λ o. omega arith, rw (let e : mode ≡ 0 = omega arith in e))
+    go (inr s) (inl b) = inr (λ o. omega arith, rw (let e : mode ≡ 2 = omega arith in e))
+    go (inr s) (inr b) = inl (omega arith)
+
 -- ---- the setting of a header that is right
 
-pub mode-small : (W mode : ℕ) (k : ℤ) → allowedSetting W mode k ≡ true → mode ≤ 1
-mode-small W mode k a = go (le-or-lt mode 0)
+pub mode-small : (W mode : ℕ) (k : ℤ) → allowedSetting W mode k ≡ true → mode ≤ 2
+unfolding allowedSetting
+mode-small W mode k = go (eqb mode 1) refl
   where
-    go : (mode ≤ 0) ⊎ (0 < mode) → mode ≤ 1
-    go (inl z) = omega arith
-    go (inr s) =
-        omega (arith, eqb-true mode 1 (and-left (eqb mode 1) (allowedK W (fractionBits W) k) (both W mode k a (λ e. omega arith))))
+    go : (b : Bool) → eqb mode 1 ≡ b → cond b (allowedK W (fractionBits W) k) (losslessMode mode && isZero k) ≡ true → mode ≤ 2
+    go true e a = let q = eqb-true mode 1 e in omega arith
+    go false e a = lossless-small mode (and-left (losslessMode mode) (isZero k) a)
 
 pub settled : (h : Header) → settingRight h ≡ true → Settled h
 unfolding settingRight
@@ -153,7 +198,7 @@ module _ (W mode : ℕ) (k : ℤ) (known : knownWidth W ≡ true) (allowed : all
       go : (b : Bool) → eqb mode 1 ≡ b → binFor W mode k ≤ lastBin W (fractionBits W)
       go true e =
           rw e (an-allowed-k-has-a-bin W (fractionBits W) (width-format W known) k
-          (and-right (eqb mode 1) (allowedK W (fractionBits W) k) (both W mode k allowed (λ z. let q = eqb-true mode 1 e in omega arith))))
+          (k-allowed W mode k allowed (eqb-true mode 1 e)))
       go false e = rw e zero-le
 
 -- A list that a stream of a setting may hold, with its written minor.

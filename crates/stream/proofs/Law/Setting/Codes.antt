@@ -1,33 +1,115 @@
--- Codes and patterns of a setting: they stay below 2 ^ W, a list of them is as long as its source, and zeros are zeros.
-use mathlib.Core.Path.{_≡_, refl, ap, ap₂, _∙_}
+-- Codes and patterns of a setting, behind the pattern before: a list of them is as long as its source, its parts follow each other by their carry,
+-- they stay below 2 ^ W, and the code 0 repeats the carry. Modes 0 and 1 are maps, mode 2 cites the laws of `numbers`.
+use mathlib.Core.Path.{_≡_, refl, sym, ap, ap₂, _∙_}
 use mathlib.Core.Bool.{Bool, true, false, cond}
-use mathlib.Core.List.{List, _∷_, _++_}
-use Prim.Native.Nat.{ℕ, zero, suc, _^_, _≤_, _<_}
+use mathlib.Core.List.{List, [], _∷_, _++_, map, map-append}
+use Prim.Native.Nat.{ℕ, zero, suc, _+_, _^_, _≤_, _<_}
 use native.Mathlib.Nat.{min-le-right}
 use native.Mathlib.Omega.{arith}
+use borrow.Author.Tests.{eq-eqb, ne-eqb}
 use lib.Dec.{eqb}
 use lib.Pow.{pow-pos}
-use lib.ListN.{length, take, drop, replicate}
+use lib.ListN.{length, take, drop, replicate, length-map}
 use lib.Seq.{length-take-le}
+use Rattle.numbers.specs.Difference.{differenceCodes, runningSums, lastOf}
 use Rattle.numbers.specs.Theorem.{Format}
 use Rattle.bins.specs.Tolerance.{lastBin}
-use Rattle.numbers.proofs.Theorems.{lossless-code-has-W-bits, lossless-pattern-has-W-bits, tolerance-code-has-W-bits, tolerance-pattern-has-W-bits, lossless-zero, tolerance-zero}
+use Rattle.numbers.proofs.Law.Difference.{codes-append, sums-append, length-difference-codes, length-sums, sums-of-zeros}
+use Rattle.numbers.proofs.Theorems.{lossless-code-has-W-bits, lossless-pattern-has-W-bits, tolerance-code-has-W-bits, tolerance-pattern-has-W-bits, lossless-zero, tolerance-zero, difference-codes-have-W-bits, running-sums-have-W-bits}
 use Rattle.blocks.specs.Bytes.{Below}
-use Rattle.stream.specs.Setting.{fractionBits, clipped, codeAt, patternAt, codesOf, patternsOf}
+use Rattle.stream.specs.Setting.{fractionBits, clipped, codeAt, patternAt, codesAfter, patternsAfter}
+use Rattle.stream.specs.Lent.{carry}
 use Rattle.stream.specs.declared.setting.Setting.{Setting}
 use Rattle.stream.proofs.Law.Plain.Mapped.{length-put, map-below}
 
--- so the output keeps its length
+-- ---- modes 0 and 1: what is filled from the front keeps its length
+
 pub length-filled : (t : Setting) (n : ℕ) (codes base out : List ℕ) (i : ℕ) → n ≤ length codes → n ≤ length base → i ≤ n
-    → out ≡ patternsOf t (take i (take n codes)) ++ drop i base → length out ≡ length base
-unfolding patternsOf
+    → out ≡ map (patternAt t) (take i (take n codes)) ++ drop i base → length out ≡ length base
 length-filled t n codes base out i h l k e =
     ap length e ∙ length-put (patternAt t) (take n codes) base i (rw (length-take-le n codes h) k) (omega arith)
 
 pub length-coded : (t : Setting) (values base out : List ℕ) (i : ℕ) → length values ≤ length base → i ≤ length values
-    → out ≡ codesOf t (take i values) ++ drop i base → length out ≡ length base
-unfolding codesOf
+    → out ≡ map (codeAt t) (take i values) ++ drop i base → length out ≡ length base
 length-coded t values base out i h k e = ap length e ∙ length-put (codeAt t) values base i k (omega arith)
+
+-- ---- the modes
+
+module _ (t : Setting) (before : ℕ) (xs : List ℕ) where
+  pub codes-by-difference : t .mode ≡ 2 → codesAfter t before xs ≡ differenceCodes (t .width) before xs
+  unfolding codesAfter
+  codes-by-difference e = rw (eq-eqb (t .mode) 2 e)
+
+  pub codes-each : (t .mode ≡ 2 → ⊥) → codesAfter t before xs ≡ map (codeAt t) xs
+  unfolding codesAfter
+  codes-each n = rw (ne-eqb (t .mode) 2 n)
+
+  pub patterns-by-sum : t .mode ≡ 2 → patternsAfter t before xs ≡ runningSums (t .width) before xs
+  unfolding patternsAfter
+  patterns-by-sum e = rw (eq-eqb (t .mode) 2 e)
+
+  pub patterns-each : (t .mode ≡ 2 → ⊥) → patternsAfter t before xs ≡ map (patternAt t) xs
+  unfolding patternsAfter
+  patterns-each n = rw (ne-eqb (t .mode) 2 n)
+
+  -- ---- the length, and the append with its carry
+
+  pub length-codes-after : length (codesAfter t before xs) ≡ length xs
+  unfolding codesAfter
+  length-codes-after = go (eqb (t .mode) 2)
+    where
+      go : (b : Bool) → length (cond b (differenceCodes (t .width) before xs) (map (codeAt t) xs)) ≡ length xs
+      go true = length-difference-codes (t .width) before xs
+      go false = length-map xs (codeAt t)
+
+  pub length-patterns : length (patternsAfter t before xs) ≡ length xs
+  unfolding patternsAfter
+  length-patterns = go (eqb (t .mode) 2)
+    where
+      go : (b : Bool) → length (cond b (runningSums (t .width) before xs) (map (patternAt t) xs)) ≡ length xs
+      go true = length-sums (t .width) before xs
+      go false = length-map xs (patternAt t)
+
+  pub codes-after-append : (ys : List ℕ) → codesAfter t before (xs ++ ys) ≡ codesAfter t before xs ++ codesAfter t (lastOf before xs) ys
+  unfolding codesAfter
+  codes-after-append ys = go (eqb (t .mode) 2)
+    where
+      go : (b : Bool) → cond b (differenceCodes (t .width) before (xs ++ ys)) (map (codeAt t) (xs ++ ys))
+          ≡ cond b (differenceCodes (t .width) before xs) (map (codeAt t) xs) ++ cond b (differenceCodes (t .width) (lastOf before xs) ys) (map (codeAt t) ys)
+      go true = codes-append (t .width) before xs ys
+      go false = map-append (codeAt t) xs ys
+
+  pub patterns-append : (ys : List ℕ) → patternsAfter t before (xs ++ ys) ≡ patternsAfter t before xs ++ patternsAfter t (lastOf before (patternsAfter t before xs)) ys
+  unfolding patternsAfter
+  patterns-append ys = go (eqb (t .mode) 2)
+    where
+      go : (b : Bool) → cond b (runningSums (t .width) before (xs ++ ys)) (map (patternAt t) (xs ++ ys))
+          ≡ cond b (runningSums (t .width) before xs) (map (patternAt t) xs)
+          ++ cond b (runningSums (t .width) (lastOf before (cond b (runningSums (t .width) before xs) (map (patternAt t) xs))) ys) (map (patternAt t) ys)
+      go true = sums-append (t .width) before xs ys
+      go false = map-append (patternAt t) xs ys
+
+-- a mode that does not look at the pattern before
+pub any-before : (t : Setting) (a b : ℕ) (cs : List ℕ) → (t .mode ≡ 2 → ⊥) → patternsAfter t a cs ≡ patternsAfter t b cs
+any-before t a b cs n = patterns-each t a cs n ∙ sym (patterns-each t b cs n)
+
+pub carry-same : (t : Setting) (before : ℕ) (cs : List ℕ) → patternsAfter t (carry t before) cs ≡ patternsAfter t before cs
+unfolding patternsAfter carry
+carry-same t before cs = go (eqb (t .mode) 2)
+  where
+    go : (b : Bool) → cond b (runningSums (t .width) (cond b before 0) cs) (map (patternAt t) cs) ≡ cond b (runningSums (t .width) before cs) (map (patternAt t) cs)
+    go true = refl
+    go false = refl
+
+pub carry-twice : (t : Setting) (before : ℕ) → carry t (carry t before) ≡ carry t before
+unfolding carry
+carry-twice t before = go (eqb (t .mode) 2)
+  where
+    go : (b : Bool) → cond b (cond b before 0) 0 ≡ cond b before 0
+    go true = refl
+    go false = refl
+
+-- ---- the bound
 
 either-under : (b : Bool) (x y N : ℕ) → x < N → y < N → cond b x y < N
 either-under true x y N h l = h
@@ -36,6 +118,9 @@ either-under false x y N h l = l
 module _ (t : Setting) (format : Format (t .width) (fractionBits (t .width))) where
   abbrev W : ℕ
   W = t .width
+
+  some : 0 < W
+  some = omega (arith, format .room)
 
   pub bin-in : clipped t ≤ lastBin W (fractionBits W)
   unfolding clipped
@@ -53,7 +138,24 @@ module _ (t : Setting) (format : Format (t .width) (fractionBits (t .width))) wh
       either-under (eqb (t .mode) 0) _ _ (2 ^ W) (lossless-pattern-has-W-bits W (fractionBits W) format c h)
       (tolerance-pattern-has-W-bits W (fractionBits W) format (clipped t) bin-in c)
 
-  -- zeros stand for zeros
+  pub codes-under : (before : ℕ) (vs : List ℕ) → Below (2 ^ W) vs → Below (2 ^ W) (codesAfter t before vs)
+  unfolding codesAfter
+  codes-under before vs below = go (eqb (t .mode) 2)
+    where
+      go : (b : Bool) → Below (2 ^ W) (cond b (differenceCodes W before vs) (map (codeAt t) vs))
+      go true = difference-codes-have-W-bits W some before vs
+      go false = map-below (codeAt t) (2 ^ W) (2 ^ W) (pow-pos W) code-under vs below
+
+  pub patterns-under : (before : ℕ) (cs : List ℕ) → Below (2 ^ W) cs → Below (2 ^ W) (patternsAfter t before cs)
+  unfolding patternsAfter
+  patterns-under before cs below = go (eqb (t .mode) 2)
+    where
+      go : (b : Bool) → Below (2 ^ W) (cond b (runningSums W before cs) (map (patternAt t) cs))
+      go true = running-sums-have-W-bits W some before cs
+      go false = map-below (patternAt t) (2 ^ W) (2 ^ W) (pow-pos W) pattern-under cs below
+
+  -- ---- the code 0
+
   pattern-zero : patternAt t 0 ≡ 0
   unfolding patternAt
   pattern-zero = go (eqb (t .mode) 0) (lossless-zero W (fractionBits W) format) (tolerance-zero W (fractionBits W) format (clipped t) bin-in)
@@ -62,15 +164,15 @@ module _ (t : Setting) (format : Format (t .width) (fractionBits (t .width))) wh
       go true h l = h
       go false h l = l
 
-  pub patterns-zero : (n : ℕ) → patternsOf t (replicate n 0) ≡ replicate n 0
-  unfolding patternsOf
-  patterns-zero zero = refl
-  patterns-zero (suc n) = ap₂ (λ (x : ℕ) (r : List ℕ). x ∷ r) pattern-zero (patterns-zero n)
+  zeros-each : (n : ℕ) → map (patternAt t) (replicate n 0) ≡ replicate n 0
+  zeros-each zero = refl
+  zeros-each (suc n) = ap₂ (λ (x : ℕ) (r : List ℕ). x ∷ r) pattern-zero (zeros-each n)
 
-  pub codes-under : (vs : List ℕ) → Below (2 ^ W) vs → Below (2 ^ W) (codesOf t vs)
-  unfolding codesOf
-  codes-under = map-below (codeAt t) (2 ^ W) (2 ^ W) (pow-pos W) code-under
-
-  pub patterns-under : (cs : List ℕ) → Below (2 ^ W) cs → Below (2 ^ W) (patternsOf t cs)
-  unfolding patternsOf
-  patterns-under = map-below (patternAt t) (2 ^ W) (2 ^ W) (pow-pos W) pattern-under
+  -- it repeats the carry
+  pub patterns-zero : (n before : ℕ) → before < 2 ^ W → carry t before ≡ before → patternsAfter t before (replicate n 0) ≡ replicate n before
+  unfolding patternsAfter carry
+  patterns-zero n before h e = go (eqb (t .mode) 2) e
+    where
+      go : (b : Bool) → cond b before 0 ≡ before → cond b (runningSums W before (replicate n 0)) (map (patternAt t) (replicate n 0)) ≡ replicate n before
+      go true same = sums-of-zeros W some before n h
+      go false same = zeros-each n ∙ ap (replicate n) same

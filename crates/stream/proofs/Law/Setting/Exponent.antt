@@ -12,11 +12,11 @@ use Rattle.bins.specs.Tolerance.{kOffset, lastBin, binOf}
 use Rattle.numbers.specs.Bound.{exponentOf}
 use Rattle.numbers.specs.Theorem.{Format}
 use Rattle.numbers.proofs.Theorems.{the-k-of-a-bin-is-allowed, the-bin-of-its-k}
-use Rattle.stream.specs.Setting.{fractionBits, isZero, allowedSetting, binFor, settingOf, kBits}
+use Rattle.stream.specs.Setting.{fractionBits, losslessMode, isZero, allowedSetting, binFor, settingOf, kBits}
 use Rattle.stream.specs.Relied.{Allowed}
 use Rattle.stream.specs.declared.setting.Setting.{Setting}
 use Rattle.blocks.proofs.Law.Truth.{le-or-lt}
-use Rattle.stream.proofs.Law.Setting.Allowed.{width-cases, width-format}
+use Rattle.stream.proofs.Law.Setting.Allowed.{width-cases, width-format, mode-cases}
 
 -- a small number in two's complement, read back
 positive-back : (n : ℕ) → n < 2 ^ 31 → signedView 32 (bitsOf 32 (pos n)) ≡ pos n
@@ -91,29 +91,24 @@ module _ (t : Setting) (allowed : Allowed t) where
       go true = difference-back (t .bin) (kOffset W m) bin-small (offset-small .0)
       go false = refl
 
-  mode-cases : (t .mode ≡ 1) ⊎ (t .mode ≡ 0)
-  mode-cases = go (le-or-lt (t .mode) 0)
-    where
-      go : (t .mode ≤ 0) ⊎ (0 < t .mode) → (t .mode ≡ 1) ⊎ (t .mode ≡ 0)
-      go (inl h) = inr (omega arith)
-      go (inr h) = inl (omega (arith, allowed .mode))
+  abbrev Cases : Type 0
+  Cases = (t .mode ≡ 1) ⊎ ((t .mode ≡ 1 → ⊥) × (losslessMode (t .mode) ≡ true))
 
   bin-back : binFor W (t .mode) (signedView 32 (kBits t)) ≡ t .bin
   unfolding binFor
-  bin-back = rw k-back (go mode-cases)
+  bin-back = rw k-back (go (mode-cases (t .mode) (allowed .mode)))
     where
-      go : (t .mode ≡ 1) ⊎ (t .mode ≡ 0) → cond (eqb (t .mode) 1) (binOf W m (cond (eqb (t .mode) 1) (exponentOf W m (t .bin)) (pos 0))) 0 ≡ t .bin
+      go : Cases → cond (eqb (t .mode) 1) (binOf W m (cond (eqb (t .mode) 1) (exponentOf W m (t .bin)) (pos 0))) 0 ≡ t .bin
       go (inl e) = rw (eq-eqb (t .mode) 1 e) (the-bin-of-its-k W m format (t .bin))
-      go (inr e) = let n : t .mode ≡ 1 → ⊥ = λ o. omega arith in rw (ne-eqb (t .mode) 1 n) (sym (allowed .none n))
+      go (inr e) = rw (ne-eqb (t .mode) 1 (e .0)) (sym (allowed .none (e .0)))
 
   pub setting-back : settingOf W (t .mode) (signedView 32 (kBits t)) ≡ t
   setting-back = ap (λ (b : ℕ). record { width = W; mode = t .mode; bin = b }) bin-back
 
   pub allowed-back : allowedSetting W (t .mode) (signedView 32 (kBits t)) ≡ true
   unfolding allowedSetting isZero
-  allowed-back = rw k-back (go mode-cases)
+  allowed-back = rw k-back (go (mode-cases (t .mode) (allowed .mode)))
     where
-      go : (t .mode ≡ 1) ⊎ (t .mode ≡ 0)
-          → allowedSetting W (t .mode) (cond (eqb (t .mode) 1) (exponentOf W m (t .bin)) (pos 0)) ≡ true
+      go : Cases → allowedSetting W (t .mode) (cond (eqb (t .mode) 1) (exponentOf W m (t .bin)) (pos 0)) ≡ true
       go (inl e) = rw (e, the-k-of-a-bin-is-allowed W m format (t .bin) (allowed .bin))
-      go (inr e) = rw e
+      go (inr e) = rw (ne-eqb (t .mode) 1 (e .0), e .1)

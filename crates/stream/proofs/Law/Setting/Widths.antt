@@ -33,12 +33,14 @@ unfolding knownWidth
 known-64 = refl
 
 -- no setting needs more than the highest level
-pub need-small : (t : Setting) → need t ≤ 10
+pub need-small : (t : Setting) → need t ≤ 11
 unfolding need widthNeed modeNeed
-need-small t = go (eqb (t .width) 64) (eqb (t .mode) 1)
+need-small t = go (eqb (t .width) 64) (eqb (t .mode) 1) (eqb (t .mode) 2)
   where
-    go : (a b : Bool) → max (cond a 10 8) (cond b 9 8) ≤ 10
-    go true true = lit≤ tt
-    go true false = lit≤ tt
-    go false true = lit≤ tt
-    go false false = lit≤ tt
+    go : (a b c : Bool) → max (cond a 10 8) (cond b 9 (cond c 11 8)) ≤ 11
+    go true true c = lit≤ tt
+    go true false true = lit≤ tt
+    go true false false = lit≤ tt
+    go false true c = lit≤ tt
+    go false false true = lit≤ tt
+    go false false false = lit≤ tt

@@ -1,9 +1,10 @@
 -- `stream::chunk::restored` meets its contract. The invariant: the patterns put so far, and those that the bytes left give, are all of them.
 use Prim.Native.Nat.{ℕ, _-_, _+_, _≤_, _<_, min}
-use Rattle.stream.proofs.Law.Plain.Appended.{Appended, nothing-yet, same-room, one-landed, all-there}
+use Rattle.stream.proofs.Law.Plain.Appended.{Appended, nothing-yet, same-room, one-landed, all-there, carried-on}
 use Rattle.stream.proofs.Law.Chunk.LongerBytes.{Going, starts-going, going-inside, going-wide, going-whole, goes}
 use Rattle.stream.proofs.Law.Chunk.Groups.{codes-none}
-use Rattle.stream.proofs.Law.Chunk.Restoring.{length-patterns, length-restored, patterns-none, patterns-next}
+use Rattle.stream.proofs.Law.Chunk.Restoring.{length-restored, patterns-none, patterns-next}
+use Rattle.stream.proofs.Law.Setting.Codes.{length-patterns}
 use Rattle.stream.proofs.Law.Group.RoundTrip.{length-codes}
 use Rattle.stream.proofs.Law.Lent.Chosen.{chosen-long}
 use Rattle.stream.proofs.Law.Setting.Allowed.{size-some}
@@ -11,10 +12,11 @@ use Rattle.stream.proofs.Law.Chunk.Checking.{part-is}
 use Rattle.stream.specs.Chunk.{chunkCodes}
 use Rattle.stream.specs.Group.{givenWidth, groupLength, groupCodes}
 use Rattle.stream.specs.Lent.{chosen, landed}
-use Rattle.stream.specs.Setting.{groupSize, patternsOf, limitOf}
+use Rattle.stream.specs.Setting.{groupSize, patternsAfter, patternsOf, limitOf}
 use Rattle.stream.specs.declared.setting.Setting.{Setting}
 use borrow.Author.Needs.{needs}
-use lib.ListN.{length, drop}
+use lib.ListN.{length, take, drop}
+use Rattle.numbers.specs.Difference.{lastOf}
 use mathlib.Core.List.{List, _++_}
 use mathlib.Core.Path.{_≡_, refl, sym, ap, _∙_}
 use native.Mathlib.Nat.{zero-add}
@@ -25,7 +27,7 @@ use Rattle.stream.proofs.chunk.restored.Tie as tie
 abbrev Inv-loop : tie.InvT-loop
 Inv-loop t s n c32₀ c64₀ o32₀ o64₀ size left₀ at₀ done₀ c32 c64 o32 o64 left at done =
     (done + left ≡ n) × Going (groupSize t) (size-some t) (t .width) (limitOf t) s left at
-    × Appended (patternsOf t (chunkCodes (groupSize t) n s)) (patternsOf t (chunkCodes (groupSize t) left (drop at s))) (chosen (t .width) o32₀ o64₀) (chosen (t .width) o32 o64) done
+    × Appended (patternsOf t (chunkCodes (groupSize t) n s)) (patternsAfter t (lastOf 0 (take done (chosen (t .width) o32 o64))) (chunkCodes (groupSize t) left (drop at s))) (chosen (t .width) o32₀ o64₀) (chosen (t .width) o32 o64) done
     × (length c32 ≡ length c32₀) × (length c64 ≡ length c64₀) × (length o32 ≡ length o32₀) × (length o64 ≡ length o64₀)
 
 abbrev μ-loop : tie.MeasureT-loop
@@ -84,6 +86,7 @@ group-size-requires : tie.Need-group-size-requires Inv-loop μ-loop
 group-size-requires c κs = search needs
 
 loop-holds : tie.Need-loop-holds Inv-loop μ-loop
+unfolding lastOf
 loop-holds c =
     let s = c .before .before .before .before .before .before in
     let v = s .args in
@@ -153,15 +156,21 @@ loop-again c =
     let v = start l .args in
     let n = e .group-count .result in
     let k = c .group-length .result in
-    let call = c .before .before .before .before .before .before .before .before .before .before .put-values in (
+    let call = c .before .before .before .before .before .before .before .before .before .before .put-values in
+    let out : List ℕ = chosen (v .t .width) (l .loop .o32) (l .loop .o64) in
+    let b = lastOf 0 (take (l .loop .done) out) in
+    let codes = groupCodes n (drop (l .loop .at) (bytes l)) in
+    let piece = patternsAfter (t l) b codes in
+    let long : length piece ≡ n = length-patterns (t l) b codes ∙ length-codes n (drop (l .loop .at) (bytes l)) in
+    let more = chunkCodes (groupSize (t l)) (l .loop .left - n) (drop (l .loop .at + k) (bytes l)) in
+    let lands = call .ensures ∙ ap (λ (u : List ℕ). landed (l .loop .done) (patternsAfter (t l) b (groupCodes n u)) out) (part-is (bytes l) (l .loop .at)) in
+    let inside : l .loop .done ≤ length out = omega (arith, l .loop .inv .0, start l .pre .1 .1, same-room _ _ _ _ _ (l .loop .inv .2)) in (
       omega (arith, l .loop .inv .0, e .group-count .ensures),
       on c,
-      one-landed _ _ _ _ _ (l .loop .inv .2) (patternsOf (t l) (groupCodes n (drop (l .loop .at) (bytes l))))
-          (patternsOf (t l) (chunkCodes (groupSize (t l)) (l .loop .left - n) (drop (l .loop .at + k) (bytes l)))) _ n
-          (patterns-next (groupSize (t l)) (size-some (t l)) (bytes l) (l .loop .left) (l .loop .at) n k (e .before .loop-test .taken) (count-is e) (bytes-are c) (t l))
-          (sym (length-patterns (t l) (groupCodes n (drop (l .loop .at) (bytes l))) ∙ length-codes n (drop (l .loop .at) (bytes l))))
-          (call .ensures
-          ∙ ap (λ (u : List ℕ). landed (l .loop .done) (patternsOf (t l) (groupCodes n u)) (chosen (v .t .width) (l .loop .o32) (l .loop .o64))) (part-is (bytes l) (l .loop .at))),
+      one-landed _ _ _ _ _ (l .loop .inv .2) piece (patternsAfter (t l) _ more) _ n
+          (patterns-next (groupSize (t l)) (size-some (t l)) (bytes l) (l .loop .left) (l .loop .at) n k (e .before .loop-test .taken) (count-is e) (bytes-are c) (t l) b
+          ∙ ap (λ (a : ℕ). piece ++ patternsAfter (t l) a more) (sym (carried-on (l .loop .done) n piece out _ long inside lands)))
+          (sym long) lands,
       call .kept .1 .1 .1 .0 ∙ l .loop .inv .3,
       call .kept .1 .1 .1 .1 .0 ∙ l .loop .inv .4,
       call .kept .1 .1 .1 .1 .1 .0 ∙ l .loop .inv .5,
@@ -186,8 +195,9 @@ returns c =
     let v = start l .args in
     let size = groupSize (v .t) in
     let none : l .loop .left ≡ 0 = omega (arith, c .loop-test .left) in
-    let rest = ap (λ (n : ℕ). patternsOf (v .t) (chunkCodes size n (drop (l .loop .at) (bytes l)))) none
-    ∙ ap (patternsOf (v .t)) (codes-none size (size-some (v .t)) (drop (l .loop .at) (bytes l))) ∙ patterns-none (v .t) in
+    let b = lastOf 0 (take (l .loop .done) (chosen (v .t .width) (l .loop .o32) (l .loop .o64))) in
+    let rest = ap (λ (n : ℕ). patternsAfter (v .t) b (chunkCodes size n (drop (l .loop .at) (bytes l)))) none
+    ∙ ap (patternsAfter (v .t) b) (codes-none size (size-some (v .t)) (drop (l .loop .at) (bytes l))) ∙ patterns-none (v .t) b in
     all-there _ _ _ (l .loop .done) (rw rest at (l .loop .inv .2))
     ∙ ap (λ (n : ℕ). patternsOf (v .t) (chunkCodes size (v .n) (bytes l)) ++ drop n (chosen (v .t .width) (v .o32 .now) (v .o64 .now))) (let q : l .loop .done ≡ v .n = omega (arith, l .loop .inv .0) in q)
 

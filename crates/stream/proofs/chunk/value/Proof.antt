@@ -1,15 +1,20 @@
 -- `stream::chunk::value` meets its contract. The invariant: the value at `index` of what is left is the value that is asked for.
-use Prim.Native.Nat.{ℕ, _+_, _-_, _≤_, _<_, min}
-use Rattle.stream.proofs.Law.Chunk.Restoring.{Onward, starts-onward, part-opens, next-below, goes-on, behind-next, within-next}
+use Prim.Native.Nat.{ℕ, _+_, _-_, _^_, _≤_, _<_, min}
+use Rattle.stream.proofs.Law.Chunk.Restoring.{Onward, starts-onward, long-enough, part-opens, next-wide, next-below, goes-on, behind-next, within-next}
 use Rattle.stream.proofs.Law.Setting.Allowed.{size-some, width-most}
 use Rattle.stream.proofs.Law.Chunk.Checking.{part-is}
+use Rattle.stream.proofs.Law.Group.RoundTrip.{length-codes}
+use Rattle.blocks.proofs.Law.Digits.{below-take}
 use Rattle.stream.specs.Chunk.{chunkCodes}
+use Rattle.stream.specs.Lent.{SameBehind}
 use Rattle.stream.specs.Group.{groupLength, groupCodes}
-use Rattle.stream.specs.Setting.{groupSize, patternAt, patternsOf, limitOf}
+use Rattle.stream.specs.Setting.{groupSize, patternsAfter, patternsOf, limitOf}
 use Rattle.stream.specs.declared.setting.Setting.{Setting}
 use borrow.Author.Needs.{needs}
-use lib.ListN.{drop, getD}
-use lib.Seq.{getD-take}
+use lib.ListN.{length, take, drop, getD}
+use lib.Pow.{pow-pos}
+use lib.Seq.{take-take}
+use Rattle.numbers.specs.Difference.{lastOf}
 use mathlib.Core.List.{List}
 use mathlib.Core.Path.{_≡_, refl, sym, ap, _∙_}
 use native.Mathlib.Nat.{le-refl}
@@ -18,12 +23,12 @@ use Rattle.stream.proofs.chunk.value.Statement.{statement}
 use Rattle.stream.proofs.chunk.value.Tie as tie
 
 abbrev Inv-loop : tie.InvT-loop
-Inv-loop t s n i size left₀ at₀ index₀ left at index =
+Inv-loop t s n i size left₀ at₀ index₀ before₀ left at index before =
     (index < left) × (left ≤ n) × Onward (groupSize t) (size-some t) (t .width) (limitOf t) s left at
-    × (getD (patternsOf t (chunkCodes (groupSize t) left (drop at s))) index 0 ≡ getD (patternsOf t (chunkCodes (groupSize t) n s)) i 0)
+    × (getD (patternsAfter t before (chunkCodes (groupSize t) left (drop at s))) index 0 ≡ getD (patternsOf t (chunkCodes (groupSize t) n s)) i 0) × (before < 2 ^ t .width)
 
 abbrev μ-loop : tie.MeasureT-loop
-μ-loop t s n i size left₀ at₀ index₀ left at index = index
+μ-loop t s n i size left₀ at₀ index₀ before₀ left at index before = index
 
 abbrev start : tie.At-loop Inv-loop μ-loop → tie.Start Inv-loop μ-loop
 start l = l .before .before .before
@@ -45,12 +50,15 @@ full : (l : tie.At-loop Inv-loop μ-loop) → size l ≤ l .loop .index → size
 full l far = omega (arith, l .loop .inv .0, l .before .group-size .ensures .0)
 
 -- the group that is passed over
-passed : (c : tie.After-group-length Inv-loop μ-loop) → let l = c .before .before .before in c .group-length .result ≡ groupLength (size l) (drop (l .loop .at) (bytes l))
-passed c = let l = c .before .before .before in c .group-length .ensures ∙ ap (groupLength (size l)) (part-is (bytes l) (l .loop .at))
+abbrev turn : tie.After-group-length Inv-loop μ-loop → tie.At-loop Inv-loop μ-loop
+turn c = c .before .before .before .before .before
 
-on : (c : tie.After-group-length Inv-loop μ-loop) → let l = c .before .before .before in
+passed : (c : tie.After-group-length Inv-loop μ-loop) → let l = turn c in c .group-length .result ≡ groupLength (size l) (drop (l .loop .at) (bytes l))
+passed c = let l = turn c in c .group-length .ensures ∙ ap (groupLength (size l)) (part-is (bytes l) (l .loop .at))
+
+on : (c : tie.After-group-length Inv-loop μ-loop) → let l = turn c in
     Onward (groupSize (t l)) (size-some (t l)) (t l .width) (limitOf (t l)) (bytes l) (l .loop .left - size l) (l .loop .at + c .group-length .result)
-on c = let l = c .before .before .before in goes-on (groupSize (t l)) (size-some (t l)) (t l .width) (limitOf (t l)) (bytes l) (l .loop .left) (l .loop .at) (size l) (l .loop .inv .2) (some-left l) (full l (c .before .before .loop-test .taken)) (c .group-length .result) (passed c)
+on c = let l = turn c in goes-on (groupSize (t l)) (size-some (t l)) (t l .width) (limitOf (t l)) (bytes l) (l .loop .left) (l .loop .at) (size l) (l .loop .inv .2) (some-left l) (full l (c .before .before .before .before .loop-test .taken)) (c .group-length .result) (passed c)
 
 -- the group of the index
 count-is : (c : tie.After-group-count Inv-loop μ-loop) → let l = c .before .before .before in c .group-count .result ≡ min (groupSize (t l)) (l .loop .left)
@@ -66,39 +74,63 @@ loop-holds : tie.Need-loop-holds Inv-loop μ-loop
 loop-holds c =
     let f = c .before .before in
     let v = f .args in
-    (f .pre .2, le-refl (v .n), starts-onward (groupSize (v .t)) (size-some (v .t)) (v .t .width) (limitOf (v .t)) (v .s .now) (v .n) (f .pre .3), refl)
+    (f .pre .2, le-refl (v .n), starts-onward (groupSize (v .t)) (size-some (v .t)) (v .t .width) (limitOf (v .t)) (v .s .now) (v .n) (f .pre .3), refl, pow-pos (v .t .width))
 
 sub-group-length : tie.Need-sub-group-length Inv-loop μ-loop
-sub-group-length c = c .before .loop .inv .2 .inside
+sub-group-length c = c .before .before .before .loop .inv .2 .inside
 
 part-group-length-start : tie.Need-part-group-length-start Inv-loop μ-loop
-part-group-length-start c = c .before .loop .inv .2 .inside
+part-group-length-start c = c .before .before .before .loop .inv .2 .inside
 
 part-group-length-end : tie.Need-part-group-length-end Inv-loop μ-loop
 part-group-length-end c = search needs
 
+sub-carried : tie.Need-sub-carried Inv-loop μ-loop
+sub-carried c = c .before .loop .inv .2 .inside
+
+part-carried-start : tie.Need-part-carried-start Inv-loop μ-loop
+part-carried-start c = c .before .loop .inv .2 .inside
+
+part-carried-end : tie.Need-part-carried-end Inv-loop μ-loop
+part-carried-end c = search needs
+
+carried-requires : tie.Need-carried-requires Inv-loop μ-loop
+carried-requires c κs =
+    let l = c .before .before in
+    let p = start l .pre .0 in
+    let far = full l (c .before .loop-test .taken) in (
+      p,
+      l .loop .inv .4,
+      l .before .group-size .ensures .2,
+      rw (part-is (bytes l) (l .loop .at)) (next-wide (groupSize (t l)) (size-some (t l)) (t l .width) (limitOf (t l)) (bytes l) (l .loop .left) (l .loop .at) (size l) (l .loop .inv .2) (some-left l) far),
+      part-opens (groupSize (t l)) (size-some (t l)) (t l .width) (limitOf (t l)) (bytes l) (l .loop .left) (l .loop .at) (size l) (l .loop .inv .2) (some-left l) far (width-most (t l .width) (p .known)) .1,
+    )
+
 group-length-requires : tie.Need-group-length-requires Inv-loop μ-loop
 group-length-requires c κs =
-    let l = c .before .before in
-    (c .before .before .before .group-size .ensures .2, part-opens (groupSize (t l)) (size-some (t l)) (t l .width) (limitOf (t l)) (bytes l) (l .loop .left) (l .loop .at) (size l) (l .loop .inv .2) (some-left l) (full l (c .before .loop-test .taken)) (width-most (t l .width) (start l .pre .0 .known)) .1)
+    let l = c .before .before .before .before in
+    (l .before .group-size .ensures .2, part-opens (groupSize (t l)) (size-some (t l)) (t l .width) (limitOf (t l)) (bytes l) (l .loop .left) (l .loop .at) (size l) (l .loop .inv .2) (some-left l) (full l (c .before .before .before .loop-test .taken)) (width-most (t l .width) (start l .pre .0 .known)) .1)
 
 add-at : tie.Need-add-at Inv-loop μ-loop
-add-at c = omega (arith, on c .inside, start (c .before .before .before) .good)
+add-at c = omega (arith, on c .inside, start (turn c) .good)
 
 sub-left : tie.Need-sub-left Inv-loop μ-loop
-sub-left c = omega (arith, c .before .before .before .loop .inv .0, c .before .before .loop-test .taken)
+sub-left c = omega (arith, turn c .loop .inv .0, c .before .before .before .before .loop-test .taken)
 
 loop-less : tie.Need-loop-less Inv-loop μ-loop
-loop-less c = omega (arith, c .before .before .loop-test .taken, c .before .before .before .before .group-size .ensures .1)
+loop-less c = omega (arith, c .before .before .before .before .loop-test .taken, turn c .before .group-size .ensures .1)
 
 loop-again : tie.Need-loop-again Inv-loop μ-loop
 loop-again c =
-    let l = c .before .before .before in
-    let far = c .before .before .loop-test .taken in (
+    let l = turn c in
+    let far = c .before .before .before .before .loop-test .taken in
+    let k = c .before .before .carried in
+    let behind : SameBehind (t l) (k .result) (lastOf (l .loop .before) (patternsAfter (t l) (l .loop .before) (groupCodes (size l) (drop (l .loop .at) (bytes l))))) = λ cs. k .ensures .1 cs ∙ ap (λ (u : List ℕ). patternsAfter (t l) (lastOf (l .loop .before) (patternsAfter (t l) (l .loop .before) (groupCodes (size l) u))) cs) (part-is (bytes l) (l .loop .at)) in (
       omega (arith, l .loop .inv .0, far),
       omega (arith, l .loop .inv .1),
       on c,
-      sym (behind-next (groupSize (t l)) (size-some (t l)) (t l .width) (limitOf (t l)) (bytes l) (l .loop .left) (l .loop .at) (size l) (l .loop .inv .2) (some-left l) (full l far) (t l) (c .group-length .result) (passed c) (l .loop .index) far) ∙ l .loop .inv .3,
+      sym (behind-next (groupSize (t l)) (size-some (t l)) (t l .width) (limitOf (t l)) (bytes l) (l .loop .left) (l .loop .at) (size l) (l .loop .inv .2) (some-left l) (full l far) (t l) (l .loop .before) (c .group-length .result) (passed c) (l .loop .index) (k .result) far behind) ∙ l .loop .inv .3,
+      k .ensures .0,
     )
 
 sub-codes-of : tie.Need-sub-codes-of Inv-loop μ-loop
@@ -119,33 +151,48 @@ codes-of-requires c κs =
     let opens = part-opens (groupSize (t l)) (size-some (t l)) (t l .width) (limitOf (t l)) (bytes l) (l .loop .left) (l .loop .at) (c .group-count .result) (l .loop .inv .2) (some-left l) (count-is c) (width-most (t l .width) (start l .pre .0 .known)) in
     (omega (arith, c .group-count .ensures, c .before .before .before .before .group-size .ensures .2), opens .0, opens .1)
 
-mul-pattern : tie.Need-mul-pattern Inv-loop μ-loop
-mul-pattern c = omega (arith, c .before .before .before .before .loop-test .left, c .before .before .before .before .before .before .group-size .ensures .2)
+slice-aggregate-value : tie.Need-slice-aggregate-value Inv-loop μ-loop
+slice-aggregate-value c = search needs
 
-array-read-pattern : tie.Need-array-read-pattern Inv-loop μ-loop
-array-read-pattern c = omega (arith, c .before .before .before .before .loop-test .left, c .before .before .before .before .before .before .group-size .ensures .2)
+-- the codes up to the index are the group's
+module _ (c : tie.After-codes-of Inv-loop μ-loop) where
+  abbrev here : tie.At-loop Inv-loop μ-loop
+  here = c .before .before .before .before
 
--- the code read is the group's code there
-read : (c : tie.After-codes Inv-loop μ-loop) → let l = c .before .before .before .before .before in
-    getD (c .before .codes-of .result .codes) (l .loop .index) 0 ≡ getD (groupCodes (c .before .before .group-count .result) (drop (l .loop .at) (bytes l))) (l .loop .index) 0
-read c =
-    let l = c .before .before .before .before .before in
-    let n = c .before .before .group-count .result in
-    let g = c .before .codes-of in
-    sym (getD-take n (g .result .codes) (l .loop .index) 0 (within (c .before .before)))
-    ∙ ap (λ (cs : List ℕ). getD cs (l .loop .index) 0) (g .ensures .1 ∙ ap (groupCodes n) (part-is (bytes l) (l .loop .at)))
+  abbrev many : ℕ
+  many = c .before .group-count .result
 
-pattern-requires : tie.Need-pattern-requires Inv-loop μ-loop
-pattern-requires c κs = let l = c .before .before .before .before .before in
-    (start l .pre .0, rw (read c) (next-below (groupSize (t l)) (size-some (t l)) (t l .width) (limitOf (t l)) (bytes l) (l .loop .left) (l .loop .at) (c .before .before .group-count .result) (l .loop .inv .2) (some-left l) (count-is (c .before .before)) (l .loop .index)))
+  abbrev codes : List ℕ
+  codes = groupCodes many (drop (here .loop .at) (bytes here))
+
+  group : take many (c .codes-of .result .codes) ≡ codes
+  group = c .codes-of .ensures .1 ∙ ap (groupCodes many) (part-is (bytes here) (here .loop .at))
+
+  upto : take (here .loop .index + 1) (c .codes-of .result .codes) ≡ take (here .loop .index + 1) codes
+  upto = sym (take-take (here .loop .index + 1) many (c .codes-of .result .codes) (omega (arith, within (c .before)))) ∙ ap (take (here .loop .index + 1)) group
+
+  long : many ≤ length (c .codes-of .result .codes)
+  long = long-enough many (c .codes-of .result .codes) codes group (length-codes many (drop (here .loop .at) (bytes here)))
+
+value-requires : tie.Need-value-requires Inv-loop μ-loop
+value-requires c κs =
+    let g = c .before .before in
+    let l = here g in
+    let below = next-below (groupSize (t l)) (size-some (t l)) (t l .width) (limitOf (t l)) (bytes l) (l .loop .left) (l .loop .at) (many g) (l .loop .inv .2) (some-left l) (count-is (g .before)) in (
+      start l .pre .0,
+      l .loop .inv .4,
+      omega (arith, long g, within (g .before)),
+      omega (arith, l .loop .inv .0, l .loop .inv .1, start l .pre .1),
+      rw (upto g) (below-take (2 ^ t l .width) (l .loop .index + 1) (codes g) below),
+    )
 
 returns : tie.Need-returns Inv-loop μ-loop
 returns c =
-    let at-group-count = c .before .before .before in
-    let l = c .before .before .before .before .before .before in
-    c .pattern .ensures
-    ∙ ap (patternAt (t l)) (read (c .before))
-    ∙ sym (within-next (groupSize (t l)) (size-some (t l)) (t l .width) (limitOf (t l)) (bytes l) (l .loop .left) (l .loop .at) (at-group-count .group-count .result) (l .loop .inv .2) (some-left l) (count-is (at-group-count)) (t l) _ refl (l .loop .index) (within (at-group-count)))
+    let g = c .before .before .before in
+    let l = here g in
+    c .value .ensures
+    ∙ ap (λ (cs : List ℕ). getD (patternsAfter (t l) (l .loop .before) cs) (l .loop .index) 0) (upto g)
+    ∙ sym (within-next (groupSize (t l)) (size-some (t l)) (t l .width) (limitOf (t l)) (bytes l) (l .loop .left) (l .loop .at) (many g) (l .loop .inv .2) (some-left l) (count-is (g .before)) (t l) (l .loop .before) _ refl (l .loop .index) (within (g .before)))
     ∙ l .loop .inv .3
 
 pub value-spec : {M : Type 1} → statement M
@@ -156,6 +203,10 @@ value-spec =
     μ-loop
     group-size-requires
     loop-holds
+    sub-carried
+    part-carried-start
+    part-carried-end
+    carried-requires
     sub-group-length
     part-group-length-start
     part-group-length-end
@@ -169,7 +220,6 @@ value-spec =
     part-codes-of-end
     group-count-requires
     codes-of-requires
-    mul-pattern
-    array-read-pattern
-    pattern-requires
+    slice-aggregate-value
+    value-requires
     returns)

@@ -68,7 +68,7 @@ group-size-requires : tie.Need-group-size-requires Inv-loop μ-loop
 group-size-requires c κs = search needs
 
 stage-requires : tie.Need-stage-requires Inv-loop μ-loop
-stage-requires c κs = c .before .before .before .before .before .before .before .pre .0 .2
+stage-requires c κs = let p = c .before .before .before .before .before .before .before .pre .0 in (p .0, p .2)
 
 loop-holds : tie.Need-loop-holds Inv-loop μ-loop
 loop-holds c = let f = c .before .before .before .before .group-size in (omega arith, nothing-yet _ _ (rw (f .ensures .0) (c .before .before .before .before .before .before .before .before .before .before .pre .1)))

@@ -1,25 +1,24 @@
 -- `stream::coding::codes32` meets its contract. The invariant: the codes passed are those of the values passed.
 use mathlib.Core.Path.{_≡_, refl, ap, subst, _∙_}
-use mathlib.Core.List.{List}
+use mathlib.Core.List.{List, map}
 use Prim.Native.Nat.{ℕ, _-_, _+_, _≤_}
 use native.Mathlib.Omega.{arith}
 use lib.ListN.{length, take, set, length-set}
 use lib.Seq.{take-length}
 use borrow.Author.Needs.{needs}
-use Rattle.stream.specs.Setting.{codeAt, codesOf}
+use Rattle.stream.specs.Setting.{codeAt}
 use Rattle.stream.proofs.Law.Plain.Mapped.{one-mapped}
 use Rattle.stream.proofs.coding.codes32.Statement.{statement}
 use Rattle.stream.proofs.coding.codes32.Tie as tie
 
 abbrev Inv-loop : tie.InvT-loop
 Inv-loop t values codes₀ i₀ codes i =
-    (i ≤ length values) × (length values ≤ 32) × (length codes ≡ 32) × (take i codes ≡ codesOf t (take i values))
+    (i ≤ length values) × (length values ≤ 32) × (length codes ≡ 32) × (take i codes ≡ map (codeAt t) (take i values))
 
 abbrev μ-loop : tie.MeasureT-loop
 μ-loop t values codes₀ i₀ codes i = length values - i
 
 loop-holds : tie.Need-loop-holds Inv-loop μ-loop
-unfolding codesOf
 loop-holds c = (omega arith, c .before .pre .1, refl, refl)
 
 mul-code32 : tie.Need-mul-code32 Inv-loop μ-loop
@@ -44,7 +43,6 @@ loop-less : tie.Need-loop-less Inv-loop μ-loop
 loop-less c = omega arith
 
 loop-again : tie.Need-loop-again Inv-loop μ-loop
-unfolding codesOf
 loop-again c =
     let a = c .before .before .before .before .before .args in
     let l = c .before .before .before .loop in
@@ -62,8 +60,8 @@ returns c =
     let l = c .before .loop in
     let values : List ℕ = a .values .now in
     let end : l .i ≡ length values = omega arith in
-    subst (λ (n : ℕ). take n (l .codes) ≡ codesOf (a .t) (take n values)) end (l .inv .3)
-    ∙ ap (codesOf (a .t)) (take-length values)
+    subst (λ (n : ℕ). take n (l .codes) ≡ map (codeAt (a .t)) (take n values)) end (l .inv .3)
+    ∙ ap (map (codeAt (a .t))) (take-length values)
 
 pub codes32-spec : {M : Type 1} → statement M
 codes32-spec =

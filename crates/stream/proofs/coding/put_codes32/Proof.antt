@@ -1,25 +1,24 @@
 -- `stream::coding::put_codes32` meets its contract. The invariant: the codes of the values passed, and then what was there.
 use mathlib.Core.Path.{_≡_, refl, ap, ap₂, _∙_}
-use mathlib.Core.List.{List, _++_}
+use mathlib.Core.List.{List, map, _++_}
 use Prim.Native.Nat.{ℕ, _-_, _≤_}
 use native.Mathlib.Omega.{arith}
 use lib.ListN.{length, take, drop, set}
 use lib.Seq.{take-length}
 use borrow.Author.Needs.{needs}
-use Rattle.stream.specs.Setting.{codeAt, codesOf}
+use Rattle.stream.specs.Setting.{codeAt}
 use Rattle.stream.proofs.Law.Plain.Mapped.{one-put}
 use Rattle.stream.proofs.Law.Setting.Codes.{length-coded}
 use Rattle.stream.proofs.coding.put_codes32.Statement.{statement}
 use Rattle.stream.proofs.coding.put_codes32.Tie as tie
 
 abbrev Inv-loop : tie.InvT-loop
-Inv-loop t values c₀ i₀ c i = (i ≤ length values) × (c ≡ codesOf t (take i values) ++ drop i c₀)
+Inv-loop t values c₀ i₀ c i = (i ≤ length values) × (c ≡ map (codeAt t) (take i values) ++ drop i c₀)
 
 abbrev μ-loop : tie.MeasureT-loop
 μ-loop t values c₀ i₀ c i = length values - i
 
 loop-holds : tie.Need-loop-holds Inv-loop μ-loop
-unfolding codesOf
 loop-holds c = (omega arith, refl)
 
 mul-code32 : tie.Need-mul-code32 Inv-loop μ-loop
@@ -50,7 +49,6 @@ loop-less : tie.Need-loop-less Inv-loop μ-loop
 loop-less c = omega arith
 
 loop-again : tie.Need-loop-again Inv-loop μ-loop
-unfolding codesOf
 loop-again c =
     let f = c .before .before .before .before .before .before in
     let v = f .args in
@@ -74,7 +72,7 @@ returns c =
     let l = c .before .loop in
     let end : l .i ≡ length (v .values .now) = omega arith in
     l .inv .1
-    ∙ ap₂ (λ (a b : List ℕ). codesOf (v .t) a ++ b)
+    ∙ ap₂ (λ (a b : List ℕ). map (codeAt (v .t)) a ++ b)
     (ap (λ (n : ℕ). take n (v .values .now)) end ∙ take-length (v .values .now))
     (ap (λ (n : ℕ). drop n (v .c .now)) end)
 

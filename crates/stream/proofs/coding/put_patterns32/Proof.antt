@@ -1,25 +1,24 @@
 -- `stream::coding::put_patterns32` meets its contract. The invariant: the patterns of the codes passed, and then what was there.
 use mathlib.Core.Path.{_≡_, refl, sym, ap, ap₂, _∙_}
-use mathlib.Core.List.{List, _++_}
+use mathlib.Core.List.{List, map, _++_}
 use Prim.Native.Nat.{ℕ, _-_, _≤_}
 use native.Mathlib.Nat.{le-refl}
 use native.Mathlib.Omega.{arith}
 use lib.ListN.{take, drop, set}
 use lib.Seq.{take-all, length-take-le, getD-take}
-use Rattle.stream.specs.Setting.{patternAt, patternsOf}
+use Rattle.stream.specs.Setting.{patternAt}
 use Rattle.stream.proofs.Law.Plain.Mapped.{one-put}
 use Rattle.stream.proofs.Law.Setting.Codes.{length-filled}
 use Rattle.stream.proofs.coding.put_patterns32.Statement.{statement}
 use Rattle.stream.proofs.coding.put_patterns32.Tie as tie
 
 abbrev Inv-loop : tie.InvT-loop
-Inv-loop t codes n out₀ i₀ out i = (i ≤ n) × (out ≡ patternsOf t (take i (take n codes)) ++ drop i out₀)
+Inv-loop t codes n out₀ i₀ out i = (i ≤ n) × (out ≡ map (patternAt t) (take i (take n codes)) ++ drop i out₀)
 
 abbrev μ-loop : tie.MeasureT-loop
 μ-loop t codes n out₀ i₀ out i = n - i
 
 loop-holds : tie.Need-loop-holds Inv-loop μ-loop
-unfolding patternsOf
 loop-holds c = (omega arith, refl)
 
 mul-pattern32 : tie.Need-mul-pattern32 Inv-loop μ-loop
@@ -52,7 +51,6 @@ loop-less : tie.Need-loop-less Inv-loop μ-loop
 loop-less c = omega arith
 
 loop-again : tie.Need-loop-again Inv-loop μ-loop
-unfolding patternsOf
 loop-again c =
     let f = c .before .before .before .before .before .before in
     let v = f .args in
@@ -80,7 +78,7 @@ returns c =
     let l = c .before .loop in
     let end : l .i ≡ v .n = omega arith in
     l .inv .1
-    ∙ ap₂ (λ (a b : List ℕ). patternsOf (v .t) a ++ b)
+    ∙ ap₂ (λ (a b : List ℕ). map (patternAt (v .t)) a ++ b)
     (ap (λ (n : ℕ). take n (take (v .n) (v .codes .now))) end ∙ take-all (v .n) (take (v .n) (v .codes .now)) (rw (length-take-le (v .n) (v .codes .now) (f .pre .1)) (le-refl (v .n))))
     (ap (λ (n : ℕ). drop n (v .out .now)) end)
 

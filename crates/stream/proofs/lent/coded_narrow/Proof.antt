@@ -51,7 +51,7 @@ returns-2 c =
     let a = s .args in
     let g = c .grouped32 in (
       g .ensures .0 ∙ rw (length-take, length-drop) (omega (arith, s .pre .0, s .pre .1 .0)),
-      g .ensures .1 ∙ staged-part (a .t) (a .v32 .now) (a .end - a .at) (a .at) (a .c32 .now) (s .pre .1 .1 (s .pre .0 .0) (c .before .before .if1 .left)) (omega (arith, s .pre .0)),
+      g .ensures .1 ∙ staged-part (a .t) (a .v32 .now) (a .end - a .at) (a .at) (a .c32 .now) (s .pre .1 .1 (s .pre .0 .0) (c .before .before .if1 .left) (s .pre .1 .2)) (omega (arith, s .pre .0)),
     )
 
 pub coded-narrow-spec : {M : Type 1} → statement M

@@ -1,48 +1,93 @@
--- `stream::lent::measured_group` meets its contract: the length of the group of the width.
-use mathlib.Core.Path.{_≡_, ap, ap₂, _∙_}
+-- `stream::lent::measured_group` meets its contract: the length of the group of the width, by mode.
+use mathlib.Core.Path.{_≡_, ap, _∙_}
 use mathlib.Core.List.{List}
-use Prim.Native.Nat.{ℕ, _+_, _-_}
 use native.Mathlib.Omega.{arith}
+use Prim.Native.Nat.{ℕ, _+_, _≤_}
 use lib.ListN.{length, take, drop}
 use Rattle.stream.specs.Group.{groupBytes}
 use Rattle.stream.specs.Lent.{chosen, lentCodes}
 use Rattle.stream.specs.Setting.{groupSize}
-use Rattle.stream.proofs.Law.Lent.Chosen.{at-32, at-other}
-use Rattle.stream.proofs.Law.Lent.Codes.{lent-32, lent-64}
-use Rattle.stream.proofs.Law.Setting.Allowed.{width-other, one-block}
+use Rattle.stream.proofs.Law.Lent.Codes.{each-32, differences-32, each-64, differences-64, full-fits, full-count, full-codes, length-32, length-other}
+use Rattle.stream.proofs.Law.Setting.Allowed.{width-other}
 use borrow.Author.Needs.{needs}
 use Rattle.stream.proofs.lent.measured_group.Statement.{statement}
 use Rattle.stream.proofs.lent.measured_group.Tie as tie
 
-long32 : (c : tie.Then1) → let s = c .before .before .before .before .before .before in length (chosen (s .args .t .width) (s .args .v32 .now) (s .args .v64 .now)) ≡ length (s .args .v32 .now)
-long32 c = let a = c .before .before .before .before .before .before .args in ap length (at-32 (a .t .width) (a .v32 .now) (a .v64 .now) (c .if1 .taken))
+fits-differenced-narrow : (c : tie.Then2) → let a = c .before .before .before .before .before .before .before .before .args in let r = c .before .before .before .before .group-size .result in
+    (a .at ≤ a .at + r) × (a .at + r ≤ a .at + 32) × (a .at + r ≤ length (a .v32 .now)) × (a .at + r ≤ 1024)
+fits-differenced-narrow c =
+    let s = c .before .before .before .before .before .before .before .before in
+    let a = s .args in
+    full-fits (a .t) (a .at) (c .before .before .before .before .group-size .result) (c .before .before .before .before .group-size .ensures .0) (length (chosen (a .t .width) (a .v32 .now) (a .v64 .now))) (length (a .v32 .now))
+    (length-32 (a .t .width) (a .v32 .now) (a .v64 .now) (c .before .before .if1 .taken)) (s .pre .0 .1) (s .pre .0 .2)
 
-long64 : (c : tie.Else1) → let s = c .before .before .before .before .before .before in length (chosen (s .args .t .width) (s .args .v32 .now) (s .args .v64 .now)) ≡ length (s .args .v64 .now)
-long64 c = let a = c .before .before .before .before .before .before .args in ap length (at-other (a .t .width) (a .v32 .now) (a .v64 .now) (c .if1 .left))
+full-differenced-narrow : (c : tie.After-differenced-narrow) → c .differenced-narrow .result .count ≡ 32
+full-differenced-narrow c = let a = c .before .before .before .before .before .before .before .before .before .args in full-count (a .t) (a .at) (c .before .before .before .before .before .group-size .result) (c .before .before .before .before .before .group-size .ensures .0) (c .differenced-narrow .result .count) (c .differenced-narrow .ensures .0)
 
 -- the group made is that of a full group's codes
-codes32 : (c : tie.After-coded-narrow) → let a = c .before .before .before .before .before .before .before .args in
+codes-differenced-narrow : (c : tie.After-differenced-narrow) → let a = c .before .before .before .before .before .before .before .before .before .args in
+    take (c .differenced-narrow .result .count) (c .differenced-narrow .result .codes) ≡ take (groupSize (a .t)) (drop (a .at) (lentCodes (a .t) (a .v32 .now) (a .v64 .now)))
+codes-differenced-narrow c =
+    let a = c .before .before .before .before .before .before .before .before .before .args in
+    full-codes (a .t) (a .at) (c .before .before .before .before .before .group-size .result) (c .before .before .before .before .before .group-size .ensures .0) (c .differenced-narrow .result .count) (c .differenced-narrow .result .codes) _ _ (c .differenced-narrow .ensures .1)
+    (differences-32 (a .t) (a .v32 .now) (a .v64 .now) (c .before .before .before .if1 .taken) (c .before .if2 .taken))
+
+fits-coded-narrow : (c : tie.Else2) → let a = c .before .before .before .before .before .before .before .before .args in let r = c .before .before .before .before .group-size .result in
+    (a .at ≤ a .at + r) × (a .at + r ≤ a .at + 32) × (a .at + r ≤ length (a .v32 .now)) × (a .at + r ≤ 1024)
+fits-coded-narrow c =
+    let s = c .before .before .before .before .before .before .before .before in
+    let a = s .args in
+    full-fits (a .t) (a .at) (c .before .before .before .before .group-size .result) (c .before .before .before .before .group-size .ensures .0) (length (chosen (a .t .width) (a .v32 .now) (a .v64 .now))) (length (a .v32 .now))
+    (length-32 (a .t .width) (a .v32 .now) (a .v64 .now) (c .before .before .if1 .taken)) (s .pre .0 .1) (s .pre .0 .2)
+
+full-coded-narrow : (c : tie.After-coded-narrow) → c .coded-narrow .result .count ≡ 32
+full-coded-narrow c = let a = c .before .before .before .before .before .before .before .before .before .args in full-count (a .t) (a .at) (c .before .before .before .before .before .group-size .result) (c .before .before .before .before .before .group-size .ensures .0) (c .coded-narrow .result .count) (c .coded-narrow .ensures .0)
+
+-- the group made is that of a full group's codes
+codes-coded-narrow : (c : tie.After-coded-narrow) → let a = c .before .before .before .before .before .before .before .before .before .args in
     take (c .coded-narrow .result .count) (c .coded-narrow .result .codes) ≡ take (groupSize (a .t)) (drop (a .at) (lentCodes (a .t) (a .v32 .now) (a .v64 .now)))
-codes32 c =
-    let i = c .before in
-    let a = i .before .before .before .before .before .before .args in
-    let size : a .at + i .before .before .group-size .result - a .at ≡ groupSize (a .t) = omega (arith, i .before .before .group-size .ensures .0) in
-    c .coded-narrow .ensures .1 ∙ ap₂ (λ (n : ℕ) (l : List ℕ). take n (drop (a .at) l)) size (lent-32 (a .t) (a .v32 .now) (a .v64 .now) (i .if1 .taken))
+codes-coded-narrow c =
+    let a = c .before .before .before .before .before .before .before .before .before .args in
+    full-codes (a .t) (a .at) (c .before .before .before .before .before .group-size .result) (c .before .before .before .before .before .group-size .ensures .0) (c .coded-narrow .result .count) (c .coded-narrow .result .codes) _ _ (c .coded-narrow .ensures .1)
+    (each-32 (a .t) (a .v32 .now) (a .v64 .now) (c .before .before .before .if1 .taken) (c .before .if2 .left))
 
-full32 : (c : tie.After-coded-narrow) → c .coded-narrow .result .count ≡ 32
-full32 c = let i = c .before in omega (arith, c .coded-narrow .ensures .0, i .before .before .group-size .ensures .0, one-block (i .before .before .before .before .before .before .args .t))
+fits-differenced-wide : (c : tie.Then3) → let a = c .before .before .before .before .before .before .before .before .args in let r = c .before .before .before .before .group-size .result in
+    (a .at ≤ a .at + r) × (a .at + r ≤ a .at + 32) × (a .at + r ≤ length (a .v64 .now)) × (a .at + r ≤ 1024)
+fits-differenced-wide c =
+    let s = c .before .before .before .before .before .before .before .before in
+    let a = s .args in
+    full-fits (a .t) (a .at) (c .before .before .before .before .group-size .result) (c .before .before .before .before .group-size .ensures .0) (length (chosen (a .t .width) (a .v32 .now) (a .v64 .now))) (length (a .v64 .now))
+    (length-other (a .t .width) (a .v32 .now) (a .v64 .now) (c .before .before .if1 .left)) (s .pre .0 .1) (s .pre .0 .2)
+
+full-differenced-wide : (c : tie.After-differenced-wide) → c .differenced-wide .result .count ≡ 32
+full-differenced-wide c = let a = c .before .before .before .before .before .before .before .before .before .args in full-count (a .t) (a .at) (c .before .before .before .before .before .group-size .result) (c .before .before .before .before .before .group-size .ensures .0) (c .differenced-wide .result .count) (c .differenced-wide .ensures .0)
 
 -- the group made is that of a full group's codes
-codes64 : (c : tie.After-coded-wide) → let a = c .before .before .before .before .before .before .before .args in
-    take (c .coded-wide .result .count) (c .coded-wide .result .codes) ≡ take (groupSize (a .t)) (drop (a .at) (lentCodes (a .t) (a .v32 .now) (a .v64 .now)))
-codes64 c =
-    let i = c .before in
-    let a = i .before .before .before .before .before .before .args in
-    let size : a .at + i .before .before .group-size .result - a .at ≡ groupSize (a .t) = omega (arith, i .before .before .group-size .ensures .0) in
-    c .coded-wide .ensures .1 ∙ ap₂ (λ (n : ℕ) (l : List ℕ). take n (drop (a .at) l)) size (lent-64 (a .t) (a .v32 .now) (a .v64 .now) (i .if1 .left))
+codes-differenced-wide : (c : tie.After-differenced-wide) → let a = c .before .before .before .before .before .before .before .before .before .args in
+    take (c .differenced-wide .result .count) (c .differenced-wide .result .codes) ≡ take (groupSize (a .t)) (drop (a .at) (lentCodes (a .t) (a .v32 .now) (a .v64 .now)))
+codes-differenced-wide c =
+    let a = c .before .before .before .before .before .before .before .before .before .args in
+    full-codes (a .t) (a .at) (c .before .before .before .before .before .group-size .result) (c .before .before .before .before .before .group-size .ensures .0) (c .differenced-wide .result .count) (c .differenced-wide .result .codes) _ _ (c .differenced-wide .ensures .1)
+    (differences-64 (a .t) (a .v32 .now) (a .v64 .now) (width-other (a .t .width) (c .before .before .before .before .before .before .before .before .before .pre .0 .0 .known) (c .before .before .before .if1 .left)) (c .before .if3 .taken))
 
-full64 : (c : tie.After-coded-wide) → c .coded-wide .result .count ≡ 32
-full64 c = let i = c .before in omega (arith, c .coded-wide .ensures .0, i .before .before .group-size .ensures .0, one-block (i .before .before .before .before .before .before .args .t))
+fits-coded-wide : (c : tie.Else3) → let a = c .before .before .before .before .before .before .before .before .args in let r = c .before .before .before .before .group-size .result in
+    (a .at ≤ a .at + r) × (a .at + r ≤ a .at + 32) × (a .at + r ≤ length (a .v64 .now)) × (a .at + r ≤ 1024)
+fits-coded-wide c =
+    let s = c .before .before .before .before .before .before .before .before in
+    let a = s .args in
+    full-fits (a .t) (a .at) (c .before .before .before .before .group-size .result) (c .before .before .before .before .group-size .ensures .0) (length (chosen (a .t .width) (a .v32 .now) (a .v64 .now))) (length (a .v64 .now))
+    (length-other (a .t .width) (a .v32 .now) (a .v64 .now) (c .before .before .if1 .left)) (s .pre .0 .1) (s .pre .0 .2)
+
+full-coded-wide : (c : tie.After-coded-wide) → c .coded-wide .result .count ≡ 32
+full-coded-wide c = let a = c .before .before .before .before .before .before .before .before .before .args in full-count (a .t) (a .at) (c .before .before .before .before .before .group-size .result) (c .before .before .before .before .before .group-size .ensures .0) (c .coded-wide .result .count) (c .coded-wide .ensures .0)
+
+-- the group made is that of a full group's codes
+codes-coded-wide : (c : tie.After-coded-wide) → let a = c .before .before .before .before .before .before .before .before .before .args in
+    take (c .coded-wide .result .count) (c .coded-wide .result .codes) ≡ take (groupSize (a .t)) (drop (a .at) (lentCodes (a .t) (a .v32 .now) (a .v64 .now)))
+codes-coded-wide c =
+    let a = c .before .before .before .before .before .before .before .before .before .args in
+    full-codes (a .t) (a .at) (c .before .before .before .before .before .group-size .result) (c .before .before .before .before .before .group-size .ensures .0) (c .coded-wide .result .count) (c .coded-wide .result .codes) _ _ (c .coded-wide .ensures .1)
+    (each-64 (a .t) (a .v32 .now) (a .v64 .now) (width-other (a .t .width) (c .before .before .before .before .before .before .before .before .before .pre .0 .0 .known) (c .before .before .before .if1 .left)) (c .before .if3 .left))
 
 group-size-requires : tie.Need-group-size-requires
 group-size-requires c κs = search needs
@@ -50,31 +95,47 @@ group-size-requires c κs = search needs
 add-end : tie.Need-add-end
 add-end c = let s = c .before .before .before .before in omega (arith, c .group-size .ensures, s .pre .0 .2)
 
-coded-narrow-requires : tie.Need-coded-narrow-requires
-coded-narrow-requires c κs =
-    let s = c .before .before .before .before .before .before in
-    let g = c .before .before .group-size .ensures in
-    let o = one-block (s .args .t) in
-    ((c .if1 .taken, omega arith, omega (arith, g, o), omega (arith, g, long32 c, s .pre .0 .1), omega (arith, g, s .pre .0 .2)), s .pre .1)
+differenced-narrow-requires : tie.Need-differenced-narrow-requires
+differenced-narrow-requires c κs = fits-differenced-narrow c
 
 measured-full32-requires : tie.Need-measured-full32-requires
-measured-full32-requires c κs = full32 c
+measured-full32-requires c κs = full-differenced-narrow c
+
+returns : tie.Need-returns
+returns c = c .measured-full32 .ensures ∙ ap (λ (cs : List ℕ). length (groupBytes cs)) (codes-differenced-narrow (c .before))
+
+coded-narrow-requires : tie.Need-coded-narrow-requires
+coded-narrow-requires c κs =
+    let s = c .before .before .before .before .before .before .before .before in
+    let f = fits-coded-narrow c in
+    ((c .before .before .if1 .taken, f .0, f .1, f .2, f .3), (s .pre .1 .0, s .pre .1 .1, c .if2 .left))
+
+measured-full32-requires-2 : tie.Need-measured-full32-requires-2
+measured-full32-requires-2 c κs = full-coded-narrow c
+
+returns-2 : tie.Need-returns-2
+returns-2 c = c .measured-full322 .ensures ∙ ap (λ (cs : List ℕ). length (groupBytes cs)) (codes-coded-narrow (c .before))
+
+differenced-wide-requires : tie.Need-differenced-wide-requires
+differenced-wide-requires c κs = fits-differenced-wide c
+
+measured-full-requires : tie.Need-measured-full-requires
+measured-full-requires c κs = full-differenced-wide c
+
+returns-3 : tie.Need-returns-3
+returns-3 c = c .measured-full .ensures ∙ ap (λ (cs : List ℕ). length (groupBytes cs)) (codes-differenced-wide (c .before))
 
 coded-wide-requires : tie.Need-coded-wide-requires
 coded-wide-requires c κs =
-    let s = c .before .before .before .before .before .before in
-    let g = c .before .before .group-size .ensures in
-    let o = one-block (s .args .t) in
-    (width-other (s .args .t .width) (s .pre .0 .0 .known) (c .if1 .left), omega arith, omega (arith, g, o), omega (arith, g, long64 c, s .pre .0 .1), omega (arith, g, s .pre .0 .2))
+    let s = c .before .before .before .before .before .before .before .before in
+    let f = fits-coded-wide c in
+    (width-other (s .args .t .width) (s .pre .0 .0 .known) (c .before .before .if1 .left), f .0, f .1, f .2, f .3)
 
-measured-full-requires : tie.Need-measured-full-requires
-measured-full-requires c κs = full64 c
+measured-full-requires-2 : tie.Need-measured-full-requires-2
+measured-full-requires-2 c κs = full-coded-wide c
 
-returns : tie.Need-returns
-returns c = c .measured-full32 .ensures ∙ ap (λ (cs : List ℕ). length (groupBytes cs)) (codes32 (c .before))
-
-returns-2 : tie.Need-returns-2
-returns-2 c = c .measured-full .ensures ∙ ap (λ (cs : List ℕ). length (groupBytes cs)) (codes64 (c .before))
+returns-4 : tie.Need-returns-4
+returns-4 c = c .measured-full2 .ensures ∙ ap (λ (cs : List ℕ). length (groupBytes cs)) (codes-coded-wide (c .before))
 
 pub measured-group-spec : {M : Type 1} → statement M
 measured-group-spec =
@@ -82,9 +143,15 @@ measured-group-spec =
     (tie.spec
     group-size-requires
     add-end
-    coded-narrow-requires
+    differenced-narrow-requires
     measured-full32-requires
-    coded-wide-requires
-    measured-full-requires
     returns
-    returns-2)
+    coded-narrow-requires
+    measured-full32-requires-2
+    returns-2
+    differenced-wide-requires
+    measured-full-requires
+    returns-3
+    coded-wide-requires
+    measured-full-requires-2
+    returns-4)

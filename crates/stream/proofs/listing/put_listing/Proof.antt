@@ -1,7 +1,8 @@
 -- `stream::listing::put_listing` meets its contract.
 use mathlib.Core.Path.{sym, _∙_}
 use native.Mathlib.Omega.{arith}
-use Rattle.stream.specs.Listing.{mostInput, highestLevel, newline, tooLong, answerLines}
+use Rattle.stream.specs.Setting.{highestLevel}
+use Rattle.stream.specs.Listing.{mostInput, newline, tooLong, answerLines}
 use Rattle.stream.proofs.Law.Listing.Text.{same-piece}
 use Rattle.stream.proofs.Law.Listing.Lines.{accepted, too-long-is, answered-is}
 use borrow.Author.Needs.{needs}

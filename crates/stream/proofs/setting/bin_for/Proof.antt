@@ -3,6 +3,7 @@ use Rattle.stream.proofs.Law.Setting.Allowed.{setting-bin, setting-has-
 use Rattle.stream.specs.Setting.{fractionBits, binFor}
 use Rattle.bins.specs.Answers.{binAnswer}
 use mir.Facts.{toZ-ofZ}
+use borrow.Author.Tests.{ne-eqb}
 use mathlib.Core.Path.{sym, _∙_, ap}
 use borrow.Author.Needs.{needs}
 use Rattle.stream.proofs.setting.bin_for.Statement.{statement}
@@ -10,7 +11,7 @@ use Rattle.stream.proofs.setting.bin_for.Tie as tie
 
 returns : tie.Need-returns
 unfolding binFor
-returns c = rw (c .if1 .taken)
+returns c = rw (ne-eqb (c .before .args .mode) 1 (c .if1 .taken))
 
 bin-at-requires : tie.Need-bin-at-requires
 bin-at-requires c κs = search needs
