@@ -1,7 +1,8 @@
 //! The second program: packed float fields written again, from the scope
-//! document and change request R-1 alone, to judge another implementation.
+//! document and change requests alone, to judge another
+//! implementation.
 //!
-//! * [`numbers`]: the lossless code, the tolerance code and bound.
+//! * [`numbers`]: the lossless, tolerance and difference codes, and bound.
 //! * [`stream`]: pack, length, unpack, check and probe, as simply as possible.
 //! * [`listing`]: the text the listing program prints.
 //! * [`plain`]: pack, length, check, unpack and probe once more, tuned for

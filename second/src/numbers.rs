@@ -1,4 +1,4 @@
-//! The number rules: lossless code, tolerance code and bound.
+//! The number rules: lossless code, tolerance code, difference code and bound.
 //!
 //! Patterns and codes of both widths travel as `u64`; inside, everything is
 //! computed on `u128` and `i128`, where nothing below can overflow, and
@@ -275,6 +275,24 @@ impl Tolerance {
         (field << m) + (significand - (1 << m))
     }
 }
+
+// ---------------------------------------------------------------- mode 2
+
+/// The difference code of a pattern after the one before it (bits above W are
+/// part of neither).
+pub fn difference_code(width: Width, before: u64, pattern: u64) -> u64 {
+    let [before, pattern] = [before, pattern].map(|p| p as u128 % width.modulus());
+    folded(width.signed(width.subtract(pattern, before))) as u64
+}
+
+/// The pattern of a difference code after the pattern before it (bits above W
+/// are part of neither).
+pub fn difference_pattern(width: Width, before: u64, code: u64) -> u64 {
+    let [before, code] = [before, code].map(|p| p as u128 % width.modulus());
+    width.add(before, width.residue(unfolded(code))) as u64
+}
+
+// ------------------------------------------------------------ bit lengths
 
 /// The number of bits up to the highest one set, 0 for 0.
 pub fn bit_length(number: u64) -> u32 {

@@ -9,7 +9,7 @@ use crate::{Answer, Refusal};
 use std::ops::Range;
 
 pub const MOST_VALUES: u64 = 1_048_576;
-pub const HIGHEST_LEVEL: u32 = 10;
+pub const HIGHEST_LEVEL: u32 = 11;
 
 const HEADER_BYTES: u64 = 48;
 const TABLE_ENTRY_BYTES: u64 = 4;
@@ -62,6 +62,7 @@ pub enum Probed<P> {
 pub(crate) enum Setting {
     Lossless(Width),
     Tolerance(Tolerance),
+    Difference(Width),
 }
 
 impl Setting {
@@ -71,13 +72,14 @@ impl Setting {
         match mode {
             0 if k == 0 => Some(Setting::Lossless(width)),
             1 => Tolerance::allowed(width, k).map(Setting::Tolerance),
+            2 if k == 0 => Some(Setting::Difference(width)),
             _ => None,
         }
     }
 
     pub(crate) fn width(self) -> Width {
         match self {
-            Setting::Lossless(width) => width,
+            Setting::Lossless(width) | Setting::Difference(width) => width,
             Setting::Tolerance(tolerance) => tolerance.width(),
         }
     }
@@ -86,39 +88,46 @@ impl Setting {
         match self {
             Setting::Lossless(_) => 0,
             Setting::Tolerance(_) => 1,
+            Setting::Difference(_) => 2,
         }
     }
 
     pub(crate) fn k(self) -> i32 {
         match self {
-            Setting::Lossless(_) => 0,
+            Setting::Lossless(_) | Setting::Difference(_) => 0,
             Setting::Tolerance(tolerance) => tolerance.k(),
         }
     }
 
-    /// Width 64 needs 10; else mode 1 needs 9; else 8.
+    /// Mode 2 needs 11, width 64 needs 10, mode 1 needs 9, and all need 8: the
+    /// largest stands.
     fn need(self) -> u32 {
-        if self.width() == WIDTH_64 {
-            10
-        } else if self.mode() == 1 {
-            9
-        } else {
-            8
-        }
+        let of_mode = match self {
+            Setting::Lossless(_) => 8,
+            Setting::Tolerance(_) => 9,
+            Setting::Difference(_) => 11,
+        };
+        let of_width = if self.width() == WIDTH_64 { 10 } else { 8 };
+        of_mode.max(of_width)
     }
 
-    fn code(self, pattern: u64) -> u64 {
+    /// The code of a pattern, where `before` is the one before it in its chunk,
+    /// 0 for the first.
+    fn code(self, before: u64, pattern: u64) -> u64 {
         match self {
             Setting::Lossless(width) => numbers::lossless_code(width, pattern),
             Setting::Tolerance(tolerance) => tolerance.code(pattern),
+            Setting::Difference(width) => numbers::difference_code(width, before, pattern),
         }
     }
 
-    /// The pattern of a code, or nothing if u is above its largest.
-    fn restored(self, code: u64) -> Option<u64> {
+    /// The pattern of a code after the same `before`, or nothing if u is above
+    /// its largest.
+    fn restored(self, before: u64, code: u64) -> Option<u64> {
         match self {
             Setting::Lossless(width) => Some(numbers::lossless_pattern(width, code)),
             Setting::Tolerance(tolerance) => tolerance.restored(code),
+            Setting::Difference(width) => Some(numbers::difference_pattern(width, before, code)),
         }
     }
 }
@@ -163,9 +172,8 @@ fn packed<P: Pattern>(level: u32, mode: u32, k: i32, values: &[P]) -> Result<Vec
     let mut data: Vec<u8> = Vec::new();
     for chunk in values.chunks(VALUES_IN_CHUNK as usize) {
         starts.push(data.len() as u32);
-        for group in chunk.chunks(VALUES_IN_GROUP as usize) {
-            let codes: Vec<u64> = group.iter().map(|v| setting.code(v.number())).collect();
-            append_group(&mut data, &codes);
+        for codes in codes_of_chunk(chunk, setting).chunks(VALUES_IN_GROUP as usize) {
+            append_group(&mut data, codes);
         }
     }
 
@@ -193,6 +201,17 @@ fn packed<P: Pattern>(level: u32, mode: u32, k: i32, values: &[P]) -> Result<Vec
     }
     stream.extend(data);
     Ok(stream)
+}
+
+/// The codes of a chunk's values. No chunk knows of the one before it.
+fn codes_of_chunk<P: Pattern>(chunk: &[P], setting: Setting) -> Vec<u64> {
+    let mut before = 0;
+    let mut codes = Vec::with_capacity(chunk.len());
+    for value in chunk {
+        codes.push(setting.code(before, value.number()));
+        before = value.number();
+    }
+    codes
 }
 
 /// Appends one group: its width byte, then its codes bit by bit.
@@ -380,11 +399,13 @@ fn read_chunk(
 fn patterns_of_chunk(mut bytes: &[u8], values: u64, setting: Setting) -> Result<Vec<u64>, u64> {
     let groups = values.div_ceil(VALUES_IN_GROUP);
     let mut patterns = Vec::new();
+    let mut before = 0;
     for group in 0..groups {
         let count = (values - group * VALUES_IN_GROUP).min(VALUES_IN_GROUP);
         let (codes, rest) = codes_of_group(bytes, count as usize, setting.width()).ok_or(group)?;
         for code in codes {
-            patterns.push(setting.restored(code).ok_or(group)?);
+            before = setting.restored(before, code).ok_or(group)?;
+            patterns.push(before);
         }
         bytes = rest;
     }

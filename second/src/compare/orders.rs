@@ -7,7 +7,7 @@ use super::random::{XorShift, WIDTHS};
 use super::streams::*;
 use super::Extent;
 use crate::numbers::{Width, WIDTH_32, WIDTH_64};
-use crate::stream::MOST_VALUES;
+use crate::stream::{HIGHEST_LEVEL, MOST_VALUES};
 
 // ------------------------------------------------------ pack and length
 
@@ -24,22 +24,21 @@ struct Packing {
 type PackingBreak = (u32, fn(&mut Packing));
 
 /// Each breaks the rule of the refusal with its number, in the order of pack.
-const PACKING_BREAKS: [PackingBreak; 14] = [
+const PACKING_BREAKS: [PackingBreak; 17] = [
     (1, |packing| packing.level = 7),
-    (1, |packing| packing.level = 11),
+    (1, |packing| packing.level = 12),
     (1, |packing| packing.level = 0),
     (1, |packing| packing.level = u32::MAX),
-    (2, |packing| packing.mode = 2),
+    (2, |packing| packing.mode = 3),
     (2, |packing| packing.mode = u32::MAX),
     (2, |packing| packing.k = 971),
     (2, |packing| packing.k = -1076),
     (2, |packing| (packing.mode, packing.k) = (0, -2)),
-    (2, |packing| {
-        // The need exceeds the level: width 64 needs 10, mode 1 needs 9.
-        packing.level = 8;
-        packing.mode = 1;
-        packing.k = -2;
-    }),
+    (2, |packing| (packing.mode, packing.k) = (2, -2)),
+    // The need exceeds the level: mode 2 needs 11, width 64 needs 10, mode 1 needs 9.
+    (2, |packing| (packing.level, packing.mode, packing.k) = (8, 1, -2)),
+    (2, |packing| (packing.level, packing.mode, packing.k) = (8, 2, 0)),
+    (2, |packing| (packing.level, packing.mode, packing.k) = (10, 2, 0)),
     (3, |packing| packing.list = zeros(packing.list.values().width(), MOST_VALUES + 1)),
     (4, |packing| packing.room = 0),
     (4, |packing| packing.room = 47),
@@ -52,9 +51,9 @@ fn zeros(width: Width, n: u64) -> List {
 
 pub fn packing(judge: &mut Judge, _: &mut XorShift, _: Extent) {
     for width in WIDTHS {
-        for (mode, k) in [(0, 0), (1, -2)] {
+        for (mode, k) in MODES {
             let list = zeros(width, 3);
-            let sound = Packing { level: 10, mode, k, list, room: 60 };
+            let sound = Packing { level: HIGHEST_LEVEL, mode, k, list, room: 60 };
             pack_as_meant(judge, &sound, 0);
             for (later, second) in PACKING_BREAKS {
                 let mut once = sound.clone();
@@ -95,9 +94,9 @@ struct Reading {
 type ReadingBreak = (u32, fn(&mut Reading));
 
 /// Each breaks one rule of the refusal with its number in a sound reading.
-const READING_BREAKS: [ReadingBreak; 48] = [
+const READING_BREAKS: [ReadingBreak; 55] = [
     (1, |r| r.level = 7),
-    (1, |r| r.level = 11),
+    (1, |r| r.level = 12),
     (1, |r| r.level = 0),
     (1, |r| r.level = u32::MAX),
     (5, |r| r.stream.truncate(47)),
@@ -107,17 +106,31 @@ const READING_BREAKS: [ReadingBreak; 48] = [
     (6, |r| put(&mut r.stream, MAJOR, 2)),
     (6, |r| put(&mut r.stream, MAJOR, 257)),
     (6, |r| put(&mut r.stream, MAJOR, (1 << 31) + 1)),
-    (7, |r| put(&mut r.stream, NEEDED, 11)),
+    (7, |r| put(&mut r.stream, NEEDED, 12)),
     (7, |r| put(&mut r.stream, NEEDED, 100)),
     (7, |r| put(&mut r.stream, NEEDED, u32::MAX)),
+    (7, |r| {
+        r.level = 10;
+        put(&mut r.stream, NEEDED, 11);
+    }),
+    (8, |r| add(&mut r.stream, NEEDED, u32::MAX)), // one less
+    (8, |r| put_other(&mut r.stream, NEEDED, [11, 10])),
     (8, |r| put(&mut r.stream, NEEDED, 7)),
     (8, |r| put(&mut r.stream, NEEDED, 0)),
+    (8, |r| {
+        let needed = number_at(&r.stream, NEEDED).unwrap_or(0);
+        put(&mut r.stream, WRITTEN, needed.wrapping_sub(1));
+    }),
     (8, |r| put(&mut r.stream, WRITTEN, 7)),
     (8, |r| put(&mut r.stream, WRITTEN, 0)),
     (8, |r| put(&mut r.stream, WIDTH, 0)),
     (8, |r| put(&mut r.stream, WIDTH, 33)),
     (8, |r| put(&mut r.stream, WIDTH, 96)),
-    (8, |r| put(&mut r.stream, MODE, 2)),
+    (8, |r| put(&mut r.stream, MODE, 3)),
+    (8, |r| put(&mut r.stream, MODE, u32::MAX)),
+    // The need is then not that of the mode.
+    (8, |r| put_other(&mut r.stream, MODE, [2, 0])),
+    (8, |r| r.stream = with(&r.stream, &[(NEEDED, 11), (MODE, 2), (K, 1)])),
     (8, |r| put(&mut r.stream, K, 971)),
     (8, |r| put(&mut r.stream, K, -1076i32 as u32)),
     (8, |r| put(&mut r.stream, COUNT, MOST_VALUES as u32 + 1)),
@@ -154,6 +167,12 @@ fn add(stream: &mut [u8], order: usize, step: u32) {
     if let Some(old) = number_at(stream, order) {
         put(stream, order, old.wrapping_add(step));
     }
+}
+
+/// Puts the first of two numbers, or where that stands already, the second.
+fn put_other(stream: &mut [u8], order: usize, [first, second]: [u32; 2]) {
+    let stands = number_at(stream, order) == Some(first);
+    put(stream, order, if stands { second } else { first });
 }
 
 fn other(width: Width) -> Width {
@@ -220,19 +239,19 @@ pub fn reading(judge: &mut Judge, _: &mut XorShift, _: Extent) {
     }
 }
 
-/// A sound reading for both widths and modes, of one chunk and of three, with
+/// A sound reading for both widths and every mode, of one chunk and of three, with
 /// and without side parts. The first group, a whole one, holds a code of 8 bits.
 fn sound_readings() -> Vec<Reading> {
     let mut readings = Vec::new();
     for width in WIDTHS {
-        for (mode, k) in [(0, 0), (1, -2)] {
+        for (mode, k) in MODES {
             for n in [40, 2049] {
                 for sides in [vec![], vec![(7, vec![1, 2]), (9, vec![])]] {
                     let chunks = sound_chunks(n);
                     let draft = Draft { width, mode, k, n, chunks, sides };
                     readings.push(Reading {
                         width,
-                        level: 10,
+                        level: HIGHEST_LEVEL,
                         stream: draft.stream(),
                         room: n as usize,
                         index: 1,

@@ -2,6 +2,7 @@
 //! and single numbers put in place of others.
 
 use crate::numbers::Width;
+use crate::stream::HIGHEST_LEVEL;
 
 /// The header numbers, by their order.
 pub const MAJOR: usize = 0;
@@ -55,9 +56,13 @@ pub fn stated_count(stream: &[u8]) -> u64 {
     number_at(stream, COUNT).unwrap_or(0) as u64
 }
 
-/// Width 64 needs 10; else mode 1 needs 9; else 8.
+/// Every mode, with a k that is allowed in it.
+pub const MODES: [(u32, i32); 3] = [(0, 0), (1, -2), (2, 0)];
+
+/// Mode 2 needs 11; else width 64 needs 10; else mode 1 needs 9; else 8.
 pub fn need(width: Width, mode: u32) -> u32 {
     match (width.bits(), mode) {
+        (_, 2) => 11,
         (64, _) => 10,
         (_, 1) => 9,
         _ => 8,
@@ -86,7 +91,8 @@ impl Draft {
         let place = 48 + 4 * c;
         let end = place + data.len() as u32;
         let sides = self.sides.len() as u32;
-        let mut numbers = vec![1, 10, need, self.width.bits(), self.mode, self.k as u32];
+        let mut numbers = vec![1, HIGHEST_LEVEL, need];
+        numbers.extend([self.width.bits(), self.mode, self.k as u32]);
         numbers.extend([self.n, c, 48, place, sides, end]);
         numbers.extend(starts(&self.chunks));
         let mut stream = bytes_of(&numbers);

@@ -99,15 +99,15 @@ fn judge_width<P: Bits>(rng: &mut XorShift, level: u32, stream: &[u8], seen: &mu
 
 /// Everything both implementations can say of a stream.
 fn judge(rng: &mut XorShift, stream: &[u8], seen: &mut Seen) {
-    let level = rng.one_of(&[10, 10, 10, 10, 9, 8, 7, 11]);
+    let level = rng.one_of(&[10, 10, 10, 10, 9, 8, 7, 12]);
     let answer = stream::check(level, stream);
     assert_eq!(plain::check(level, stream), answer);
     note(seen, answer);
     judge_width::<u32>(rng, level, stream, seen);
     judge_width::<u64>(rng, level, stream, seen);
-    if level == 10 && stream.len() <= 65_536 {
+    if stream.len() <= 65_536 {
         let text = listing::listing(stream);
-        match answer {
+        match stream::check(stream::HIGHEST_LEVEL, stream) {
             Ok(n) => assert!(text.contains(&format!("\nvalues {n} chunks "))),
             Err(r) => assert_eq!(text, format!("refused {} detail {}\n", r.number, r.detail)),
         }

@@ -4,12 +4,13 @@ use crate::random::*;
 use second::stream::{self, Probed};
 use second::{numbers, plain, Answer, Refusal};
 
-const LEVELS: [u32; 7] = [0, 7, 8, 9, 10, 11, u32::MAX];
+const LEVELS: [u32; 8] = [0, 7, 8, 9, 10, 11, 12, u32::MAX];
 const MARK: u8 = 0xA5;
 
 /// The need, stated again.
 fn need<P: Bits>(mode: u32) -> u32 {
     match (P::WIDTH.bits(), mode) {
+        (_, 2) => 11,
         (64, _) => 10,
         (_, 1) => 9,
         _ => 8,
@@ -165,10 +166,14 @@ fn the_largest_lists() {
 #[test]
 fn pack_and_length_refuse_by_the_table() {
     fn expect<P: Bits>(level: u32, mode: u32, k: i32, n: usize) -> Option<u32> {
-        if ![8, 9, 10].contains(&level) {
+        if ![8, 9, 10, 11].contains(&level) {
             return Some(1);
         }
-        let allowed = (mode == 0 && k == 0) || (mode == 1 && allowed_k(P::WIDTH).contains(&k));
+        let allowed = match mode {
+            0 | 2 => k == 0,
+            1 => allowed_k(P::WIDTH).contains(&k),
+            _ => false,
+        };
         if !allowed || need::<P>(mode) > level {
             return Some(2);
         }
@@ -179,7 +184,7 @@ fn pack_and_length_refuse_by_the_table() {
         let many = vec![P::of_number(0); 1_048_577];
         let ks = [i32::MIN, -1076, -1075, -151, -150, -1, 0, 1, 103, 104, 970, 971, i32::MAX];
         for level in LEVELS {
-            for mode in [0, 1, 2, u32::MAX] {
+            for mode in [0, 1, 2, 3, u32::MAX] {
                 for k in ks {
                     for values in [&many[..2], &many[..]] {
                         let mut output = [MARK; 70];
@@ -188,13 +193,15 @@ fn pack_and_length_refuse_by_the_table() {
                         assert_eq!(packed.err(), refusal.map(Refusal::bare));
                         let length = stream::length(level, mode, k, values);
                         assert_eq!(length, packed);
-                        assert_eq!(plain::length(level, mode, k, values), length);
                         if refusal.is_some() {
                             assert_eq!(output, [MARK; 70]);
                         }
-                        let mut again = [MARK; 70];
-                        assert_eq!(plain::pack(level, mode, k, values, &mut again), packed);
-                        assert_eq!(output, again);
+                        if level != 11 {
+                            assert_eq!(plain::length(level, mode, k, values), length);
+                            let mut again = [MARK; 70];
+                            assert_eq!(plain::pack(level, mode, k, values, &mut again), packed);
+                            assert_eq!(output, again);
+                        }
                     }
                 }
             }
@@ -248,7 +255,7 @@ fn readers_refuse_in_their_orders() {
             },
         ]
     };
-    assert_eq!(try_all(11, &bad[..47], 1100, 0), [1; 5]);
+    assert_eq!(try_all(12, &bad[..47], 1100, 0), [1; 5]);
     assert_eq!(try_all(10, &bad[..47], 1100, 0), [5; 5]);
     assert_eq!(try_all(10, &bad, 1100, 0), [6; 5]);
     set(&mut bad, 0, 1);
