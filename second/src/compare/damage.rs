@@ -2,9 +2,10 @@
 
 use super::call::List;
 use super::judge::Judge;
-use super::random::{some_k, some_length, some_patterns, XorShift, WIDTHS};
+use super::random::{some_length, XorShift, WIDTHS};
 use super::readings::{read, read_at_levels};
 use super::streams::*;
+use super::walks::{some_k_of_mode, some_patterns_of_mode};
 use super::{reference, Extent};
 use crate::numbers::{Width, WIDTH_32, WIDTH_64};
 use crate::stream::HIGHEST_LEVEL;
@@ -51,9 +52,15 @@ pub fn small_streams() -> Vec<Vec<u8>> {
         packed(WIDTH_32, 0, 0, &[0; 32]),
         packed(WIDTH_64, 1, -2, &many[..1025]),
         packed(WIDTH_32, 0, 0, &many),
+        packed(WIDTH_32, 2, 0, &[5, 7, 7, 4]),
+        packed(WIDTH_64, 2, 0, &[]),
+        packed(WIDTH_32, 2, 0, &[1 << 31, 0, u32::MAX as u64, (1 << 31) - 1]),
+        packed(WIDTH_64, 2, 0, &doubles([1.0, -1.0, f64::NAN])),
+        packed(WIDTH_32, 2, 0, &equal_but_last(70)),
+        packed(WIDTH_64, 2, 0, &equal_but_last(1026)),
     ];
     let sided = [(0, vec![]), (5, vec![1, 2, 3]), (u32::MAX, vec![])];
-    for plain in [0, 1, 8] {
+    for plain in [0, 1, 8, 18] {
         let mut stream = streams[plain].clone();
         append_sides(&mut stream, &sided);
         streams.push(stream);
@@ -61,12 +68,19 @@ pub fn small_streams() -> Vec<Vec<u8>> {
     streams
 }
 
+/// The pattern 3 so many times, but for the last one.
+fn equal_but_last(n: usize) -> Vec<u64> {
+    let mut patterns = vec![3; n];
+    patterns[n - 1] = 4;
+    patterns
+}
+
 /// A sound stream of any kind, now and then with side parts.
 pub fn some_stream(rng: &mut XorShift) -> Vec<u8> {
-    let (width, mode) = (rng.one_of(&WIDTHS), rng.below(2) as u32);
-    let k = if mode == 0 { 0 } else { some_k(rng, width) };
+    let (width, mode) = (rng.one_of(&WIDTHS), rng.below(3) as u32);
+    let k = some_k_of_mode(rng, width, mode);
     let n = some_length(rng);
-    let patterns = some_patterns(rng, width, k, n);
+    let patterns = some_patterns_of_mode(rng, width, mode, k, n);
     let mut stream = packed(width, mode, k, &patterns);
     if rng.chance(3) {
         append_sides(&mut stream, &some_sides(rng));
@@ -97,7 +111,7 @@ pub fn bytes_altered(judge: &mut Judge, rng: &mut XorShift, extent: Extent) {
                 stream[place] = other;
                 read(judge, HIGHEST_LEVEL, &stream);
                 if (4..12).contains(&place) {
-                    read_at_levels(judge, &[8, 9], &stream);
+                    read_at_levels(judge, &[8, 9, 10], &stream);
                 }
             }
             stream[place] = byte;
@@ -153,7 +167,7 @@ pub fn cuts_and_additions(judge: &mut Judge, rng: &mut XorShift, extent: Extent)
 /// Every header number of the small streams set to many others, read at every
 /// level.
 pub fn header_numbers(judge: &mut Judge, _: &mut XorShift, extent: Extent) {
-    let levels: &[u32] = if extent == Extent::Quick { &[10] } else { &[8, 9, 10] };
+    let levels: &[u32] = if extent == Extent::Quick { &[11] } else { &[8, 9, 10, 11] };
     for stream in small_streams() {
         for order in MAJOR..=DATA_END {
             for number in other_numbers(&stream, order) {
@@ -173,7 +187,7 @@ fn other_numbers(stream: &[u8], order: usize) -> Vec<u32> {
     let length = stream.len() as u32;
     #[rustfmt::skip]
     let mut numbers = vec![
-        0, 1, 2, 7, 8, 9, 10, 11, 31, 32, 33, 47, 48, 49, 63, 64, 65, 100, 108, 256, 257, 1023,
+        0, 1, 2, 3, 7, 8, 9, 10, 11, 12, 31, 32, 33, 47, 48, 49, 63, 64, 65, 100, 108, 256, 257, 1023,
         1024, 1025, 1 << 20, (1 << 20) + 1, 1 << 30, 1 << 31, u32::MAX - 1023, u32::MAX,
         length - 1, length, length + 1,
     ];
@@ -193,10 +207,11 @@ fn other_numbers(stream: &[u8], order: usize) -> Vec<u32> {
 /// The same bytes under every other setting, its need put right.
 fn other_settings(judge: &mut Judge, stream: &[u8]) {
     for width in WIDTHS {
-        for (mode, k) in [(0, 0), (0, 1), (1, -2), (1, 100), (1, -1075), (1, 970), (2, 0)] {
+        let others = [(0, 1), (1, 100), (1, -1075), (1, 970), (2, 1), (2, -2), (3, 0)];
+        for (mode, k) in MODES.into_iter().chain(others) {
             let numbers =
                 [(WIDTH, width.bits()), (MODE, mode), (K, k as u32), (NEEDED, need(width, mode))];
-            read_at_levels(judge, &[8, 9, 10], &with(stream, &numbers));
+            read_at_levels(judge, &[8, 9, 10, 11], &with(stream, &numbers));
         }
     }
 }
@@ -211,7 +226,7 @@ pub fn several_header_numbers(judge: &mut Judge, rng: &mut XorShift, extent: Ext
             let number = some_number(rng, &stream, order);
             put(&mut stream, order, number);
         }
-        let level = rng.one_of(&[8, 9, 10, 10, 10]);
+        let level = rng.one_of(&[8, 9, 10, 11, 11, 11]);
         read(judge, level, &stream);
     }
 }
@@ -220,9 +235,9 @@ pub fn several_header_numbers(judge: &mut Judge, rng: &mut XorShift, extent: Ext
 fn some_number(rng: &mut XorShift, stream: &[u8], order: usize) -> u32 {
     let likely: &[u32] = match order {
         MAJOR => &[1],
-        WRITTEN | NEEDED => &[7, 8, 9, 10, 11],
+        WRITTEN | NEEDED => &[7, 8, 9, 10, 11, 12],
         WIDTH => &[32, 64],
-        MODE => &[0, 1, 2],
+        MODE => &[0, 1, 2, 3],
         K => &[0, -2i32 as u32, -150i32 as u32, 103, 970, -1075i32 as u32],
         SIDES => &[0, 1, 2, 64, 65],
         _ => &[],
@@ -239,9 +254,9 @@ fn some_number(rng: &mut XorShift, stream: &[u8], order: usize) -> u32 {
 
 /// Streams of any kind, damaged in one to three ways.
 pub fn random_damage(judge: &mut Judge, rng: &mut XorShift, extent: Extent) {
-    for _ in 0..extent.rounds(10_000) {
+    for _ in 0..extent.rounds(12_000) {
         let stream = damaged_stream(rng);
-        let level = rng.one_of(&[10, 10, 10, 10, 9, 8, 7, 11]);
+        let level = rng.one_of(&[11, 11, 11, 11, 10, 9, 8, 7, 12]);
         read(judge, level, &stream);
     }
 }

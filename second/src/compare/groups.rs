@@ -2,9 +2,10 @@
 //! can have, under a sound header and sound tables.
 
 use super::judge::Judge;
-use super::random::{some_k, XorShift, WIDTHS};
+use super::random::{XorShift, WIDTHS};
 use super::readings::read;
 use super::streams::{group, Draft};
+use super::walks::some_k_of_mode;
 use super::Extent;
 use crate::numbers::{bit_length, Tolerance, Width};
 use crate::stream::HIGHEST_LEVEL;
@@ -30,9 +31,8 @@ impl Setting {
 
 pub fn groups(judge: &mut Judge, rng: &mut XorShift, extent: Extent) {
     for _ in 0..extent.rounds(400) {
-        let (width, mode) = (rng.one_of(&WIDTHS), rng.below(2) as u32);
-        let k = if mode == 0 { 0 } else { some_k(rng, width) };
-        let setting = Setting { width, mode, k };
+        let (width, mode) = (rng.one_of(&WIDTHS), rng.below(3) as u32);
+        let setting = Setting { width, mode, k: some_k_of_mode(rng, width, mode) };
         let count = rng.one_of(&[1, 2, 3, 7, 8, 9, 31, 32]);
         for bytes in variants(rng, setting, count) {
             read_alone(judge, setting, count, &bytes);

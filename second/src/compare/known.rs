@@ -5,9 +5,10 @@ use super::call::{Call, List};
 use super::judge::Judge;
 use super::outcome::refused;
 use super::random::XorShift;
-use super::streams::bytes_of;
+use super::streams::{bytes_of, stream_of_codes};
 use super::Extent;
-use crate::numbers::{WIDTH_32, WIDTH_64};
+use crate::numbers::{Width, WIDTH_32, WIDTH_64};
+use crate::stream::HIGHEST_LEVEL;
 use crate::Refusal;
 
 /// Mode 0, width 32: pattern and code.
@@ -33,6 +34,27 @@ const TOLERANCE_32: [(u64, u64, u64); 7] = [
     (0x4A80_0000, 16_777_216, 0x4A80_0000),    // 4194304
     (0x7F80_0000, 1_795_162_112, 0x7F80_0000), // infinity
     (0x3E7F_FFFF, 0, 0),                       // the last below 0.25
+];
+
+/// Mode 2: the patterns of a list, and their codes.
+pub type Differences = (&'static [u64], &'static [u64]);
+
+/// Small differences, and those that wrap around either end.
+pub const DIFFERENCES_32: [Differences; 7] = [
+    (&[5, 7, 7, 4], &[10, 4, 0, 5]),
+    (&[0, 0x8000_0000], &[0, 0xFFFF_FFFF]),
+    (&[0xFFFF_FFFF, 0, 0xFFFF_FFFF], &[1, 2, 1]),
+    (&[0x7FFF_FFFF, 0x8000_0000], &[0xFFFF_FFFE, 2]),
+    (&[0x8000_0000, 0x7FFF_FFFF, 0xFFFF_FFFF], &[0xFFFF_FFFF, 1, 0xFFFF_FFFF]),
+    (&[0x3F80_0000, 0x3F80_0001, 0xBF80_0001], &[0x7F00_0000, 2, 0xFFFF_FFFF]),
+    (&[0x7FC0_0000, 0x7F80_0000], &[0xFF80_0000, 0x007F_FFFF]),
+];
+
+pub const DIFFERENCES_64: [Differences; 4] = [
+    (&[5, 7, 7, 4], &[10, 4, 0, 5]),
+    (&[0, 1 << 63, 0], &[0, u64::MAX, u64::MAX]),
+    (&[u64::MAX, 0, u64::MAX], &[1, 2, 1]),
+    (&[0xFFFF_FFFF, 1 << 32, u64::MAX >> 1], &[0x1_FFFF_FFFE, 2, 0xFFFF_FFFD_FFFF_FFFE]),
 ];
 
 /// Bound, width 32: tolerance, and k or the refusal.
@@ -64,6 +86,15 @@ pub fn known_values(judge: &mut Judge, _: &mut XorShift, _: Extent) {
     }
     lengths(judge);
     example(judge);
+    for (width, lists) in [(WIDTH_32, &DIFFERENCES_32[..]), (WIDTH_64, &DIFFERENCES_64)] {
+        for (patterns, codes) in lists {
+            let stream = stream_of_codes(width, 2, 0, codes);
+            let patterns = patterns.to_vec();
+            KnownList { width, level: HIGHEST_LEVEL, mode: 2, patterns, stream }.compare(judge);
+        }
+        difference_levels(judge, width);
+    }
+    example_of_differences(judge);
 }
 
 fn lossless_codes(judge: &mut Judge) {
@@ -98,15 +129,92 @@ fn lengths(judge: &mut Judge) {
 
 /// The list 0, -0, 2^-149, which is 55 bytes.
 fn example(judge: &mut Judge) {
-    let values = [0, 0x8000_0000, 1];
     let mut stream = bytes_of(&[1, 8, 8, 32, 0, 0, 3, 1, 48, 52, 0, 55, 0]);
     stream.extend([0x03, 0x10, 0x01]);
-    let bytes: Vec<u64> = stream.iter().map(|&byte| byte as u64).collect();
-    let list = List::of(WIDTH_32, values);
-    let (level, width) = (8, WIDTH_32);
-    let pack = Call::Pack { level, mode: 0, k: 0, values: list.values(), room: 60 };
-    judge.compare_known(pack, 55, &bytes);
-    judge.compare_known(Call::Check { level, stream: &stream }, 3, &[]);
-    judge.compare_known(Call::Unpack { width, level, stream: &stream, room: 4 }, 3, &values);
-    judge.compare_known(Call::Probe { width, level, stream: &stream, index: 2 }, 0, &[1]);
+    let patterns = vec![0, 0x8000_0000, 1];
+    KnownList { width: WIDTH_32, level: 8, mode: 0, patterns, stream }.compare(judge);
+}
+
+/// The list 5, 7, 7, 4 in mode 2, byte for byte; and 1,025 sevens, of which the
+/// second chunk's only one is again the difference from 0.
+fn example_of_differences(judge: &mut Judge) {
+    let (width, level, mode) = (WIDTH_32, 11, 2);
+    let mut stream = bytes_of(&[1, 11, 11, 32, 2, 0, 4, 1, 48, 52, 0, 55, 0]);
+    stream.extend([0x04, 0x4A, 0x50]);
+    KnownList { width, level, mode, patterns: vec![5, 7, 7, 4], stream }.compare(judge);
+
+    let mut stream = bytes_of(&[1, 11, 11, 32, 2, 0, 1025, 2, 48, 56, 0, 106, 0, 48]);
+    stream.extend([0x04, 0x0E]);
+    stream.resize(104, 0);
+    stream.extend([0x04, 0x0E]);
+    KnownList { width, level, mode, patterns: vec![7; 1025], stream }.compare(judge);
+}
+
+/// Mode 2 needs 11 at both widths, and its k is 0.
+fn difference_levels(judge: &mut Judge, width: Width) {
+    let list = List::of(width, [5, 7]);
+    let values = list.values();
+    for (level, k, number) in
+        [(7, 0, 1), (8, 0, 2), (9, 0, 2), (10, 0, 2), (11, 1, 2), (11, -2, 2), (12, 0, 1)]
+    {
+        let refusal = refused(Refusal::bare(number));
+        judge.compare_known(Call::Length { level, mode: 2, k, values }, refusal, &[]);
+        judge.compare_known(Call::Pack { level, mode: 2, k, values, room: 60 }, refusal, &[]);
+    }
+    let stream = &stream_of_codes(width, 2, 0, &[10, 4]);
+    for level in [8, 9, 10] {
+        let refusal = refused(Refusal::with_detail(7, 11));
+        judge.compare_known(Call::Check { level, stream }, refusal, &[]);
+        judge.compare_known(Call::Unpack { width, level, stream, room: 2 }, refusal, &[]);
+        judge.compare_known(Call::Probe { width, level, stream, index: 0 }, refusal, &[]);
+    }
+}
+
+// ----------------------------------------------------------- whole lists
+
+/// A list and its stream at a level, in a mode whose k is 0 and which alters no
+/// value.
+pub struct KnownList {
+    pub width: Width,
+    pub level: u32,
+    pub mode: u32,
+    pub patterns: Vec<u64>,
+    pub stream: Vec<u8>,
+}
+
+impl KnownList {
+    fn compare(&self, judge: &mut Judge) {
+        self.compare_whole(judge);
+        self.compare_probes(judge, 0..self.patterns.len());
+    }
+
+    /// All operations but probe.
+    pub fn compare_whole(&self, judge: &mut Judge) {
+        let KnownList { width, level, mode, ref patterns, ref stream } = *self;
+        let bytes: Vec<u64> = stream.iter().map(|&byte| byte as u64).collect();
+        let list = List::of(width, patterns.iter().copied());
+        let (values, n, length) = (list.values(), patterns.len(), stream.len());
+        judge.compare_known(Call::Length { level, mode, k: 0, values }, length as u64, &[]);
+        let pack = Call::Pack { level, mode, k: 0, values, room: length + 5 };
+        judge.compare_known(pack, length as u64, &bytes);
+        judge.compare_known(Call::Check { level, stream }, n as u64, &[]);
+        let unpack = Call::Unpack { width, level, stream, room: n + 1 };
+        judge.compare_known(unpack, n as u64, patterns);
+    }
+
+    pub fn compare_probes(&self, judge: &mut Judge, indices: impl Iterator<Item = usize>) {
+        let KnownList { width, level, ref patterns, ref stream, .. } = *self;
+        for index in indices {
+            let pattern = patterns[index];
+            let probe = Call::Probe { width, level, stream, index: index as u64 };
+            judge.compare_known(probe, kind_of(width, pattern), &[pattern]);
+        }
+    }
+}
+
+/// Probe's answer for a pattern: 0 finite, 1 infinity, 2 not-a-number.
+fn kind_of(width: Width, pattern: u64) -> u64 {
+    let infinity = width.greatest_field() << width.fraction_bits();
+    let ordinal = width.ordinal(pattern);
+    (ordinal >= infinity) as u64 + (ordinal > infinity) as u64
 }

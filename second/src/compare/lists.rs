@@ -3,10 +3,11 @@
 use super::call::{Call, List};
 use super::damage::small_streams;
 use super::judge::Judge;
-use super::random::{allowed_k, some_k, some_length, some_patterns, XorShift, WIDTHS};
+use super::random::{allowed_k, some_length, XorShift, WIDTHS};
 use super::readings::{probe_at, read, read_at_levels};
 use super::rules::edge_patterns;
-use super::streams::{bytes_of, need};
+use super::streams::{bytes_of, need, MODES};
+use super::walks::{some_k_of_mode, some_patterns_of_mode};
 use super::{reference, Extent};
 use crate::numbers::Width;
 use crate::stream::{HIGHEST_LEVEL, MOST_VALUES};
@@ -32,7 +33,7 @@ impl Setting {
     fn some_list(&self, rng: &mut XorShift, n: usize) -> List {
         // Where k is not allowed the values may lie anywhere.
         let k = self.k.clamp(*allowed_k(self.width).start(), *allowed_k(self.width).end());
-        List::of(self.width, some_patterns(rng, self.width, k, n))
+        List::of(self.width, some_patterns_of_mode(rng, self.width, self.mode, k, n))
     }
 }
 
@@ -72,12 +73,28 @@ const EDGES_OF_K: [i32; 30] = [
 
 /// Every level, mode and edge of k, allowed or not, with a short list.
 pub fn settings(judge: &mut Judge, rng: &mut XorShift, _: Extent) {
+    needs(judge, rng);
     for level in (0..=20).chain(FAR_NUMBERS) {
         for mode in (0..=3).chain(FAR_NUMBERS) {
             for k in EDGES_OF_K {
                 for width in WIDTHS {
                     try_setting(judge, rng, Setting { width, level, mode, k });
                 }
+            }
+        }
+    }
+}
+
+/// Every mode at every level that there is: refused 2 below its need.
+fn needs(judge: &mut Judge, rng: &mut XorShift) {
+    for level in 8..=HIGHEST_LEVEL {
+        for width in WIDTHS {
+            for (mode, k) in MODES {
+                let setting = Setting { width, level, mode, k };
+                let list = setting.some_list(rng, 3);
+                let number = if need(width, mode) > level { 2 } else { 0 };
+                judge.compare_meant(setting.length(&list), number);
+                judge.compare_meant(setting.pack(&list, 100), number);
             }
         }
     }
@@ -94,14 +111,14 @@ fn try_setting(judge: &mut Judge, rng: &mut XorShift, setting: Setting) {
 // ------------------------------------------------------------ the lists
 
 /// Every length around the edges of groups and chunks, each with both widths
-/// and both modes, read back at every level.
+/// and every mode, read back at every level.
 pub fn every_length(judge: &mut Judge, rng: &mut XorShift, extent: Extent) {
     let short = 0..=70;
     let edges = [95, 96, 97, 127, 128, 129, 255, 256, 257, 991, 992, 993];
     let long = (1022..=1027).chain(1055..=1057).chain(2046..=2051).chain(3071..=3073);
     for n in short.chain(edges).chain(long) {
         for width in WIDTHS {
-            for mode in [0, 1] {
+            for (mode, _) in MODES {
                 for _ in 0..extent.rounds(1).min(3) {
                     let setting = some_setting(rng, width, mode);
                     let list = setting.some_list(rng, n);
@@ -114,7 +131,7 @@ pub fn every_length(judge: &mut Judge, rng: &mut XorShift, extent: Extent) {
 
 /// An allowed setting, but for a level that is now and then too low.
 fn some_setting(rng: &mut XorShift, width: Width, mode: u32) -> Setting {
-    let k = if mode == 0 { 0 } else { some_k(rng, width) };
+    let k = some_k_of_mode(rng, width, mode);
     let need = need(width, mode);
     let level = need + rng.below((HIGHEST_LEVEL - need + 1) as u64) as u32;
     let level = if rng.chance(40) { 8 } else { level };
@@ -127,10 +144,10 @@ fn there_and_back(judge: &mut Judge, rng: &mut XorShift, setting: Setting, list:
         return;
     };
     if list.values().count() <= 70 {
-        read_at_levels(judge, &[7, 8, 9, 10, 11], &stream);
+        read_at_levels(judge, &[7, 8, 9, 10, 11, 12], &stream);
     } else {
-        let other = rng.one_of(&[7, 8, 9, 11, 20, 1 << 31, u32::MAX]);
-        read_at_levels(judge, &[10, other], &stream);
+        let other = rng.one_of(&[7, 8, 9, 10, 12, 20, 1 << 31, u32::MAX]);
+        read_at_levels(judge, &[HIGHEST_LEVEL, other], &stream);
     }
     let n = list.values().count() as u64;
     let indices: Vec<u64> = (0..n.min(4)).map(|_| rng.below(n)).collect();
@@ -138,8 +155,8 @@ fn there_and_back(judge: &mut Judge, rng: &mut XorShift, setting: Setting, list:
 }
 
 pub fn random_lists(judge: &mut Judge, rng: &mut XorShift, extent: Extent) {
-    for _ in 0..extent.rounds(4000) {
-        let (width, mode) = (rng.one_of(&WIDTHS), rng.below(2) as u32);
+    for _ in 0..extent.rounds(5000) {
+        let (width, mode) = (rng.one_of(&WIDTHS), rng.below(3) as u32);
         let setting = some_setting(rng, width, mode);
         let n = if rng.chance(50) { 3000 + rng.below(6000) as usize } else { some_length(rng) };
         let list = setting.some_list(rng, n);
@@ -177,7 +194,7 @@ pub fn every_level(judge: &mut Judge, _: &mut XorShift, _: Extent) {
 
 /// The longest lists, one value more, and a stream that states one more.
 pub fn value_limit(judge: &mut Judge, rng: &mut XorShift, extent: Extent) {
-    for (width, mode, k) in [(WIDTHS[0], 0, 0), (WIDTHS[1], 1, -20)] {
+    for (width, mode, k) in [(WIDTHS[0], 0, 0), (WIDTHS[1], 1, -20), (WIDTHS[0], 2, 0)] {
         let setting = Setting { width, level: HIGHEST_LEVEL, mode, k };
         longest_list(judge, rng, setting);
         let more = List::of(width, (0..=MOST_VALUES).map(|_| 0));
@@ -194,17 +211,16 @@ pub fn value_limit(judge: &mut Judge, rng: &mut XorShift, extent: Extent) {
 
 fn longest_list(judge: &mut Judge, rng: &mut XorShift, setting: Setting) {
     let n = MOST_VALUES as usize;
-    let patterns: Vec<u64> =
-        (0..n / 1024).flat_map(|_| some_patterns(rng, setting.width, setting.k, 1024)).collect();
-    let list = List::of(setting.width, patterns);
+    let Setting { width, level, mode, k } = setting;
+    let of_chunk = |_| some_patterns_of_mode(rng, width, mode, k, 1024);
+    let patterns: Vec<u64> = (0..n / 1024).flat_map(of_chunk).collect();
+    let list = List::of(width, patterns);
     let length = judge.compare(setting.length(&list)) as usize;
     judge.compare(setting.pack(&list, length));
     judge.compare(setting.pack(&list, length - 1));
-    let Some(stream) = reference::packed(setting.level, setting.mode, setting.k, list.values())
-    else {
+    let Some(stream) = reference::packed(level, mode, k, list.values()) else {
         return;
     };
-    let (width, level) = (setting.width, setting.level);
     judge.compare(Call::Check { level, stream: &stream });
     for room in [n, n - 1] {
         judge.compare(Call::Unpack { width, level, stream: &stream, room });

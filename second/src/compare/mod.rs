@@ -5,9 +5,10 @@
 //!   [`operations`]: what an implementation offers, and makes of a call.
 //! * [`caller`]: a library at the other end of a pipe.
 //! * [`judge`]: compares and counts; `shrink`: shortens a differing input.
-//! * [`random`]: the seeded generator of patterns and lists.
+//! * [`random`]: the seeded generator of patterns and lists; `walks`: lists
+//!   that suit mode 2.
 //! * `known`, `rules`, `lists`, `orders`, `damage`, `tables`, `groups`,
-//!   `places`: the sections, each a source of calls.
+//!   `places`, `differences`: the sections, each a source of calls.
 //! * [`listings`]: the inputs for the listing program, which is run apart.
 
 pub mod call;
@@ -21,6 +22,7 @@ pub mod random;
 pub mod reference;
 
 mod damage;
+mod differences;
 mod groups;
 mod lists;
 mod orders;
@@ -30,6 +32,7 @@ mod rules;
 mod shrink;
 mod streams;
 mod tables;
+mod walks;
 
 use judge::{Judge, Library};
 use random::XorShift;
@@ -65,7 +68,7 @@ pub struct Options {
 
 type Section = (&'static str, fn(&mut Judge, &mut XorShift, Extent));
 
-const SECTIONS: [Section; 22] = [
+const SECTIONS: [Section; 23] = [
     ("known values", known::known_values),
     ("lossless codes", rules::lossless_codes),
     ("tolerance codes", rules::tolerance_codes),
@@ -88,13 +91,15 @@ const SECTIONS: [Section; 22] = [
     ("groups", groups::groups),
     ("random damage", damage::random_damage),
     ("the first bad group", places::places),
+    ("differences", differences::differences),
 ];
 
-const BRIEF_SECTIONS: [Section; 4] = [
+const BRIEF_SECTIONS: [Section; 5] = [
     ("lists for every k", lists::every_k),
     ("random lists", lists::random_lists),
     ("random damage", damage::random_damage),
     ("the first bad group", places::places),
+    ("differences", differences::differences),
 ];
 
 /// Runs every section and writes what was compared; answers whether nothing
@@ -105,7 +110,7 @@ pub fn run(options: &Options, library: Library, out: &mut dyn Write) -> bool {
     judge.finish()
 }
 
-/// Puts some eighty thousand calls with random lists and damaged streams to an
+/// Puts some 130,000 calls with random lists and damaged streams to an
 /// implementation of the operations, in a second or two; writes how it differs
 /// from the reference, and answers whether it never does.
 pub fn run_briefly(library: Library, out: &mut dyn Write) -> bool {

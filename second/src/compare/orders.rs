@@ -267,12 +267,5 @@ fn sound_readings() -> Vec<Reading> {
 fn sound_chunks(n: u32) -> Vec<Vec<u8>> {
     let mut codes = vec![0; n as usize];
     codes[0] = 255;
-    let groups = |chunk: &[u64]| {
-        let bytes = chunk.chunks(32).map(|codes| {
-            let w = if codes[0] == 0 { 0 } else { 8 };
-            group(w, codes)
-        });
-        bytes.collect::<Vec<_>>().concat()
-    };
-    codes.chunks(VALUES_IN_CHUNK as usize).map(groups).collect()
+    chunks_of_codes(&codes)
 }

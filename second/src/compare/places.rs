@@ -27,7 +27,7 @@ const LEAST_DETAILS: usize = (32 + 32 + 3) + (32 + 32 + 2);
 
 pub fn places(judge: &mut Judge, rng: &mut XorShift, extent: Extent) {
     for width in WIDTHS {
-        for (mode, k) in [(0, 0), (1, -2)] {
+        for (mode, k) in MODES {
             let setting = Setting { width, mode, k };
             every_byte_altered(judge, rng, extent, setting);
             one_fault(judge, rng, setting);
@@ -37,7 +37,9 @@ pub fn places(judge: &mut Judge, rng: &mut XorShift, extent: Extent) {
             chunks_cut(judge, rng, setting);
             starts_moved(judge, rng, setting);
         }
-        late_chunks(judge, rng, Setting { width, mode: 1, k: -2 });
+        for (mode, k) in [(1, -2), (2, 0)] {
+            late_chunks(judge, rng, Setting { width, mode, k });
+        }
     }
     judge.require_details_of_10(LEAST_DETAILS);
 }
@@ -184,7 +186,7 @@ const FAULTS: [Fault; 7] = [
 impl Fault {
     /// Whether the group of this number in a chunk can have the fault. A chunk
     /// without any byte is the table's fault; eight codes fill their bytes, so
-    /// whole groups have no padding; and in mode 0 no code is too large.
+    /// whole groups have no padding; and in modes 0 and 2 no code is too large.
     fn possible(self, setting: Setting, values: usize, number: usize) -> bool {
         match self {
             Fault::WidthByteMissing => number > 0,
@@ -401,11 +403,13 @@ fn starts_moved(judge: &mut Judge, rng: &mut XorShift, setting: Setting) {
 pub fn streams_with_bad_group() -> Vec<Vec<u8>> {
     let mut streams = Vec::new();
     for width in WIDTHS {
-        let setting = Setting { width, mode: 1, k: -2 };
-        for (chunk, values) in THREE_CHUNKS.into_iter().enumerate() {
-            for number in 0..groups_in(values) {
-                let fault = one_fault_of(setting, values, number);
-                streams.push(stream_with(setting, &THREE_CHUNKS, &[((chunk, number), fault)]));
+        for (mode, k) in [(1, -2), (2, 0)] {
+            let setting = Setting { width, mode, k };
+            for (chunk, values) in THREE_CHUNKS.into_iter().enumerate() {
+                for number in 0..groups_in(values) {
+                    let fault = one_fault_of(setting, values, number);
+                    streams.push(stream_with(setting, &THREE_CHUNKS, &[((chunk, number), fault)]));
+                }
             }
         }
     }

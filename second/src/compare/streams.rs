@@ -1,7 +1,7 @@
 //! Streams made up by hand: a sound header and sound tables around any bytes,
 //! and single numbers put in place of others.
 
-use crate::numbers::Width;
+use crate::numbers::{bit_length, Width};
 use crate::stream::HIGHEST_LEVEL;
 
 /// The header numbers, by their order.
@@ -100,6 +100,22 @@ impl Draft {
         append_sides(&mut stream, &self.sides);
         stream
     }
+}
+
+/// A sound stream of these codes, if all of them are allowed.
+pub fn stream_of_codes(width: Width, mode: u32, k: i32, codes: &[u64]) -> Vec<u8> {
+    let (n, chunks) = (codes.len() as u32, chunks_of_codes(codes));
+    Draft { width, mode, k, n, chunks, sides: vec![] }.stream()
+}
+
+/// The chunks of these codes, each group with the smallest width.
+pub fn chunks_of_codes(codes: &[u64]) -> Vec<Vec<u8>> {
+    let smallest = |codes: &[u64]| {
+        let largest = codes.iter().copied().max().unwrap_or(0);
+        group(bit_length(largest) as u8, codes)
+    };
+    let groups = |chunk: &[u64]| chunk.chunks(32).flat_map(smallest).collect();
+    codes.chunks(VALUES_IN_CHUNK as usize).map(groups).collect()
 }
 
 /// Each chunk's start, counted from the data.

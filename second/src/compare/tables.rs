@@ -18,7 +18,7 @@ fn three_chunks(width: Width, mode: u32, sides: Vec<Side>) -> Vec<u8> {
     let mut codes = [0; 32];
     codes[9] = 4;
     middle.extend(group(3, &codes));
-    let k = if mode == 0 { 0 } else { -2 };
+    let k = if mode == 1 { -2 } else { 0 };
     let chunks = vec![vec![0; 32], middle, group(2, &[3])];
     Draft { width, mode, k, n: 2049, chunks, sides }.stream()
 }
@@ -42,7 +42,7 @@ pub fn chunk_tables(judge: &mut Judge, rng: &mut XorShift, extent: Extent) {
     }
     for _ in 0..extent.rounds(500) {
         let sides = if rng.chance(2) { some_sides(rng) } else { vec![] };
-        let stream = three_chunks(rng.one_of(&WIDTHS), rng.below(2) as u32, sides);
+        let stream = three_chunks(rng.one_of(&WIDTHS), rng.below(3) as u32, sides);
         let (order, start) = (rng.one_of(&[12, 13, 14]), rng.one_of(&some_starts(&stream)));
         read(judge, HIGHEST_LEVEL, &with(&stream, &[(order, start)]));
     }
@@ -74,16 +74,18 @@ fn some_starts(stream: &[u8]) -> [u32; 14] {
 /// Chunks without data, and data without chunks.
 fn empty_data(judge: &mut Judge) {
     for width in WIDTHS {
-        let draft = |n, chunks: Vec<Vec<u8>>| {
-            Draft { width, mode: 0, k: 0, n, chunks, sides: vec![] }.stream()
-        };
-        read(judge, HIGHEST_LEVEL, &draft(1, vec![vec![]]));
-        read(judge, HIGHEST_LEVEL, &draft(1025, vec![vec![], vec![]]));
-        read(judge, HIGHEST_LEVEL, &draft(1025, vec![vec![0; 32], vec![]]));
-        let mut stream = draft(0, vec![]);
-        stream.push(0);
-        put(&mut stream, DATA_END, 49);
-        read(judge, HIGHEST_LEVEL, &stream);
+        for (mode, k) in MODES {
+            let draft = |n, chunks: Vec<Vec<u8>>| {
+                Draft { width, mode, k, n, chunks, sides: vec![] }.stream()
+            };
+            read(judge, HIGHEST_LEVEL, &draft(1, vec![vec![]]));
+            read(judge, HIGHEST_LEVEL, &draft(1025, vec![vec![], vec![]]));
+            read(judge, HIGHEST_LEVEL, &draft(1025, vec![vec![0; 32], vec![]]));
+            let mut stream = draft(0, vec![]);
+            stream.push(0);
+            put(&mut stream, DATA_END, 49);
+            read(judge, HIGHEST_LEVEL, &stream);
+        }
     }
 }
 
