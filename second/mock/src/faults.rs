@@ -41,11 +41,43 @@ faults! {
     /// Bound looks at the tolerance before the width.
     order_12_before_2,
 
+    // Mode 2.
+    /// The difference goes on from the chunk before, when packed and unpacked.
+    not_restarted_at_chunk,
+    /// It begins anew at each group, when packed and unpacked.
+    restarted_at_group,
+    /// Differences of more than W bits become the nearest of W bits.
+    difference_saturates,
+    /// The difference -2^(W-1) is coded as 0.
+    least_difference_is_0,
+    /// Codes of W bits are folded once more, as source document 001 does.
+    second_fold,
+    /// What is before a group is lost where the group before it has no bits.
+    carry_lost_after_empty_group,
+    /// A group of no bits is read as zeros.
+    empty_group_is_zeros,
+    /// Probe adds up its own group alone.
+    probe_from_group_start,
+    /// Probe goes on from the chunk before.
+    probe_from_chunk_before,
+    /// Check and unpack know a largest u in mode 2, too, that of k = 0.
+    largest_u_in_mode_2,
+    /// Mode 2 needs 10.
+    difference_needs_10,
+    /// Mode 2 of width 64 needs 10, as width 64 does.
+    need_of_width_64_first,
+    /// Mode 2 is packed at level 10, too.
+    difference_packed_at_10,
+    /// Any k is packed in mode 2.
+    any_k_packed,
+    /// Any k is read in mode 2.
+    any_k_read,
+
     // Pack and length.
     /// Refusal 4 has the room as its detail.
     detail_of_4,
-    /// The written minor is 10 at any level.
-    written_is_10,
+    /// The written minor is 11 at any level.
+    written_is_11,
     /// The needed minor is the level.
     need_is_level,
     /// 1,048,576 values are refused.
@@ -56,11 +88,11 @@ faults! {
     order_4_before_3,
 
     // Reading.
-    /// Level 11 is known.
-    level_11_known,
-    /// A need of 10 counts as 0, its last digit.
+    /// Level 12 is known.
+    level_12_known,
+    /// A need of 10 or 11 counts as its last digit.
     minor_by_last_digit,
-    /// A written minor above 10 is refused 8.
+    /// A written minor above 11 is refused 8.
     written_limited,
     /// Padding bits are not looked at.
     padding_ignored,

@@ -1,8 +1,9 @@
-//! A stand-in for the linked library: the same C functions over the plain
-//! version and the reference, with one fault planted if the environment
-//! variable FAULT names one. It exists to try the comparison harness.
+//! A stand-in for the linked library: the same C functions over the reference,
+//! with one fault planted if the environment variable FAULT names one. It
+//! exists to try the comparison harness.
 
 mod codes;
+mod differences;
 mod faults;
 mod naming;
 mod packing;
@@ -10,11 +11,11 @@ mod reading;
 
 use faults::{planted, Fault};
 use second::numbers::{Tolerance, Width, WIDTH_32, WIDTH_64};
-use second::{plain, stream, Refusal};
+use second::{stream, Refusal};
 use std::slice::{from_raw_parts, from_raw_parts_mut};
 
 /// A pattern or code of one of the widths.
-trait Word: plain::Lane + stream::Pattern + PartialEq {}
+trait Word: stream::Pattern + Default {}
 impl Word for u32 {}
 impl Word for u64 {}
 

@@ -2,7 +2,7 @@
 
 use crate::faults::{planted, Fault};
 use crate::reading::{count, number, put, stretch};
-use second::plain;
+use second::stream::{check, HIGHEST_LEVEL};
 
 /// The detail a planted fault gives in place of the right one.
 pub fn named(stream: &[u8], detail: usize) -> usize {
@@ -96,5 +96,5 @@ fn holds_alone(stream: &[u8], count: usize, group: &[u8]) -> bool {
     }
     alone.extend([0; 4]);
     alone.extend(group);
-    plain::check(10, &alone).is_ok()
+    check(HIGHEST_LEVEL, &alone).is_ok()
 }

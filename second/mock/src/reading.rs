@@ -3,12 +3,11 @@
 //! A fault that reads what should be refused is planted by mending the stream
 //! first; one that refuses otherwise, by changing the refusal afterwards.
 
-use crate::codes;
 use crate::faults::{planted, Fault};
-use crate::{naming, Word};
+use crate::{codes, differences, naming, Word};
 use second::numbers::{bit_length, Tolerance, Width};
-use second::stream::{self, Probed};
-use second::{plain, Answer, Refusal};
+use second::stream::{self, Probed, HIGHEST_LEVEL};
+use second::{Answer, Refusal};
 use std::ops::Range;
 
 pub fn number(stream: &[u8], order: usize) -> u32 {
@@ -22,6 +21,10 @@ pub fn put(stream: &mut [u8], order: usize, number: u32) {
 
 pub fn count(stream: &[u8]) -> u64 {
     number(stream, 6) as u64
+}
+
+pub fn numbers_of<P: Word>(values: &[P]) -> Vec<u64> {
+    values.iter().map(|value| value.number()).collect()
 }
 
 // --------------------------------------------------------- operations
@@ -45,7 +48,7 @@ pub fn check(level: u32, stream: &[u8]) -> Answer {
 pub fn unpack<P: Word>(level: u32, stream: &[u8], out: &mut [P]) -> Answer {
     let (level, mended) = faced(level, stream);
     let mut values = out.to_vec();
-    let answer = plain::unpack(level, &mended, &mut values).and_then(|n| {
+    let answer = stream::unpack(level, &mended, &mut values).and_then(|n| {
         codes_allowed(&mended, &values[..n as usize])?;
         Ok(n)
     });
@@ -75,19 +78,19 @@ pub fn unpack<P: Word>(level: u32, stream: &[u8], out: &mut [P]) -> Answer {
 pub fn probe<P: Word>(level: u32, stream: &[u8], index: u64) -> Result<(u64, u64), Refusal> {
     let (level, mended) = faced(level, stream);
     let index = if planted(Fault::index_in_32_bits) { index as u32 as u64 } else { index };
-    let answer = match stream::probe::<P>(level, &mended, index) {
-        Probed::Refused(refusal) => Err(refusal),
-        Probed::Finite(pattern) => Ok((0, pattern.number())),
-        Probed::Infinity { negative } => Ok((1, infinity(P::WIDTH, negative))),
-        Probed::NotANumber(pattern) => Ok((2, quiet(P::WIDTH, pattern.number()))),
-    };
-    let answer = answer.and_then(|(kind, pattern)| {
-        let allowed = codes_allowed(&mended, &[P::of_number(pattern)]);
-        allowed.map_err(|_| Refusal::with_detail(10, index / 32))?;
-        Ok((kind, restored(&mended, pattern)))
+    let answer = pattern_at::<P>(level, &mended, index).and_then(|pattern| {
+        let pattern = match number(&mended, 4) {
+            2 => probed_difference::<P>(level, &mended, index, pattern)?,
+            _ => {
+                let allowed = codes_allowed(&mended, &[P::of_number(pattern)]);
+                allowed.map_err(|_| Refusal::with_detail(10, index / 32))?;
+                restored(&mended, pattern)
+            }
+        };
+        Ok(told_apart(P::WIDTH, pattern))
     });
     if planted(Fault::probe_all_chunks) && answer.is_ok() {
-        plain::check(level, &mended)?;
+        stream::check(level, &mended)?;
     }
     let beyond = index >= count(stream);
     match answer.map_err(|refusal| refusal.number) {
@@ -105,8 +108,35 @@ pub fn probe<P: Word>(level: u32, stream: &[u8], index: u64) -> Result<(u64, u64
     }
 }
 
+/// The pattern of a value, or the refusal.
+fn pattern_at<P: Word>(level: u32, stream: &[u8], index: u64) -> Result<u64, Refusal> {
+    match stream::probe::<P>(level, stream, index) {
+        Probed::Refused(refusal) => Err(refusal),
+        Probed::Finite(pattern) | Probed::NotANumber(pattern) => Ok(pattern.number()),
+        Probed::Infinity { negative } => Ok(infinity(P::WIDTH, negative)),
+    }
+}
+
+/// What a planted fault of mode 2 makes of a probed pattern.
+fn probed_difference<P: Word>(
+    level: u32,
+    stream: &[u8],
+    index: u64,
+    pattern: u64,
+) -> Result<u64, Refusal> {
+    let (group, chunk) = (index / 32 * 32, index / 1024 * 1024);
+    let faulty = if planted(Fault::probe_from_group_start) && group > chunk {
+        pattern.wrapping_sub(pattern_at::<P>(level, stream, group - 1)?)
+    } else if planted(Fault::probe_from_chunk_before) && chunk > 0 {
+        pattern.wrapping_add(pattern_at::<P>(level, stream, chunk - 1)?)
+    } else {
+        pattern
+    };
+    Ok(P::of_number(faulty).number())
+}
+
 fn refused_tables(level: u32, stream: &[u8]) -> bool {
-    plain::check(level, stream) == Err(Refusal::bare(9))
+    stream::check(level, stream) == Err(Refusal::bare(9))
 }
 
 // ---------------------------------------------- refusals changed afterwards
@@ -114,7 +144,7 @@ fn refused_tables(level: u32, stream: &[u8]) -> bool {
 /// What a planted fault makes of a reader's answer.
 fn changed(level: u32, stream: &[u8], answer: Answer) -> Answer {
     let Err(refusal) = answer else {
-        let limited = planted(Fault::written_limited) && number(stream, 1) > 10;
+        let limited = planted(Fault::written_limited) && number(stream, 1) > HIGHEST_LEVEL;
         return if limited { Err(Refusal::bare(8)) } else { answer };
     };
     let changed = match refusal.number {
@@ -155,8 +185,12 @@ fn equal_starts(stream: &[u8]) -> Option<u64> {
 // ---------------------------------------------------- what success leaves
 
 fn touch_values<P: Word>(stream: &[u8], out: &mut [P], n: usize) {
-    for value in &mut out[..n] {
-        *value = P::of_number(restored(stream, value.number()));
+    let mut patterns: Vec<u64> = numbers_of(&out[..n]);
+    if number(stream, 4) == 2 {
+        patterns = differences::as_read(P::WIDTH, &patterns);
+    }
+    for (value, pattern) in out.iter_mut().zip(patterns) {
+        *value = P::of_number(restored(stream, pattern));
     }
     if planted(Fault::first_chunk_only) && n > 1024 {
         out[1024..n].fill(P::default());
@@ -174,9 +208,21 @@ fn restored(stream: &[u8], pattern: u64) -> u64 {
     }
 }
 
+/// Probe's answer, and the pattern.
+fn told_apart(width: Width, pattern: u64) -> (u64, u64) {
+    let ordinal = width.ordinal(pattern);
+    if codes::is_nan(width, pattern) {
+        (2, quiet(width, pattern))
+    } else if ordinal == infinity(width, false) {
+        let sign = if planted(Fault::infinity_without_sign) { 0 } else { width.sign(pattern) };
+        (1, infinity(width, sign == 1))
+    } else {
+        (0, pattern)
+    }
+}
+
 fn infinity(width: Width, negative: bool) -> u64 {
-    let sign = negative && !planted(Fault::infinity_without_sign);
-    width.greatest_field() << width.fraction_bits() | (sign as u64) << (width.bits() - 1)
+    width.greatest_field() << width.fraction_bits() | (negative as u64) << (width.bits() - 1)
 }
 
 fn quiet(width: Width, pattern: u64) -> u64 {
@@ -188,21 +234,28 @@ fn quiet(width: Width, pattern: u64) -> u64 {
 
 /// Refusal 10 for the first group with a code that a planted fault refuses.
 fn codes_allowed<P: Word>(stream: &[u8], values: &[P]) -> Result<(), Refusal> {
-    let k = number(stream, 5) as i32;
-    let tolerance = Tolerance::allowed(P::WIDTH, k).filter(|_| number(stream, 4) == 1);
-    let refused =
-        |value: &P| tolerance.is_some_and(|t| codes::is_refused_code(t, t.code(value.number())));
-    match values.iter().position(refused) {
+    let refused = match number(stream, 4) {
+        1 => first_refused(number(stream, 5) as i32, values),
+        2 => differences::first_refused(P::WIDTH, &numbers_of(values)),
+        _ => None,
+    };
+    match refused {
         Some(index) => Err(Refusal::with_detail(10, index as u64 / 32)),
         None => Ok(()),
     }
 }
 
+/// The first value in mode 1 whose code is refused.
+fn first_refused<P: Word>(k: i32, values: &[P]) -> Option<usize> {
+    let t = Tolerance::allowed(P::WIDTH, k)?;
+    values.iter().position(|value| codes::is_refused_code(t, t.code(value.number())))
+}
+
 /// The same for a stream whose values nobody has asked for.
 fn checked<P: Word>(level: u32, stream: &[u8]) -> Answer {
-    let n = plain::check(level, stream)?;
+    let n = stream::check(level, stream)?;
     let mut values = vec![P::default(); n as usize];
-    plain::unpack(level, stream, &mut values)?;
+    stream::unpack(level, stream, &mut values)?;
     codes_allowed(stream, &values)?;
     Ok(n)
 }
@@ -211,20 +264,48 @@ fn checked<P: Word>(level: u32, stream: &[u8]) -> Answer {
 
 /// Level and stream as a planted fault sees them.
 fn faced(level: u32, stream: &[u8]) -> (u32, Vec<u8>) {
-    let mut level = level;
-    if planted(Fault::level_11_known) && level == 11 {
-        level = 10;
-    }
-    let need_of_0 = number(stream, 2) == 10 && (8..10).contains(&level);
-    if planted(Fault::minor_by_last_digit) && need_of_0 {
-        level = 10;
-    }
-    let mended = match plain::check(level, stream).map_err(|refusal| refusal.number) {
-        Err(9) => without_sides(stream),
-        Err(10) => rebuilt(stream),
+    let (level, stream) = faced_header(faced_level(level, number(stream, 2)), stream);
+    let mended = match stream::check(level, &stream).map_err(|refusal| refusal.number) {
+        Err(9) => without_sides(&stream),
+        Err(10) => rebuilt(&stream),
         _ => None,
     };
-    (level, mended.unwrap_or_else(|| stream.to_vec()))
+    (level, mended.unwrap_or(stream))
+}
+
+fn faced_level(level: u32, need: u32) -> u32 {
+    let of_two_digits = (8..=11).contains(&level) && (10..=11).contains(&need);
+    match level {
+        12 if planted(Fault::level_12_known) => 11,
+        _ if planted(Fault::minor_by_last_digit) && of_two_digits => level.max(need),
+        _ => level,
+    }
+}
+
+/// Level and stream such that a mode 2 of another need, or of any k, is read.
+fn faced_header(level: u32, stream: &[u8]) -> (u32, Vec<u8>) {
+    let mut stream = stream.to_vec();
+    let in_mode_2 = stream.len() >= 48 && number(&stream, 4) == 2;
+    let Some(width) = Width::numbered(number(&stream, 3)).filter(|_| in_mode_2) else {
+        return (level, stream);
+    };
+    if planted(Fault::any_k_read) {
+        put(&mut stream, 5, 0);
+    }
+    let (written, need) = (number(&stream, 1), number(&stream, 2));
+    let known = (8..=11).contains(&level) && need <= level;
+    match need {
+        10 if known && differences::need(width) == 10 => {
+            put(&mut stream, 1, if written == 10 { 11 } else { written });
+            put(&mut stream, 2, 11);
+            (11, stream)
+        }
+        11 if known && differences::need(width) == 10 => {
+            put(&mut stream, 2, 10);
+            (level, stream)
+        }
+        _ => (level, stream),
+    }
 }
 
 /// The stream without its side table and parts, if a planted fault lets the
