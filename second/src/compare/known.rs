@@ -86,14 +86,8 @@ pub fn known_values(judge: &mut Judge, _: &mut XorShift, _: Extent) {
     }
     lengths(judge);
     example(judge);
-    for (width, lists) in [(WIDTH_32, &DIFFERENCES_32[..]), (WIDTH_64, &DIFFERENCES_64)] {
-        for (patterns, codes) in lists {
-            let stream = stream_of_codes(width, 2, 0, codes);
-            let patterns = patterns.to_vec();
-            KnownList { width, level: HIGHEST_LEVEL, mode: 2, patterns, stream }.compare(judge);
-        }
-        difference_levels(judge, width);
-    }
+    differences(judge, WIDTH_32, &DIFFERENCES_32);
+    differences(judge, WIDTH_64, &DIFFERENCES_64);
     example_of_differences(judge);
 }
 
@@ -133,6 +127,15 @@ fn example(judge: &mut Judge) {
     stream.extend([0x03, 0x10, 0x01]);
     let patterns = vec![0, 0x8000_0000, 1];
     KnownList { width: WIDTH_32, level: 8, mode: 0, patterns, stream }.compare(judge);
+}
+
+fn differences(judge: &mut Judge, width: Width, lists: &[Differences]) {
+    for (patterns, codes) in lists {
+        let stream = stream_of_codes(width, 2, 0, codes);
+        let patterns = patterns.to_vec();
+        KnownList { width, level: HIGHEST_LEVEL, mode: 2, patterns, stream }.compare(judge);
+    }
+    difference_levels(judge, width);
 }
 
 /// The list 5, 7, 7, 4 in mode 2, byte for byte; and 1,025 sevens, of which the

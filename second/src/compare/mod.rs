@@ -5,7 +5,7 @@
 //!   [`operations`]: what an implementation offers, and makes of a call.
 //! * [`caller`]: a library at the other end of a pipe.
 //! * [`judge`]: compares and counts; `shrink`: shortens a differing input.
-//! * [`random`]: the seeded generator of patterns and lists; `walks`: lists
+//! * [`random`]: the seeded generator of patterns and lists; [`walks`]: lists
 //!   that suit mode 2.
 //! * `known`, `rules`, `lists`, `orders`, `damage`, `tables`, `groups`,
 //!   `places`, `differences`: the sections, each a source of calls.
@@ -20,6 +20,7 @@ pub mod operations;
 pub mod outcome;
 pub mod random;
 pub mod reference;
+pub mod walks;
 
 mod damage;
 mod differences;
@@ -32,7 +33,6 @@ mod rules;
 mod shrink;
 mod streams;
 mod tables;
-mod walks;
 
 use judge::{Judge, Library};
 use random::XorShift;

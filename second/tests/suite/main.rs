@@ -4,6 +4,7 @@ mod bench;
 mod big;
 mod caller;
 mod damage;
+mod differences;
 mod example;
 mod harness;
 mod known;
