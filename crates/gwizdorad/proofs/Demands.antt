@@ -27,7 +27,7 @@ use Rattle.gwizdorad_numbers.proofs.Theorems.{a-refused-code-is-not-written, a-
 use Rattle.gwizdorad.specs.Result.{probeOut32, probeOut64}
 use Rattle.gwizdorad.specs.Demands.{Demand1, ComesBack, Packed, Demand2, Offered, ReadBack, given-back, too-new, Demand3}
 use Rattle.gwizdorad.proofs.Theorems.{probe32-leaves-what-unpack-leaves, probe64-leaves-what-unpack-leaves}
-use Rattle.gwizdorad.proofs.Law.Demand.{coded-at, code-refused, pattern-refused, pattern-above, bound-detail, unknown-width, lossless-at, within-at, bound-at, offered, is-sent, as-many, come-back}
+use Rattle.gwizdorad.proofs.Law.Demand.{coded-at, code-refused, pattern-refused, pattern-above, bound-detail, unknown-width, lossless-at, differences-at, within-at, bound-at, offered, is-sent, as-many, come-back}
 
 pub demand-1 : Demand1
 unfolding probeOut32 probeOut64
@@ -68,6 +68,7 @@ demand-2 =
       probe64 = λ L s back n i old bytes done below.
           (probe-as-unpack64 L s back n i done below, probe64-leaves-what-unpack-leaves L s bytes back n i old done below);
       lossless = λ W p. lossless-at p W;
+      differences = differences-at;
       coded = coded-at;
       within = within-at;
       bound = λ W t. bound-at t W;

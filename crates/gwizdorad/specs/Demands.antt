@@ -14,6 +14,7 @@ use lib.Ieee.{Format, binary32, binary64}
 use lib.ListN.{length, take, drop, getD, replicate}
 use Rattle.bins.specs.Tolerance.{allowedK, binOf, toleranceCode, largestU}
 use Rattle.numbers.specs.Lossless.{losslessCode, losslessRestored}
+use Rattle.numbers.specs.Difference.{differenceCodes, runningSums}
 use Rattle.numbers.specs.Answers.{codeAnswer, codeNumber, patternAnswer, patternNumber}
 use Rattle.numbers.specs.Bound.{boundAnswer, boundNumber, boundDetail}
 use Rattle.numbers.specs.Theorem.{Returned, BoundFor}
@@ -21,7 +22,7 @@ use Rattle.numbers.specs.declared.bound.BoundAnswer.the-variants.{UnknownWidth}
 use Rattle.numbers.specs.declared.tolerance.CodeAnswer.the-variants as code
 use Rattle.numbers.specs.declared.tolerance.PatternAnswer.the-variants as pattern
 use Rattle.blocks.specs.Bytes.{Below}
-use Rattle.stream.specs.Setting.{knownLevel, knownWidth, fractionBits, allowedSetting, settingOf, need}
+use Rattle.stream.specs.Setting.{knownLevel, knownWidth, fractionBits, losslessMode, allowedSetting, settingOf, need}
 use Rattle.stream.specs.Rows.{Decides, numbersOf}
 use Rattle.stream.specs.Header.{headerOf, chunksIn}
 use Rattle.stream.specs.Writing.{stream, Side, addSides, WellFormedSides}
@@ -86,10 +87,10 @@ pub record Demand1 : Type 0 where
 unfoldable pub formatOf : ℕ → Format
 formatOf W = cond (eqb W 32) binary32 binary64
 
--- How a pattern p comes back as q. `Returned` is the tolerance in the words of IEEE 754. It counts in units of 2^-149 or 2^-1074, where the bin
+-- How a pattern p comes back as q: in the modes 0 and 2, which `losslessMode` names, as itself. `Returned` is the tolerance in the words of IEEE 754. It counts in units of 2^-149 or 2^-1074, where the bin
 -- E = 2^(k+1) is 2 ^ binOf: twice the distance is at most E, so the distance is at most 2^k.
 pub record ComesBack (W mode : ℕ) (k : ℤ) (p q : ℕ) : Type 0 where
-  pub lossless : mode ≡ 0 → q ≡ p
+  pub lossless : losslessMode mode ≡ true → q ≡ p
   pub within : mode ≡ 1 → Returned (formatOf W) (binOf W (fractionBits W) k) p q
 
 -- s is the bytes b, or b with well-formed side parts added
@@ -117,8 +118,11 @@ pub record Demand2 : Type 0 where
       → (probeAnswer32 L s i ≡ shown32 (getD (unpackOut 32 L s back) i 0)) × (probeOut32 (probeAnswer32 L s i) old ≡ getD (unpackOut 32 L s back) i 0)
   pub probe64 : (L : ℕ) (s back : List ℕ) (n i old : ℕ) → Below 256 s → unpackAnswer 64 L s (length back) ≡ Done n → i < n
       → (probeAnswer64 L s i ≡ shown64 (getD (unpackOut 64 L s back) i 0)) × (probeOut64 (probeAnswer64 L s i) old ≡ getD (unpackOut 64 L s back) i 0)
-  -- the number rules alone: a pattern, its code, and the pattern that the code restores; and the k of a tolerance
+  -- the number rules alone: a pattern, its code, and the pattern that the code restores; a list behind a pattern, its differences, and their running
+  -- sums; and the k of a tolerance
   pub lossless : (W p : ℕ) → knownWidth W ≡ true → p < 2 ^ W → losslessRestored W (fractionBits W) (losslessCode W (fractionBits W) p) ≡ p
+  pub differences : (W before : ℕ) (ps : List ℕ) → knownWidth W ≡ true → before < 2 ^ W → Below (2 ^ W) ps
+      → runningSums W before (differenceCodes W before ps) ≡ ps
   pub coded : (W m : ℕ) (k : ℤ) (p : ℕ) → allowedK W m k ≡ true → codeAnswer W m k p ≡ code.Code (toleranceCode W m (binOf W m k) p)
   pub within : (W : ℕ) (k : ℤ) (p c : ℕ) → knownWidth W ≡ true → p < 2 ^ W → codeAnswer W (fractionBits W) k p ≡ code.Code c
       → (q : ℕ) × (patternAnswer W (fractionBits W) k c ≡ pattern.Pattern q) × Returned (formatOf W) (binOf W (fractionBits W) k) p q
@@ -127,7 +131,8 @@ pub record Demand2 : Type 0 where
 -- ---- Demand 3: "Pack a list within the limit at level 8, 9 or 10, with a setting that level allows and enough room, and give the stream any
 -- well-formed side parts. The reader for its width, told to act as level 8, 9 or 10 and lent room for the values, gives back what demand 2
 -- says, or refuses as too new and names the needed level: exactly when that, as a number, exceeds its own. And bytes accepted by one level are
--- accepted by each higher one with the same values." The need is 10 for width 64, else 9 in mode 1, else 8; too new is refusal 7.
+-- accepted by each higher one with the same values." Since document 02, R-2, "levels are now 8 to 11 and demand 3 speaks of all four"
+-- (`knownLevel`). The need is 11 in mode 2, else 10 for width 64, else 9 in mode 1, else 8; too new is refusal 7.
 
 -- a list within the limit, of patterns of a width, and a level that allows the setting
 pub record Offered (W level mode : ℕ) (k : ℤ) (vs : List ℕ) : Type 0 where

@@ -134,9 +134,55 @@ fn largest_u() {
     shown(b"one more probed", probe::probe32(9, &out, 0));
 }
 
+// Mode 2: a slow walk with a rest, two chunks of it, read back by each level and probed at both sides of the chunk's start.
+fn differences() {
+    let mut list: [u32; 1026] = [0x3F80_0000; 1026];
+    list[0] = 0x3F7F_FFFE;
+    list[1] = 0x3F7F_FFFF;
+    list[1025] = 0x3F80_0003;
+    let mut out: [u8; 221] = [0; 221];
+    told(
+        b"differences at level 10",
+        pack::pack32(10, 2, 0, &list, &mut out),
+    );
+    told(
+        b"differences with k 1",
+        pack::pack32(11, 2, 1, &list, &mut out),
+    );
+    told(
+        b"differences packed",
+        pack::pack32(11, 2, 0, &list, &mut out),
+    );
+    told(b"differences measured", pack::length32(11, 2, 0, &list));
+    told(b"differences told level 10", reading::check(10, &out));
+    told(b"differences checked", reading::check(11, &out));
+    shown(
+        b"differences probed at 1023",
+        probe::probe32(11, &out, 1023),
+    );
+    shown(
+        b"differences probed at 1024",
+        probe::probe32(11, &out, 1024),
+    );
+    let mut back: [u32; 1026] = [0; 1026];
+    told(
+        b"differences unpacked",
+        reading::unpack32(11, &out, &mut back),
+    );
+    text(b"differences values");
+    pattern(back[0]);
+    pattern(back[1]);
+    pattern(back[2]);
+    pattern(back[1023]);
+    pattern(back[1024]);
+    pattern(back[1025]);
+    text(b"\n");
+}
+
 fn main() {
     example();
     example_too_short();
     lengths();
     largest_u();
+    differences();
 }

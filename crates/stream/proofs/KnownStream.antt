@@ -1,5 +1,5 @@
 -- Document 01's worked stream, computed: "The list 0, -0, 2^-149, packed at level 8, mode 0, is 55 bytes: the numbers
--- 1 8 8 32 0 0 3 1 48 52 0 55, the table 0, then bytes 03 10 01." Every level accepts it.
+-- 1 8 8 32 0 0 3 1 48 52 0 55, the table 0, then bytes 03 10 01." Every level accepts it. Then a stream of mode 2, and what each setting needs.
 use mathlib.Core.Path.{_≡_, refl}
 use Prim.Native.Nat.{ℕ}
 use mathlib.Core.List.{List, [], _∷_, _++_, map}
@@ -8,6 +8,7 @@ use lib.ListN.{length, replicate}
 use lib.Ieee.{size}
 use Rattle.numbers.specs.Signed.{signedView, folded, unfolded, bitsOf}
 use Rattle.numbers.specs.Lossless.{rotated, field, minus, lowered, stepped, losslessCode, plus, raised, unstepped, unrotated, losslessRestored}
+use Rattle.numbers.specs.Difference.{differenceCode, differenceCodes, differenceRestored, runningSums}
 use Rattle.blocks.specs.Bytes.{number, digits}
 use Rattle.stream.specs.Group.{bytesFor, largest, widthOf, packed, groupBytes, givenWidth, groupLength, groupNumber, groupCodes, within, goodGroup}
 use Rattle.stream.specs.Setting.{highestLevel, knownLevel, knownWidth, fractionBits, widthNeed, modeNeed, need, losslessMode, isZero, allowedSetting, binFor, settingOf, kBits, groupSize, codeAt, patternAt, codesAfter, patternsAfter, limitOf}
@@ -18,7 +19,7 @@ use Rattle.stream.specs.Tables.{every, startAt, startRight, chunkTableRi
 use Rattle.stream.specs.Stream.{joined, countOf, chunkOf, chunkState, chunkValues, valuesIn, values}
 use Rattle.stream.specs.Writing.{spell, piece, pieceBytes, dataOf, startsOf, headerNumbers, endOf, body, stream}
 use Rattle.stream.specs.Operations.{headerRows, openingRows, tableRows, faultDetail, faultRow, chunkRow, chunkRows, contentRows, widthRow, checkRows, checkAnswer, roomRow, unpackRows, unpackOut}
-use Rattle.stream.specs.declared.answers.Answer.the-variants.{Done}
+use Rattle.stream.specs.declared.answers.Answer.the-variants.{Done, Refused}
 
 pub threeValues : List ℕ
 threeValues = 0 ∷ 0x8000_0000 ∷ 1 ∷ []
@@ -30,13 +31,42 @@ pub packed-known : stream 8 (settingOf 32 0 (pos 0)) threeValues ≡ theirBytes
 unfolding size signedView folded bitsOf rotated field minus lowered stepped losslessCode number digits bytesFor largest widthOf packed groupBytes fractionBits widthNeed modeNeed need kBits binFor groupSize codeAt codesAfter groupsIn groupsBytes chunkBytes chunksIn joined spell piece pieceBytes dataOf startsOf headerNumbers endOf body stream threeValues theirBytes
 packed-known = refl
 
-pub checked-known : map (λ (level : ℕ). checkAnswer level theirBytes) (8 ∷ 9 ∷ 10 ∷ []) ≡ Done 3 ∷ Done 3 ∷ Done 3 ∷ []
+pub checked-known : map (λ (level : ℕ). checkAnswer level theirBytes) (8 ∷ 9 ∷ 10 ∷ 11 ∷ []) ≡ Done 3 ∷ Done 3 ∷ Done 3 ∷ Done 3 ∷ []
 unfolding size signedView folded bitsOf number digits bytesFor largest widthOf givenWidth groupLength groupNumber groupCodes within goodGroup highestLevel knownLevel knownWidth fractionBits widthNeed modeNeed need losslessMode isZero allowedSetting binFor groupSize limitOf groupsIn firstFault chunkAnswer first answer word headerOf kOf chunksIn tooMany needRight settingRight layoutRight every startAt startRight chunkTableRight partAt sideTableRight countOf chunkOf chunkState spell headerRows openingRows tableRows faultDetail faultRow rowsFrom chunkRow chunkRows contentRows checkRows checkAnswer theirBytes
 checked-known = refl
 
 pub unpacked-known : unpackOut 32 10 theirBytes (7 ∷ 7 ∷ 7 ∷ 7 ∷ []) ≡ threeValues ++ (7 ∷ [])
 unfolding size signedView folded unfolded bitsOf number digits plus raised unstepped unrotated losslessRestored field bytesFor largest widthOf givenWidth groupLength groupNumber groupCodes within goodGroup highestLevel knownLevel knownWidth fractionBits widthNeed modeNeed need losslessMode isZero allowedSetting binFor groupSize limitOf patternAt patternsAfter groupsIn firstFault chunkAnswer groupsCodes chunkCodes first answer after word headerOf kOf chunksIn tooMany needRight settingRight layoutRight every startAt startRight chunkTableRight partAt sideTableRight joined countOf chunkOf chunkState chunkValues valuesIn values spell headerRows openingRows tableRows faultDetail faultRow rowsFrom chunkRow chunkRows contentRows widthRow roomRow unpackRows unpackOut threeValues theirBytes
 unpacked-known = refl
+
+-- ---- mode 2, at level 11: 5, 7, 7, 4 are 4 bits each: 10, 4, 0, 5
+
+pub fourValues : List ℕ
+fourValues = 5 ∷ 7 ∷ 7 ∷ 4 ∷ []
+
+pub theirDifferences : List ℕ
+theirDifferences = spell (1 ∷ 11 ∷ 11 ∷ 32 ∷ 2 ∷ 0 ∷ 4 ∷ 1 ∷ 48 ∷ 52 ∷ 0 ∷ 55 ∷ 0 ∷ []) ++ (0x04 ∷ 0x4A ∷ 0x50 ∷ [])
+
+pub differences-packed : stream 11 (settingOf 32 2 (pos 0)) fourValues ≡ theirDifferences
+unfolding size signedView folded bitsOf rotated field minus lowered stepped losslessCode number digits bytesFor largest widthOf packed groupBytes fractionBits widthNeed modeNeed need kBits binFor groupSize codeAt codesAfter groupsIn groupsBytes chunkBytes chunksIn joined spell piece pieceBytes dataOf startsOf headerNumbers endOf body stream differenceCode differenceCodes fourValues theirDifferences
+differences-packed = refl
+
+-- "a reader of level 10 refuses it by 7, with detail 11"
+pub differences-checked : map (λ (level : ℕ). checkAnswer level theirDifferences) (8 ∷ 9 ∷ 10 ∷ 11 ∷ []) ≡ Refused 7 11 ∷ Refused 7 11 ∷ Refused 7 11 ∷ Done 4 ∷ []
+unfolding size signedView folded bitsOf number digits bytesFor largest widthOf givenWidth groupLength groupNumber groupCodes within goodGroup highestLevel knownLevel knownWidth fractionBits widthNeed modeNeed need losslessMode isZero allowedSetting binFor groupSize limitOf groupsIn firstFault chunkAnswer first answer word headerOf kOf chunksIn tooMany needRight settingRight layoutRight every startAt startRight chunkTableRight partAt sideTableRight countOf chunkOf chunkState spell headerRows openingRows tableRows faultDetail faultRow rowsFrom chunkRow chunkRows contentRows checkRows checkAnswer theirDifferences
+differences-checked = refl
+
+pub differences-unpacked : unpackOut 32 11 theirDifferences (9 ∷ 9 ∷ 9 ∷ 9 ∷ 9 ∷ []) ≡ fourValues ++ (9 ∷ [])
+unfolding size signedView folded unfolded bitsOf number digits plus raised unstepped unrotated losslessRestored field bytesFor largest widthOf givenWidth groupLength groupNumber groupCodes within goodGroup highestLevel knownLevel knownWidth fractionBits widthNeed modeNeed need losslessMode isZero allowedSetting binFor groupSize limitOf patternAt patternsAfter groupsIn firstFault chunkAnswer groupsCodes chunkCodes first answer after word headerOf kOf chunksIn tooMany needRight settingRight layoutRight every startAt startRight chunkTableRight partAt sideTableRight joined countOf chunkOf chunkState chunkValues valuesIn values spell headerRows openingRows tableRows faultDetail faultRow rowsFrom chunkRow chunkRows contentRows widthRow roomRow unpackRows unpackOut differenceRestored runningSums fourValues theirDifferences
+differences-unpacked = refl
+
+-- what each setting needs: widths 32 and 64, modes 0, 1 and 2
+pub needs : List ℕ
+needs = map (λ (t : ℕ × ℕ). need (settingOf (t .0) (t .1) (pos 0))) ((32, 0) ∷ (32, 1) ∷ (32, 2) ∷ (64, 0) ∷ (64, 1) ∷ (64, 2) ∷ [])
+
+pub needs-known : needs ≡ 8 ∷ 9 ∷ 11 ∷ 10 ∷ 10 ∷ 11 ∷ []
+unfolding needs need widthNeed modeNeed
+needs-known = refl
 
 -- "Lengths at level 8, mode 0: no values, 48 bytes; 1,024 zeros, 84; 1,025 values have two chunks."
 pub lengths : List ℕ

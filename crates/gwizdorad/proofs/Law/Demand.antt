@@ -4,14 +4,14 @@ use mathlib.Core.Logic.{_⊎_, inl, inr, _↔_}
 use mathlib.Core.Bool.{Bool, true, false}
 use mathlib.Core.List.{List}
 use Prim.Native.Nat.{ℕ, _+_, _*_, _/_, _^_, _<_}
-use native.Mathlib.Nat.{lt-of-le-of-lt}
 use native.Mathlib.Omega.{arith}
-use borrow.Author.Tests.{leb-true, leb-false, lt-leb, eqb-true}
-use lib.Dec.{leb, eqb, lit<}
+use borrow.Author.Tests.{leb-false, lt-leb, eqb-true}
+use lib.Dec.{leb, eqb}
 use lib.IntN.{ℤ, pos}
 use lib.ListN.{length, take, getD}
 use Rattle.bins.specs.Tolerance.{allowedK, binOf, toleranceCode, toleranceRestored, largestU}
 use Rattle.numbers.specs.Lossless.{losslessCode, losslessRestored}
+use Rattle.numbers.specs.Difference.{differenceCodes, runningSums}
 use Rattle.numbers.specs.Answers.{codeAnswer, patternAnswer}
 use Rattle.numbers.specs.Bound.{boundAnswer, boundNumber, boundDetail}
 use Rattle.numbers.specs.Theorem.{Format, Within, Returned, BoundFor}
@@ -19,15 +19,16 @@ use Rattle.numbers.specs.declared.bound.BoundAnswer.{BoundAnswer}
 use Rattle.numbers.specs.declared.bound.BoundAnswer.the-variants.{Exponent, UnknownWidth, NoTolerance, TooSmall}
 use Rattle.numbers.specs.declared.tolerance.CodeAnswer.the-variants as code
 use Rattle.numbers.specs.declared.tolerance.PatternAnswer.the-variants as pattern
-use Rattle.numbers.proofs.Theorems.{format-32, format-64, every-pattern-is-restored, a-coded-k-is-allowed, an-allowed-k-has-a-bin, a-code-is-restored, binary32-returned, binary64-returned, bound-for-binary32, bound-for-binary64}
+use Rattle.numbers.proofs.Theorems.{format-32, format-64, every-pattern-is-restored, every-list-is-restored, a-coded-k-is-allowed, an-allowed-k-has-a-bin, a-code-is-restored, binary32-returned, binary64-returned, bound-for-binary32, bound-for-binary64}
 use Rattle.blocks.specs.Bytes.{Below}
-use Rattle.stream.specs.Setting.{knownLevel, knownWidth, fractionBits, allowedSetting, settingOf}
+use Rattle.stream.specs.Setting.{knownWidth, fractionBits, allowedSetting, settingOf}
 use Rattle.stream.specs.Stream.{values}
 use Rattle.stream.specs.Writing.{WellFormedSides}
 use Rattle.stream.specs.Packing.{Packable, Sent}
 use Rattle.stream.specs.Operations.{packAnswer, packOut}
 use Rattle.stream.specs.declared.answers.Answer.the-variants.{Done}
-use Rattle.stream.proofs.Law.Plain.Truth.{and-right, either, or-false}
+use Rattle.stream.proofs.Law.Plain.Truth.{either, or-false}
+use Rattle.stream.proofs.Law.Setting.Allowed.{level-small, width-some}
 use Rattle.stream.proofs.Written.{accepted-list, accepted-bytes, accepted-leaves, accepted-is-sent, the-plain-stream, as-many-values, lossless-values, tolerance-values}
 use Rattle.gwizdorad.specs.Demands.{formatOf, ComesBack, Sided, plain, with-parts, Packed, Offered}
 
@@ -62,6 +63,10 @@ unfolding fractionBits
 lossless-at p =
     of-a-width (λ (W : ℕ). p < 2 ^ W → losslessRestored W (fractionBits W) (losslessCode W (fractionBits W) p) ≡ p)
     (every-pattern-is-restored 32 23 format-32 p) (every-pattern-is-restored 64 52 format-64 p)
+
+pub differences-at : (W before : ℕ) (ps : List ℕ) → knownWidth W ≡ true → before < 2 ^ W → Below (2 ^ W) ps
+    → runningSums W before (differenceCodes W before ps) ≡ ps
+differences-at W before ps known = every-list-is-restored W (width-some W known) before ps
 
 format-at : (W : ℕ) → knownWidth W ≡ true → Format W (fractionBits W)
 unfolding fractionBits
@@ -130,11 +135,10 @@ allowed-in-mode-1 W mode k is e = rw is at e
 -- ---- demand 3
 
 pub offered : (W level mode : ℕ) (k : ℤ) (vs : List ℕ) → Offered W level mode k vs → Packable W level mode k vs
-unfolding knownLevel
 offered W level mode k vs o =
     record {
       width = o .width;
-      minor = lt-of-le-of-lt (leb-true level 10 (and-right (leb 8 level) (leb level 10) (o .known))) (lit< tt);
+      minor = level-small level (o .known);
       allowed = o .setting;
       needs = o .allows;
       few = o .few;

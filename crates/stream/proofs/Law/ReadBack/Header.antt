@@ -6,7 +6,7 @@ use mathlib.Core.List.{List, [], _∷_, _++_}
 use Prim.Native.Nat.{ℕ, zero, suc, _+_, _*_, _^_, _≤_, _<_, max}
 use native.Mathlib.Omega.{arith}
 use borrow.Author.Tests.{le-ltb, le-leb, eq-eqb}
-use lib.Dec.{eqb, lit<, lit≤}
+use lib.Dec.{eqb, lit<}
 use lib.ListN.{length, getD}
 use Rattle.blocks.specs.Bytes.{Below}
 use Rattle.stream.specs.Setting.{widthNeed, modeNeed, need, kBits}

@@ -1,18 +1,15 @@
 -- `stream::differences::last_sum` meets its contract. The invariant: `last` is the last sum of the codes passed.
 use Prim.Native.Nat.{ℕ, _-_, _^_, _≤_, _<_}
-use mathlib.Core.Bool.{true}
 use mathlib.Core.List.{List}
 use mathlib.Core.Path.{_≡_, refl, sym, ap, ap₂, subst, _∙_}
 use native.Mathlib.Nat.{le-refl}
 use native.Mathlib.Omega.{arith}
-use lib.ListN.{length, take, getD}
+use lib.ListN.{take, getD}
 use lib.Seq.{take-all, length-take-le, getD-take}
 use Rattle.numbers.specs.Difference.{differenceRestored, runningSums, lastOf}
 use Rattle.numbers.proofs.Law.Difference.{restored-under}
-use Rattle.stream.specs.Setting.{knownWidth}
 use Rattle.stream.proofs.Law.Plain.Differences.{summed-is}
 use Rattle.stream.proofs.Law.Setting.Allowed.{width-some}
-use borrow.Author.Needs.{needs}
 use Rattle.stream.proofs.differences.last_sum.Statement.{statement}
 use Rattle.stream.proofs.differences.last_sum.Tie as tie
 

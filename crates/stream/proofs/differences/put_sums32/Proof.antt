@@ -4,7 +4,7 @@ use mathlib.Core.List.{List, _++_}
 use Prim.Native.Nat.{ℕ, _-_, _≤_, _<_}
 use native.Mathlib.Nat.{le-refl}
 use native.Mathlib.Omega.{arith}
-use lib.ListN.{length, take, drop, getD, set}
+use lib.ListN.{length, take, drop, set}
 use lib.Seq.{take-all, length-take-le, getD-take}
 use borrow.Author.Needs.{needs}
 use Rattle.numbers.specs.Difference.{differenceRestored, runningSums, lastOf}

@@ -1,10 +1,8 @@
 -- `stream::lent::carried` meets its contract: in mode 2 the last sum of the group, else anything goes.
-use Prim.Native.Nat.{ℕ, _^_, _≤_, _<_}
+use Prim.Native.Nat.{ℕ, _^_}
 use mathlib.Core.List.{List}
-use mathlib.Core.Path.{_≡_, refl, sym, ap, subst, _∙_}
+use mathlib.Core.Path.{sym, ap, _∙_}
 use native.Mathlib.Nat.{le-trans, lt-of-lt-of-le}
-use native.Mathlib.Omega.{arith}
-use lib.ListN.{length, take, getD}
 use lib.Pow.{pow-mono}
 use Rattle.numbers.specs.Difference.{runningSums, lastOf}
 use Rattle.numbers.proofs.Law.Difference.{last-under, sums-under}

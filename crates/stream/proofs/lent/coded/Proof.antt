@@ -1,9 +1,9 @@
 -- `stream::lent::coded` meets its contract: the group of the width, by mode.
-use mathlib.Core.Path.{_≡_, ap, ap₂, _∙_}
+use mathlib.Core.Path.{ap, ap₂, _∙_}
 use mathlib.Core.List.{List}
 use Prim.Native.Nat.{ℕ, _-_}
 use native.Mathlib.Omega.{arith}
-use lib.ListN.{length, take, drop}
+use lib.ListN.{take, drop}
 use Rattle.stream.proofs.Law.Lent.Codes.{each-32, differences-32, each-64, differences-64, length-32, length-other}
 use Rattle.stream.proofs.Law.Setting.Allowed.{width-other}
 use borrow.Author.Needs.{needs}

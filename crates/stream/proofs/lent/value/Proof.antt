@@ -1,10 +1,10 @@
 -- `stream::lent::value` meets its contract: in mode 2 the last of the sums up to it, else the pattern of its own code.
-use Prim.Native.Nat.{ℕ, suc, _+_, _^_, _≤_, _<_}
-use mathlib.Core.List.{List, map}
-use mathlib.Core.Path.{_≡_, sym, ap, subst, _∙_}
+use Prim.Native.Nat.{ℕ, _+_, _^_, _<_}
+use mathlib.Core.List.{List}
+use mathlib.Core.Path.{sym, ap, subst, _∙_}
 use native.Mathlib.Numerals.{add-one}
 use native.Mathlib.Omega.{arith}
-use lib.ListN.{length, take, getD}
+use lib.ListN.{take, getD}
 use lib.Seq.{length-take-le, getD-take}
 use Rattle.numbers.specs.Difference.{runningSums}
 use Rattle.numbers.proofs.Law.Difference.{last-is, length-sums}
