@@ -32,9 +32,11 @@
  *
  * WHAT IS NOT SEEN
  *
- * The format has no checksum. An altered bit of a code that breaks no rule is read as another value: of single bits
- * flipped at random in streams of a harbour field, 94 % and more were accepted, nearly each with one wrong value
- * (README.md has the figures). A file that travels needs a checksum around it; examples/pack_field.c keeps a CRC-32.
+ * The format has no checksum. An altered bit of a code that breaks no rule is read as another value, and in mode
+ * GWZ_DIFFERENCES it also moves every value behind it in its chunk: of single bits flipped at random in streams of a
+ * harbour field, 94 % and more were accepted, nearly each with one wrong value, or with wrong values to the end of a
+ * chunk (README.md has the figures). A file that travels needs a checksum around it; examples/pack_field.c keeps a
+ * CRC-32.
  *
  *
  * WHAT IS ANSWERED
@@ -64,7 +66,7 @@
 
 /* The format that this header is of: its major number, and the highest level that is known here. */
 #define GWZ_FORMAT_MAJOR 1
-#define GWZ_HIGHEST_LEVEL 10 /* reads every stream that this library can write */
+#define GWZ_HIGHEST_LEVEL 11 /* reads every stream that this library can write */
 
 #ifdef __cplusplus
 extern "C" {
@@ -72,18 +74,22 @@ extern "C" {
 
 /*
  * A level is the minor number of the format that a call acts as. A writer's level is noted in the stream, with
- * the least level that a reader needs: 10 for width 64, else 9 within a tolerance, else 8.
+ * the least level that a reader needs: 11 in mode GWZ_DIFFERENCES, else 10 for width 64, else 9 within a tolerance,
+ * else 8. For boats whose reader is of level 10 or below, pack lossless by GWZ_LOSSLESS.
  */
 enum gwz_level {
-    GWZ_LEVEL_8 = 8,  /* width 32, lossless */
-    GWZ_LEVEL_9 = 9,  /* and width 32 within a tolerance */
-    GWZ_LEVEL_10 = 10 /* and width 64, both ways */
+    GWZ_LEVEL_8 = 8,   /* width 32, GWZ_LOSSLESS */
+    GWZ_LEVEL_9 = 9,   /* and width 32, GWZ_WITHIN_TOLERANCE */
+    GWZ_LEVEL_10 = 10, /* and width 64, in both of these */
+    GWZ_LEVEL_11 = 11  /* and GWZ_DIFFERENCES, both widths */
 };
 
 enum gwz_mode {
-    GWZ_LOSSLESS = 0,        /* every pattern comes back bit for bit; k must be 0 */
-    GWZ_WITHIN_TOLERANCE = 1 /* a magnitude below 2^(k+24) (width 64: 2^(k+53)) comes back at most 2^k off,
-                                every other value, infinities and not-a-numbers too, bit for bit */
+    GWZ_LOSSLESS = 0,         /* every pattern comes back bit for bit; k must be 0 */
+    GWZ_WITHIN_TOLERANCE = 1, /* a magnitude below 2^(k+24) (width 64: 2^(k+53)) comes back at most 2^k off,
+                                 every other value, infinities and not-a-numbers too, bit for bit */
+    GWZ_DIFFERENCES = 2       /* as GWZ_LOSSLESS, and smaller where a value is near the one before it in the list: each is
+                                 kept as its difference from that one, within its chunk of 1,024; k must be 0 */
 };
 
 /* What gwz_probe32 and gwz_probe64 answer. */
@@ -123,10 +129,10 @@ uint32_t gwz_highest_level(void);
  * behind them nothing is altered. Enough room is what gwz_length answers, or GWZ_LONGEST_STREAM, with which
  * there is no measuring pass over the values.
  *
- * level    8, 9 or 10; which allows which setting stands with enum gwz_level
- * mode     GWZ_LOSSLESS or GWZ_WITHIN_TOLERANCE
- * k        0 if lossless; else the exponent of the tolerance, which gwz_bound finds: -150 to 103 for width 32,
- *          -1075 to 970 for width 64
+ * level    8, 9, 10 or 11; which allows which setting stands with enum gwz_level
+ * mode     GWZ_LOSSLESS, GWZ_WITHIN_TOLERANCE or GWZ_DIFFERENCES
+ * k        within a tolerance its exponent, which gwz_bound finds: -150 to 103 for width 32, -1075 to 970 for
+ *          width 64; else 0
  *
  * Refusals, in order: 1 2 3 4.
  */

@@ -55,7 +55,7 @@ const char *gwz_version(void);
 /* The refusal numbers. The detail is 0 but for the three that say another. */
 enum gwz_refusal_number {
     GWZ_DONE = 0,                 /* not refused: the low 32 bits are the answer */
-    GWZ_UNKNOWN_LEVEL = 1,        /* level not 8, 9 or 10 */
+    GWZ_UNKNOWN_LEVEL = 1,        /* level not 8, 9, 10 or 11 */
     GWZ_NOT_ALLOWED = 2,          /* mode or k not allowed, or its need exceeds the level; bound: width not 32 or 64 */
     GWZ_TOO_MANY_VALUES = 3,      /* more than GWZ_MOST_VALUES */
     GWZ_TOO_SHORT = 4,            /* lent output too short; detail: the length needed, in that output's elements */
@@ -113,7 +113,7 @@ GWZ_HELPER const char *gwz_refusal_text(uint32_t number)
     case GWZ_DONE:
         return "Done: nothing was refused.";
     case GWZ_UNKNOWN_LEVEL:
-        return "The level is not known: pass 8, 9 or 10.";
+        return "The level is not known: pass 8, 9, 10 or 11.";
     case GWZ_NOT_ALLOWED:
         return "The setting is not allowed: check mode, k and width, or pass the higher level that the setting needs.";
     case GWZ_TOO_MANY_VALUES:

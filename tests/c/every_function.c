@@ -217,7 +217,7 @@ static void put_number(uint8_t *at, uint32_t number)
 /* The header, for data of so many bytes behind the chunk table, and no side parts. */
 static void put_header(uint8_t *stream, struct setting s, uint32_t n, size_t data_bytes)
 {
-    uint32_t need = s.width == 64 ? 10 : s.mode == 1 ? 9 : 8;
+    uint32_t need = s.mode == 2 ? 11 : s.width == 64 ? 10 : s.mode == 1 ? 9 : 8;
     uint32_t chunks = (n + 1023) / 1024, data = 48 + 4 * chunks;
     const uint32_t numbers[] = {1, s.level, need, s.width, s.mode, s.k, n, chunks, 48, data, 0,
                                 data + (uint32_t)data_bytes};
@@ -459,7 +459,7 @@ static void test_example(struct tally *tally)
     expect_call(tally, "room to spare", packing(PACK32, 8, 0, 0, example_values, 3, 999), done(55), example, 55);
     for (size_t room = 0; room < 55; room++)
         expect_call(tally, "too short", packing(PACK32, 8, 0, 0, example_values, 3, room), refused(4, 55), NULL, 0);
-    for (uint32_t level = 8; level <= 10; level++) {
+    for (uint32_t level = GWZ_LEVEL_8; level <= GWZ_HIGHEST_LEVEL; level++) {
         expect_call(tally, "checked", reading(CHECK, level, example, 55, 0), done(3), NULL, 0);
         expect_call(tally, "unpacked", reading(UNPACK32, level, example, 55, 3), done(3), example_values, 3);
         expect_call(tally, "room to spare", reading(UNPACK32, level, example, 55, 50), done(3), example_values, 3);
@@ -473,7 +473,7 @@ static void test_example(struct tally *tally)
         expect_call(tally, "cut", reading(CHECK, 8, example, len, 0), refused(len < 48 ? 5 : 8, 0), NULL, 0);
 }
 
-/* The smallest k gives every value back as it was, so both modes have the same patterns. */
+/* The smallest k gives every value back as it was, so all modes have the same patterns. */
 static void test_probe32(struct tally *tally)
 {
     static const uint32_t patterns[] = {0x00000000, 0x80000000, 0x00000001, 0xFF7FFFFF, 0x7F800000, 0xFF800000,
@@ -482,13 +482,13 @@ static void test_probe32(struct tally *tally)
                                      GWZ_NOT_A_NUMBER, GWZ_NOT_A_NUMBER, GWZ_NOT_A_NUMBER};
     const size_t n = COUNT(patterns);
     uint8_t stream[GWZ_LONGEST_STREAM(32, COUNT(patterns))];
-    for (uint32_t mode = 0; mode <= 1; mode++) {
-        int32_t k = mode == 0 ? 0 : GWZ_SMALLEST_K32;
-        size_t length = gwz_answer(gwz_pack32(10, mode, k, patterns, n, stream, sizeof stream));
+    for (uint32_t mode = 0; mode <= 2; mode++) {
+        int32_t k = mode == 1 ? GWZ_SMALLEST_K32 : 0;
+        size_t length = gwz_answer(gwz_pack32(11, mode, k, patterns, n, stream, sizeof stream));
         for (size_t i = 0; i < n; i++)
-            expect_call(tally, "a value", probing(PROBE32, 10, stream, length, i), done(kinds[i]), &patterns[i], 1);
-        expect_call(tally, "index n", probing(PROBE32, 10, stream, length, n), refused(11, 0), NULL, 0);
-        expect_call(tally, "index 2^64 - 1", probing(PROBE32, 10, stream, length, UINT64_MAX), refused(11, 0), NULL, 0);
+            expect_call(tally, "a value", probing(PROBE32, 11, stream, length, i), done(kinds[i]), &patterns[i], 1);
+        expect_call(tally, "index n", probing(PROBE32, 11, stream, length, n), refused(11, 0), NULL, 0);
+        expect_call(tally, "index 2^64 - 1", probing(PROBE32, 11, stream, length, UINT64_MAX), refused(11, 0), NULL, 0);
     }
 }
 
@@ -501,13 +501,13 @@ static void test_probe64(struct tally *tally)
                                      GWZ_NOT_A_NUMBER, GWZ_NOT_A_NUMBER, GWZ_NOT_A_NUMBER};
     const size_t n = COUNT(patterns);
     uint8_t stream[GWZ_LONGEST_STREAM(64, COUNT(patterns))];
-    for (uint32_t mode = 0; mode <= 1; mode++) {
-        int32_t k = mode == 0 ? 0 : GWZ_SMALLEST_K64;
-        size_t length = gwz_answer(gwz_pack64(10, mode, k, patterns, n, stream, sizeof stream));
+    for (uint32_t mode = 0; mode <= 2; mode++) {
+        int32_t k = mode == 1 ? GWZ_SMALLEST_K64 : 0;
+        size_t length = gwz_answer(gwz_pack64(11, mode, k, patterns, n, stream, sizeof stream));
         for (size_t i = 0; i < n; i++)
-            expect_call(tally, "a value", probing(PROBE64, 10, stream, length, i), done(kinds[i]), &patterns[i], 1);
-        expect_call(tally, "index n", probing(PROBE64, 10, stream, length, n), refused(11, 0), NULL, 0);
-        expect_call(tally, "index 2^64 - 1", probing(PROBE64, 10, stream, length, UINT64_MAX), refused(11, 0), NULL, 0);
+            expect_call(tally, "a value", probing(PROBE64, 11, stream, length, i), done(kinds[i]), &patterns[i], 1);
+        expect_call(tally, "index n", probing(PROBE64, 11, stream, length, n), refused(11, 0), NULL, 0);
+        expect_call(tally, "index 2^64 - 1", probing(PROBE64, 11, stream, length, UINT64_MAX), refused(11, 0), NULL, 0);
     }
 }
 
@@ -516,14 +516,15 @@ static void test_levels(struct tally *tally)
 {
     static const struct { enum operation pack, length, unpack; uint32_t width, mode, need; } settings[] = {
         {PACK32, LENGTH32, UNPACK32, 32, 0, 8}, {PACK32, LENGTH32, UNPACK32, 32, 1, 9},
-        {PACK64, LENGTH64, UNPACK64, 64, 0, 10}, {PACK64, LENGTH64, UNPACK64, 64, 1, 10}
+        {PACK32, LENGTH32, UNPACK32, 32, 2, 11}, {PACK64, LENGTH64, UNPACK64, 64, 0, 10},
+        {PACK64, LENGTH64, UNPACK64, 64, 1, 10}, {PACK64, LENGTH64, UNPACK64, 64, 2, 11}
     };
     const uint64_t zero = 0;
     const uint8_t no_bits[] = {0};
     for (size_t i = 0; i < COUNT(settings); i++)
         for (uint32_t level = 0; level <= 12; level++) {
             uint32_t need = settings[i].need, mode = settings[i].mode;
-            int known = level >= 8 && level <= 10;
+            int known = level >= 8 && level <= 11;
             const struct setting written = {level, settings[i].width, mode, 0};
             const struct setting later = {77, settings[i].width, mode, 0};
             uint8_t stream[53], later_stream[53];
@@ -544,10 +545,14 @@ static void test_levels(struct tally *tally)
 static void test_packing_refused(struct tally *tally)
 {
     static const struct { const char *what; uint32_t level, mode; int32_t k; uint32_t refusal32, refusal64; } rows[] = {
-        {"level 7 before mode 2", 7, 2, 0, 1, 1},
-        {"level 11", 11, 0, 0, 1, 1},
+        {"level 7 before mode 3", 7, 3, 0, 1, 1},
+        {"level 12", 12, 0, 0, 1, 1},
         {"level 2^32 - 1", UINT32_MAX, 0, 0, 1, 1},
-        {"mode 2", 10, 2, 0, 2, 2},
+        {"mode 3", 11, 3, 0, 2, 2},
+        {"mode 2 at level 10", 10, 2, 0, 2, 2},
+        {"k 1 in mode 2", 11, 2, 1, 2, 2},
+        {"k -1 in mode 2", 11, 2, -1, 2, 2},
+        {"mode 2 with k 0", 11, 2, 0, 4, 4},
         {"k 1 in mode 0", 10, 0, 1, 2, 2},
         {"k -1 in mode 0", 10, 0, -1, 2, 2},
         {"k 104", 10, 1, 104, 2, 4},
@@ -581,7 +586,7 @@ struct damage {
     uint32_t number, refusal, detail;
 };
 
-/* Check, unpack and probe refuse the damaged stream alike, at level 10. */
+/* Check, unpack and probe refuse the damaged stream alike, at the highest level. */
 static void expect_damage(struct tally *tally, const uint8_t *stream, size_t len, struct damage damage)
 {
     uint8_t *damaged = (uint8_t *)allocated(len);
@@ -591,21 +596,69 @@ static void expect_damage(struct tally *tally, const uint8_t *stream, size_t len
         put_number(damaged + damage.place, damage.number);
     else
         damaged[damage.place] = (uint8_t)damage.number;
-    expect_call(tally, damage.what, reading(CHECK, 10, damaged, len, 0), wanted, NULL, 0);
-    expect_call(tally, damage.what, reading(UNPACK32, 10, damaged, len, 4096), wanted, NULL, 0);
-    expect_call(tally, damage.what, probing(PROBE32, 10, damaged, len, 0), wanted, NULL, 0);
+    expect_call(tally, damage.what, reading(CHECK, GWZ_HIGHEST_LEVEL, damaged, len, 0), wanted, NULL, 0);
+    expect_call(tally, damage.what, reading(UNPACK32, GWZ_HIGHEST_LEVEL, damaged, len, 4096), wanted, NULL, 0);
+    expect_call(tally, damage.what, probing(PROBE32, GWZ_HIGHEST_LEVEL, damaged, len, 0), wanted, NULL, 0);
     free(damaged);
+}
+
+/* Mode 2 byte by byte, as docs/FORMAT.md prints it, and its own rules of the header. */
+static void test_differences(struct tally *tally)
+{
+    static const struct damage damages[] = {
+        {"k 1 in mode 2", 20, 4, 1, 8, 0}, {"k -1 in mode 2", 20, 4, UINT32_MAX, 8, 0},
+        {"mode 2 and a need of 10", 8, 4, 10, 8, 0}, {"mode 0 and the need of mode 2", 16, 4, 0, 8, 0},
+        {"written 10 below needed 11", 4, 4, 10, 8, 0}, {"a width that is not smallest", 52, 1, 5, 10, 0},
+    };
+    static const uint32_t values[] = {5, 7, 7, 4};
+    const struct setting setting = {11, 32, 2, 0};
+    const uint8_t data[] = {0x04, 0x4A, 0x50};
+    uint8_t stream[55];
+    size_t len = put_stream(stream, setting, 4, data, sizeof data);
+    expect_call(tally, "packed", packing(PACK32, 11, GWZ_DIFFERENCES, 0, values, 4, 55), done(55), stream, 55);
+    expect_call(tally, "unpacked", reading(UNPACK32, 11, stream, len, 4), done(4), values, 4);
+    for (uint64_t i = 0; i < 4; i++)
+        expect_call(tally, "probed", probing(PROBE32, 11, stream, len, i), done(GWZ_FINITE), &values[i], 1);
+    expect_call(tally, "at level 10", reading(UNPACK32, 10, stream, len, 4), refused(7, 11), NULL, 0);
+    for (size_t i = 0; i < COUNT(damages); i++)
+        expect_damage(tally, stream, len, damages[i]);
+}
+
+/*
+ * Differences across groups and chunks: 1,100 values that rest for more than two groups, so that groups of no bits
+ * repeat the value before them, and that go on past the chunk's end, where the difference begins again from 0.
+ */
+static void test_differences_of_a_walk(struct tally *tally)
+{
+    static uint32_t narrow[1100];
+    static uint64_t wide[1100];
+    static uint8_t stream[GWZ_LONGEST_STREAM(64, 1100)];
+    for (size_t i = 0; i < COUNT(narrow); i++) {
+        narrow[i] = 0x3F800000u + (uint32_t)(i / 100 % 3 == 1 ? 77 : i * i % 89);
+        wide[i] = 0x4000000000000000u - (i / 100 % 3 == 1 ? 77 : i * i % 89);
+    }
+    size_t len = gwz_answer(gwz_pack32(11, GWZ_DIFFERENCES, 0, narrow, 1100, stream, sizeof stream));
+    expect_call(tally, "unpacked", reading(UNPACK32, 11, stream, len, 1100), done(1100), narrow, 1100);
+    expect_call(tally, "length", packing(LENGTH32, 11, GWZ_DIFFERENCES, 0, narrow, 1100, 0), done((uint32_t)len), NULL, 0);
+    for (size_t i = 0; i < COUNT(narrow); i++)
+        expect_call(tally, "probed", probing(PROBE32, 11, stream, len, i), done(GWZ_FINITE), &narrow[i], 1);
+    len = gwz_answer(gwz_pack64(11, GWZ_DIFFERENCES, 0, wide, 1100, stream, sizeof stream));
+    expect_call(tally, "unpacked", reading(UNPACK64, 11, stream, len, 1100), done(1100), wide, 1100);
+    expect_call(tally, "length", packing(LENGTH64, 11, GWZ_DIFFERENCES, 0, wide, 1100, 0), done((uint32_t)len), NULL, 0);
+    for (size_t i = 0; i < COUNT(wide); i++)
+        expect_call(tally, "probed", probing(PROBE64, 11, stream, len, i), done(GWZ_FINITE), &wide[i], 1);
 }
 
 static void test_damaged_example(struct tally *tally)
 {
     static const struct damage damages[] = {
         {"major 0", 0, 4, 0, 6, 0}, {"major 2", 0, 4, 2, 6, 0}, {"major 257", 0, 4, 257, 6, 0},
-        {"need 11", 8, 4, 11, 7, 11}, {"need 2^32 - 1", 8, 4, UINT32_MAX, 7, UINT32_MAX},
+        {"need 12", 8, 4, 12, 7, 12}, {"need 2^32 - 1", 8, 4, UINT32_MAX, 7, UINT32_MAX},
         {"need 7", 8, 4, 7, 8, 0}, {"need 9, not the setting's", 8, 4, 9, 8, 0},
+        {"need 11, not the setting's", 8, 4, 11, 8, 0},
         {"written 7 below needed 8", 4, 4, 7, 8, 0}, {"width 16", 12, 4, 16, 8, 0},
         {"width 64 and the need of 32", 12, 4, 64, 8, 0}, {"mode 1 and the need of mode 0", 16, 4, 1, 8, 0},
-        {"mode 2", 16, 4, 2, 8, 0}, {"k 1 in mode 0", 20, 4, 1, 8, 0}, {"n 1025 in 1 chunk", 24, 4, 1025, 8, 0},
+        {"mode 2 and the need of mode 0", 16, 4, 2, 8, 0}, {"mode 3", 16, 4, 3, 8, 0}, {"k 1 in mode 0", 20, 4, 1, 8, 0}, {"n 1025 in 1 chunk", 24, 4, 1025, 8, 0},
         {"n 0 in 1 chunk", 24, 4, 0, 8, 0}, {"n above the limit", 24, 4, 1048577, 8, 0},
         {"2 chunks", 28, 4, 2, 8, 0}, {"no chunks", 28, 4, 0, 8, 0}, {"chunk table at 52", 32, 4, 52, 8, 0},
         {"data at 48", 36, 4, 48, 8, 0}, {"65 side parts", 40, 4, 65, 8, 0},
@@ -981,6 +1034,8 @@ int main(void)
         {"probe of 32 bits", test_probe32},
         {"probe of 64 bits", test_probe64},
         {"levels", test_levels},
+        {"differences", test_differences},
+        {"differences of a walk", test_differences_of_a_walk},
         {"packing refused", test_packing_refused},
         {"damaged example", test_damaged_example},
         {"damaged setting", test_damaged_setting},

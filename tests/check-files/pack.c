@@ -1,5 +1,5 @@
 /*
- * Packs runs of equal values at level 10, so that it can be told by hand where each group of the stream stands:
+ * Packs runs of equal values at the highest level, so that it can be told by hand where each group of the stream stands:
  *
  *     pack FILE WIDTH MODE K [PATTERN COUNT]...      a PATTERN is in hexadecimal
  */
@@ -36,8 +36,8 @@ int main(int argc, char **argv)
     uint32_t mode = (uint32_t)strtoul(argv[3], NULL, 10);
     int32_t k = (int32_t)strtol(argv[4], NULL, 10);
     uint64_t result = strtoul(argv[2], NULL, 10) == 64
-        ? gwz_pack64(GWZ_LEVEL_10, mode, k, values64, n, stream, room)
-        : gwz_pack32(GWZ_LEVEL_10, mode, k, values32, n, stream, room);
+        ? gwz_pack64(GWZ_HIGHEST_LEVEL, mode, k, values64, n, stream, room)
+        : gwz_pack32(GWZ_HIGHEST_LEVEL, mode, k, values32, n, stream, room);
     if (gwz_refusal(result) != GWZ_DONE) {
         fprintf(stderr, "pack: %s\n", gwz_refusal_text(gwz_refusal(result)));
         return 1;
