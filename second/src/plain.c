@@ -174,15 +174,15 @@ struct stream {
     struct header header;
 };
 
-static int level_known(uint32_t level) { return 8 <= level && level <= 10; }
+static int level_known(uint32_t level) { return 8 <= level && level <= 11; }
 
-static uint32_t need(uint32_t width, uint32_t mode) { return width == 64 ? 10 : mode == 1 ? 9 : 8; }
+static uint32_t need(uint32_t width, uint32_t mode) { return mode == 2 ? 11 : width == 64 ? 10 : mode == 1 ? 9 : 8; }
 
 static int setting_allowed(uint32_t width, uint32_t mode, int32_t k)
 {
     int32_t least_k = width == 32 ? LEAST_K32 : LEAST_K64;
     int32_t greatest_k = width == 32 ? GREATEST_K32 : GREATEST_K64;
-    return mode == 0 ? k == 0 : mode == 1 && least_k <= k && k <= greatest_k;
+    return mode == 1 ? least_k <= k && k <= greatest_k : (mode == 0 || mode == 2) && k == 0;
 }
 
 /* Refusals 1 2 3 of pack and length, or 0. */
@@ -254,6 +254,18 @@ static int side_table_holds(const struct stream *stream)
 static uint64_t check_tables(const struct stream *stream)
 {
     return refused_if(!chunk_table_holds(stream) || !side_table_holds(stream), 9);
+}
+
+/* Where 32 codes at a place of a stream are read: where they lie or, of the last groups, in a copy with zeros after. */
+INLINED const uint8_t *window_at(const struct stream *stream, size_t place, uint8_t *copy)
+{
+    const uint8_t *from = stream->bytes + place;
+    size_t length = stream->length - place;
+    if (length >= WINDOW)
+        return from;
+    memcpy(copy, from, length);
+    memset(copy + length, 0, WINDOW - length);
+    return copy;
 }
 
 /* ---- Both widths */
@@ -345,11 +357,19 @@ INLINED WORD NAME(tolerance_pattern)(WORD code, BIN bin)
     return NAME(pick)(NAME(below)(u, (WORD)1 << M), near, u + bin.lift) | (code << (WIDTH - 1));
 }
 
-INLINED WORD NAME(code_of)(WORD pattern, uint32_t mode, BIN bin)
+/* A difference, read as signed: 2x when x is not negative, else -2x-1, which is the complement of 2x; and back. */
+INLINED WORD NAME(difference_code)(WORD x) { return (x << 1) ^ (0 - (x >> (WIDTH - 1))); }
+INLINED WORD NAME(difference)(WORD code) { return (code >> 1) ^ (0 - (code & 1)); }
+
+/* The code of a value; in mode 2 the one before it is looked at too. */
+INLINED WORD NAME(code_of)(const WORD *value, uint32_t mode, BIN bin)
 {
-    return mode == 0 ? NAME(lossless_code)(pattern) : NAME(tolerance_code)(pattern, bin);
+    if (mode == 2)
+        return NAME(difference_code)(value[0] - value[-1]);
+    return mode == 0 ? NAME(lossless_code)(*value) : NAME(tolerance_code)(*value, bin);
 }
 
+/* The pattern of a code in modes 0 and 1. */
 INLINED WORD NAME(restored)(WORD code, uint32_t mode, BIN bin)
 {
     return mode == 0 ? NAME(lossless_pattern)(code) : NAME(tolerance_pattern)(code, bin);
@@ -384,38 +404,54 @@ INLINED void NAME(take_codes)(const uint8_t *window, WORD *codes, unsigned w)
 }
 
 /*
- * The 32 codes at a place of a stream. All but the last groups are read where they lie. Past a short group's count the
- * codes are made of whatever follows, and nobody looks at them.
+ * The 32 codes at a place of a stream. Past a short group's count they are made of whatever follows, and nobody looks
+ * at them.
  */
 static void NAME(take)(const struct stream *stream, size_t place, WORD *codes, unsigned w)
 {
-    uint8_t window[WINDOW];
-    const uint8_t *from = stream->bytes + place;
-    size_t length = stream->length - place;
-    if (length < WINDOW) {
-        memcpy(window, from, length);
-        memset(window + length, 0, WINDOW - length);
-        from = window;
-    }
-#define ARM(byte) case byte: NAME(take_codes)(from, codes, byte); break;
+    uint8_t copy[WINDOW];
+    const uint8_t *window = window_at(stream, place, copy);
+#define ARM(byte) case byte: NAME(take_codes)(window, codes, byte); break;
     switch (w) { NAME(FOR_EACH_BYTE)(ARM) }
 #undef ARM
 }
 
-/*
- * The codes of up to 32 values, and their width byte: the bit length of the largest is that of all or-ed together. A
- * short group is filled up with pattern 0, whose code is 0 in both modes: that changes neither width nor bytes.
- */
-INLINED unsigned NAME(code_group)(const WORD *values, size_t count, uint32_t mode, BIN bin, WORD *codes)
+/* A code goes from its bytes to its pattern without a stop: that is faster than several lanes with a stop between. */
+INLINED WORD NAME(sum_codes)(const uint8_t *window, WORD sum, WORD *patterns, unsigned w)
 {
-    WORD filled[GROUP], all = 0;
-    if (count < GROUP) {
-        memset(filled, 0, sizeof filled);
-        memcpy(filled, values, count * sizeof *values);
-        values = filled;
+#define STEP(i) patterns[i] = sum += NAME(difference)((WORD)take_code(window, (i) * w, w));
+    FOR_32(STEP)
+#undef STEP
+    return sum;
+}
+
+/* Likewise 32 differences, summed up to the patterns after one; the last is answered. */
+static WORD NAME(take_sums)(const struct stream *stream, size_t place, WORD before, WORD *patterns, unsigned w)
+{
+    uint8_t copy[WINDOW];
+    const uint8_t *window = window_at(stream, place, copy);
+#define ARM(byte) case byte: return NAME(sum_codes)(window, before, patterns, byte);
+    switch (w) { NAME(FOR_EACH_BYTE)(ARM) }
+#undef ARM
+    return before;
+}
+
+/*
+ * The codes of up to 32 values, and their width byte: the bit length of the largest is that of all or-ed together. Most
+ * groups are read where they lie. A chunk's first one follows pattern 0. A short one is filled up with what has code 0,
+ * which changes neither width nor bytes: pattern 0 or, in mode 2, the last one again.
+ */
+INLINED unsigned NAME(code_group)(const WORD *values, size_t count, int first, uint32_t mode, BIN bin, WORD *codes)
+{
+    WORD laid[1 + GROUP], all = 0;
+    if (count < GROUP || (first && mode == 2)) {
+        laid[0] = first ? 0 : values[-1];
+        for (size_t i = 0; i < GROUP; i++)
+            laid[1 + i] = i < count ? values[i] : mode == 2 ? values[count - 1] : 0;
+        values = laid + 1;
     }
     for (size_t i = 0; i < GROUP; i++) {
-        codes[i] = NAME(code_of)(values[i], mode, bin);
+        codes[i] = NAME(code_of)(values + i, mode, bin);
         all |= codes[i];
     }
     return bit_length(all);
@@ -438,7 +474,7 @@ INLINED size_t NAME(pack_data)(const WORD *values, size_t n, uint32_t mode, BIN 
     for (size_t first = 0; first < n; first += GROUP) {
         WORD codes[GROUP];
         size_t count = least(GROUP, n - first);
-        unsigned w = NAME(code_group)(values + first, count, mode, bin, codes);
+        unsigned w = NAME(code_group)(values + first, count, first % CHUNK == 0, mode, bin, codes);
         if (out != NULL) {
             uint32_t start = (uint32_t)(at - data);
             if (first % CHUNK == 0)
@@ -454,10 +490,20 @@ INLINED size_t NAME(pack_data)(const WORD *values, size_t n, uint32_t mode, BIN 
     return at;
 }
 
-static size_t NAME(measured)(uint32_t mode, int32_t k, const WORD *values, size_t n)
+/* The same, in a mode that is a constant from here on. */
+INLINED size_t NAME(pack_in_mode)(uint32_t mode, int32_t k, const WORD *values, size_t n, uint8_t *out)
 {
     BIN bin = NAME(bin_of)(k);
-    return mode == 0 ? NAME(pack_data)(values, n, 0, bin, NULL) : NAME(pack_data)(values, n, 1, bin, NULL);
+    switch (mode) {
+    case 0: return NAME(pack_data)(values, n, 0, bin, out);
+    case 1: return NAME(pack_data)(values, n, 1, bin, out);
+    default: return NAME(pack_data)(values, n, 2, bin, out);
+    }
+}
+
+static size_t NAME(measured)(uint32_t mode, int32_t k, const WORD *values, size_t n)
+{
+    return NAME(pack_in_mode)(mode, k, values, n, NULL);
 }
 
 /* Refusals 1 2 3, or the bytes pack would use. */
@@ -479,8 +525,7 @@ uint64_t NAME(plain_pack)(uint32_t level, uint32_t mode, int32_t k, const WORD *
         if (room < length)
             return refused(4, length);
     }
-    BIN bin = NAME(bin_of)(k);
-    size_t end = mode == 0 ? NAME(pack_data)(values, n, 0, bin, out) : NAME(pack_data)(values, n, 1, bin, out);
+    size_t end = NAME(pack_in_mode)(mode, k, values, n, out);
     struct header header = {1, level, need(WIDTH, mode), WIDTH, mode, k, (uint32_t)n, c, HEADER, HEADER + 4 * c, 0,
                             (uint32_t)end};
     memcpy(out, &header, HEADER);
@@ -492,7 +537,7 @@ uint64_t NAME(plain_pack)(uint32_t level, uint32_t mode, int32_t k, const WORD *
 /* The largest code a stream may hold: in mode 1 twice the largest u, plus the sign. */
 static WORD NAME(largest_code)(const struct header *header)
 {
-    return header->mode == 0 ? ~(WORD)0 : ~(WORD)0 - ((WORD)(header->k - LEAST_K) << (M + 1));
+    return header->mode == 1 ? ~(WORD)0 - ((WORD)(header->k - LEAST_K) << (M + 1)) : ~(WORD)0;
 }
 
 /* The smallest width, zero padding and the largest code of a group whose bytes are there. */
@@ -541,21 +586,39 @@ static uint64_t NAME(check_chunks)(const struct stream *stream)
     return 0;
 }
 
+/*
+ * Restores 32 codes of w bits at a place of a stream. What code 0 restores is told, and answered for the next group:
+ * pattern 0 or, in mode 2, the last one.
+ */
+INLINED WORD NAME(restore_group)(const struct stream *stream, size_t place, unsigned w, WORD still, uint32_t mode,
+                                 BIN bin, WORD *values)
+{
+    if (mode == 2)
+        return NAME(take_sums)(stream, place, still, values, w);
+    WORD codes[GROUP];
+    NAME(take)(stream, place, codes, w);
+    for (size_t i = 0; i < GROUP; i++)
+        values[i] = NAME(restored)(codes[i], mode, bin);
+    return 0;
+}
+
 /* Restores all groups of checked data. Chunks hold whole groups and follow each other without a gap. */
 INLINED void NAME(restore_data)(const struct stream *stream, uint32_t mode, BIN bin, WORD *restrict out)
 {
     size_t n = stream->header.n, at = stream->header.data;
+    WORD still = 0; /* what code 0 restores */
     for (size_t first = 0; first < n; first += GROUP) {
         size_t count = least(GROUP, n - first);
         unsigned w = stream->bytes[at++];
-        if (w == 0 && count == GROUP) { /* code 0 restores pattern 0 in both modes */
-            memset(out + first, 0, GROUP * sizeof *out);
+        if (first % CHUNK == 0)
+            still = 0;
+        if (w == 0 && count == GROUP) {
+            for (size_t i = 0; i < GROUP; i++)
+                out[first + i] = still;
             continue;
         }
-        WORD codes[GROUP], values[GROUP], *to = count == GROUP ? out + first : values;
-        NAME(take)(stream, at, codes, w);
-        for (size_t i = 0; i < GROUP; i++)
-            to[i] = NAME(restored)(codes[i], mode, bin);
+        WORD values[GROUP], *to = count == GROUP ? out + first : values;
+        still = NAME(restore_group)(stream, at, w, still, mode, bin, to);
         if (count < GROUP)
             memcpy(out + first, values, count * sizeof *values);
         at += bytes_of(count, w);
@@ -573,10 +636,11 @@ uint64_t NAME(plain_unpack)(uint32_t level, const uint8_t *bytes, size_t length,
     TRY(check_tables(&stream));
     TRY(NAME(check_chunks)(&stream));
     BIN bin = NAME(bin_of)(header->k);
-    if (header->mode == 0)
-        NAME(restore_data)(&stream, 0, bin, out);
-    else
-        NAME(restore_data)(&stream, 1, bin, out);
+    switch (header->mode) {
+    case 0: NAME(restore_data)(&stream, 0, bin, out); break;
+    case 1: NAME(restore_data)(&stream, 1, bin, out); break;
+    default: NAME(restore_data)(&stream, 2, bin, out);
+    }
     return header->n;
 }
 
@@ -591,6 +655,28 @@ static WORD NAME(code_at)(const struct stream *stream, size_t chunk, size_t inde
     return codes[index];
 }
 
+/* The pattern at an index of a checked chunk in mode 2: the sums run from the chunk's start. */
+static WORD NAME(sum_at)(const struct stream *stream, size_t chunk, size_t index)
+{
+    size_t at = chunk_place(stream, chunk);
+    WORD patterns[GROUP], before = 0;
+    for (; index >= GROUP; index -= GROUP) {
+        before = NAME(take_sums)(stream, at + 1, before, patterns, stream->bytes[at]);
+        at += 1 + bytes_of(GROUP, stream->bytes[at]);
+    }
+    NAME(take_sums)(stream, at + 1, before, patterns, stream->bytes[at]);
+    return patterns[index];
+}
+
+/* The pattern at an index of a checked chunk. */
+static WORD NAME(pattern_at)(const struct stream *stream, size_t chunk, size_t index)
+{
+    const struct header *header = &stream->header;
+    if (header->mode == 2)
+        return NAME(sum_at)(stream, chunk, index);
+    return NAME(restored)(NAME(code_at)(stream, chunk, index), header->mode, NAME(bin_of)(header->k));
+}
+
 /* Refusals 1 5 6 7 8 14 11 9 10, or the kind: 0 finite, 1 infinite, 2 not-a-number. Of the chunks its own is read. */
 uint64_t NAME(plain_probe)(uint32_t level, const uint8_t *bytes, size_t length, uint64_t index, WORD *pattern)
 {
@@ -601,8 +687,7 @@ uint64_t NAME(plain_probe)(uint32_t level, const uint8_t *bytes, size_t length, 
     TRY(refused_if(index >= header->n, 11));
     TRY(check_tables(&stream));
     TRY(NAME(check_chunk)(&stream, index / CHUNK));
-    WORD code = NAME(code_at)(&stream, index / CHUNK, index % CHUNK);
-    *pattern = NAME(restored)(code, header->mode, NAME(bin_of)(header->k));
+    *pattern = NAME(pattern_at)(&stream, index / CHUNK, index % CHUNK);
     WORD ordinal = *pattern & ~HIGHEST, infinity = HIGHEST - ((WORD)1 << M);
     return ordinal < infinity ? 0 : ordinal == infinity ? 1 : 2;
 }

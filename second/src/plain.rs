@@ -2,14 +2,15 @@
 //!
 //! Ordinary safe Rust. Values are coded 32 at a time in a fixed array, by loops
 //! that the compiler turns into steps of several lanes. Codes are put and taken
-//! by a function for each width byte, in which every shift is known, and the
-//! tolerance code divides by exact products of floats. Nothing is allocated.
+//! by a function for each width byte, in which every shift is known; that of the
+//! difference mode takes and sums up at once. The tolerance code divides by exact
+//! products of floats. Nothing is allocated.
 //! The rules, constants and checks are written here again rather than borrowed
 //! from the reference, so that comparing the two says something about both.
 //! `plain.c` is the same in C.
 
 use crate::{Answer, Refusal};
-use std::ops::BitOr;
+use std::ops::{BitOr, RangeInclusive};
 
 const MOST_VALUES: usize = 1 << 20;
 const CHUNK: usize = 1024;
@@ -46,9 +47,11 @@ pub trait Lane: Copy + Default + Ord + BitOr<Output = Self> + 'static {
     const W: u32;
     const LEAST_K: i32;
     const GREATEST_K: i32;
-    /// Put and take 32 codes of as many bits as the index says.
+    /// Put and take 32 codes of as many bits as the index says, and sum up as
+    /// many differences.
     const PUT: &'static [Put<Self>];
     const TAKE: &'static [Take<Self>];
+    const SUM: &'static [Sum<Self>];
     /// What the tolerance code needs of an allowed k.
     type Bin: Copy;
 
@@ -56,6 +59,10 @@ pub trait Lane: Copy + Default + Ord + BitOr<Output = Self> + 'static {
     fn narrow(word: u64) -> Self;
     fn lossless_code(self) -> Self;
     fn lossless_pattern(self) -> Self;
+    /// The code of the difference from the pattern before.
+    fn difference_code(self, before: Self) -> Self;
+    /// The pattern of a code of a difference from the pattern before.
+    fn difference_pattern(self, before: Self) -> Self;
     /// The largest code a stream may hold: in mode 1 twice the largest u, plus
     /// the sign.
     fn largest_code(mode: u32, k: i32) -> Self;
@@ -67,6 +74,7 @@ pub trait Lane: Copy + Default + Ord + BitOr<Output = Self> + 'static {
 
 pub type Put<P> = fn(&[P; GROUP], &mut [u8]);
 pub type Take<P> = fn(&[u8; WINDOW], &mut [P; GROUP]);
+pub type Sum<P> = fn(&[u8; WINDOW], P, &mut [P; GROUP]) -> P;
 
 /// What one k gives.
 #[derive(Clone, Copy)]
@@ -90,6 +98,7 @@ macro_rules! lane {
             const GREATEST_K: i32 = $greatest_k;
             const PUT: &'static [Put<$word>] = for_each_width!(put_codes, $word);
             const TAKE: &'static [Take<$word>] = for_each_width!(take_codes, $word);
+            const SUM: &'static [Sum<$word>] = for_each_width!(sum_differences, $word);
             type Bin = Bin<$word, $float>;
 
             #[inline(always)]
@@ -129,10 +138,22 @@ macro_rules! lane {
                 rotated.rotate_right(1)
             }
 
+            #[inline(always)]
+            fn difference_code(self, before: Self) -> Self {
+                let x = self.wrapping_sub(before) as $signed;
+                // -2x-1 is the complement of 2x.
+                ((x << 1) ^ (x >> ($word::BITS - 1))) as $word
+            }
+
+            #[inline(always)]
+            fn difference_pattern(self, before: Self) -> Self {
+                before.wrapping_add((self >> 1) ^ (self & 1).wrapping_neg())
+            }
+
             fn largest_code(mode: u32, k: i32) -> Self {
                 match mode {
-                    0 => $word::MAX,
-                    _ => $word::MAX - (((k - $least_k) as $word) << ($m + 1)),
+                    1 => $word::MAX - (((k - $least_k) as $word) << ($m + 1)),
+                    _ => $word::MAX,
                 }
             }
 
@@ -222,73 +243,56 @@ fn whole_as_f64(u: u64) -> f64 {
 lane!(u32, i32, f32, 23, -150, 103, half_up_24, whole_as_f32);
 lane!(u64, i64, f64, 52, -1075, 970, half_up_53, whole_as_f64);
 
-// ------------------------------------------------------- pack and length
+// -------------------------------------------------------------- the modes
 
-/// Width 64 needs 10; else mode 1 needs 9; else 8.
-fn need(width: u32, mode: u32) -> u32 {
-    match (width, mode) {
-        (64, _) => 10,
-        (_, 1) => 9,
-        _ => 8,
+/// How a mode makes codes of patterns, and restores them.
+trait Rule<P: Lane>: Copy {
+    /// Hands on each group of a chunk by its codes and how many are its own.
+    /// Those past a short group's count are 0, which changes neither the width
+    /// nor the bytes, as padding bits are zero too.
+    fn for_each_group(self, chunk: &[P], hand_on: impl FnMut(&[P; GROUP], usize));
+
+    /// Restores a group from the codes of w bits that begin the bytes. What code
+    /// 0 restores is told, and answered for the next group.
+    fn restore(self, packed: &[u8], w: u32, still: P, group: &mut [P]) -> P;
+
+    /// The pattern at an index of the checked chunk that begins the bytes.
+    fn pattern_at(self, chunk: &[u8], index: usize) -> P;
+}
+
+/// Modes 0 and 1: each pattern has its own code, and code 0 is pattern 0.
+#[derive(Clone, Copy)]
+struct Each<Code, Restored> {
+    code: Code,
+    restored: Restored,
+}
+
+impl<P: Lane, Code: Fn(P) -> P + Copy, Restored: Fn(P) -> P + Copy> Rule<P>
+    for Each<Code, Restored>
+{
+    #[inline(always)]
+    fn for_each_group(self, chunk: &[P], mut hand_on: impl FnMut(&[P; GROUP], usize)) {
+        for group in chunk.chunks(GROUP) {
+            hand_on(&codes_of(group, self.code), group.len());
+        }
+    }
+
+    #[inline(always)]
+    fn restore(self, packed: &[u8], w: u32, _: P, group: &mut [P]) -> P {
+        let codes = taken(packed, w);
+        match <&mut [P; GROUP]>::try_from(&mut *group) {
+            Ok(full) => restore_into(full, &codes, self.restored),
+            Err(_) => restore_into(group, &codes, self.restored),
+        }
+        P::default()
+    }
+
+    fn pattern_at(self, chunk: &[u8], index: usize) -> P {
+        (self.restored)(code_at(chunk, index))
     }
 }
 
-fn setting_allowed(mode: u32, k: i32, least_k: i32, greatest_k: i32) -> bool {
-    match mode {
-        0 => k == 0,
-        1 => least_k <= k && k <= greatest_k,
-        _ => false,
-    }
-}
-
-/// Refusals 1 2 3 of pack and length.
-fn admit<P: Lane>(level: u32, mode: u32, k: i32, n: usize) -> Result<(), Refusal> {
-    if !(8..=10).contains(&level) {
-        return Err(Refusal::bare(1));
-    }
-    if !setting_allowed(mode, k, P::LEAST_K, P::GREATEST_K) || need(P::W, mode) > level {
-        return Err(Refusal::bare(2));
-    }
-    if n > MOST_VALUES {
-        return Err(Refusal::bare(3));
-    }
-    Ok(())
-}
-
-/// Writes the packed stream to the front of the output.
-pub fn pack<P: Lane>(level: u32, mode: u32, k: i32, values: &[P], output: &mut [u8]) -> Answer {
-    admit::<P>(level, mode, k, values.len())?;
-    let end = if mode == 0 {
-        pack_data(values, output, P::lossless_code)?
-    } else {
-        let bin = P::bin(k);
-        pack_data(values, output, |pattern| pattern.tolerance_code(bin))?
-    };
-    let n = values.len() as u32;
-    let c = n.div_ceil(CHUNK as u32);
-    let need = need(P::W, mode);
-    let numbers = [1, level, need, P::W, mode, k as u32, n, c, 48, 48 + 4 * c, 0, end as u32];
-    for (place, number) in output.chunks_exact_mut(4).zip(numbers) {
-        place.copy_from_slice(&number.to_le_bytes());
-    }
-    Ok(end as u64)
-}
-
-/// The bytes pack would use.
-pub fn length<P: Lane>(level: u32, mode: u32, k: i32, values: &[P]) -> Answer {
-    admit::<P>(level, mode, k, values.len())?;
-    let length = if mode == 0 {
-        measured(values, P::lossless_code)
-    } else {
-        let bin = P::bin(k);
-        measured(values, |pattern| pattern.tolerance_code(bin))
-    };
-    Ok(length as u64)
-}
-
-/// The codes of up to 32 values. A short group is filled up with pattern 0,
-/// whose code is 0 in both modes: that changes neither the width nor the
-/// bytes, as padding bits are zero too.
+/// The codes of up to 32 values. A short group is filled up with pattern 0.
 #[inline(always)]
 fn codes_of<P: Lane>(group: &[P], code: impl Fn(P) -> P) -> [P; GROUP] {
     match <&[P; GROUP]>::try_from(group) {
@@ -311,6 +315,140 @@ fn coded<P: Lane>(patterns: &[P; GROUP], code: impl Fn(P) -> P) -> [P; GROUP] {
     codes
 }
 
+/// Restores as many codes as there are elements; a group of known length
+/// lets the compiler unroll.
+#[inline(always)]
+fn restore_into<P: Lane>(group: &mut [P], codes: &[P; GROUP], restored: impl Fn(P) -> P) {
+    for (element, &code) in group.iter_mut().zip(codes) {
+        *element = restored(code);
+    }
+}
+
+/// Mode 2: a code is the difference from the pattern before, and code 0 is that
+/// pattern again.
+#[derive(Clone, Copy)]
+struct Differences;
+
+impl<P: Lane> Rule<P> for Differences {
+    /// The whole chunk is coded by one long loop, of which the compiler makes
+    /// better steps than of 32 at a time.
+    #[inline(always)]
+    fn for_each_group(self, chunk: &[P], mut hand_on: impl FnMut(&[P; GROUP], usize)) {
+        let mut codes = [P::default(); CHUNK];
+        codes[0] = chunk[0].difference_code(P::default());
+        for (code, pair) in codes[1..].iter_mut().zip(chunk.windows(2)) {
+            *code = pair[1].difference_code(pair[0]);
+        }
+        for (codes, group) in codes.as_chunks().0.iter().zip(chunk.chunks(GROUP)) {
+            hand_on(codes, group.len());
+        }
+    }
+
+    #[inline(always)]
+    fn restore(self, packed: &[u8], w: u32, still: P, group: &mut [P]) -> P {
+        opened(packed, |window| match <&mut [P; GROUP]>::try_from(&mut *group) {
+            Ok(full) => P::SUM[w as usize](window, still, full),
+            Err(_) => {
+                let mut patterns = [still; GROUP];
+                let last = P::SUM[w as usize](window, still, &mut patterns);
+                group.copy_from_slice(&patterns[..group.len()]);
+                last
+            }
+        })
+    }
+
+    /// The sums run from the chunk's start.
+    fn pattern_at(self, mut chunk: &[u8], index: usize) -> P {
+        let (mut before, mut patterns) = (P::default(), [P::default(); GROUP]);
+        for _ in 0..index / GROUP {
+            before = self.restore(&chunk[1..], chunk[0] as u32, before, &mut patterns);
+            chunk = after_full_group(chunk);
+        }
+        self.restore(&chunk[1..], chunk[0] as u32, before, &mut patterns);
+        patterns[index % GROUP]
+    }
+}
+
+/// Does something by the rule of an allowed mode and k, which is known to the
+/// compiler there.
+macro_rules! by_rule {
+    ($mode:expr, $k:expr, $rule:ident => $done:expr) => {
+        match $mode {
+            0 => {
+                let $rule = Each { code: P::lossless_code, restored: P::lossless_pattern };
+                $done
+            }
+            1 => {
+                let bin = P::bin($k);
+                let code = move |pattern: P| pattern.tolerance_code(bin);
+                let restored = move |code: P| code.tolerance_pattern(bin);
+                let $rule = Each { code, restored };
+                $done
+            }
+            _ => {
+                let $rule = Differences;
+                $done
+            }
+        }
+    };
+}
+
+// ------------------------------------------------------- pack and length
+
+const LEVELS: RangeInclusive<u32> = 8..=11;
+
+/// Mode 2 needs 11; else width 64 needs 10; else mode 1 needs 9; else 8.
+fn need(width: u32, mode: u32) -> u32 {
+    match (width, mode) {
+        (_, 2) => 11,
+        (64, _) => 10,
+        (_, 1) => 9,
+        _ => 8,
+    }
+}
+
+fn setting_allowed(mode: u32, k: i32, least_k: i32, greatest_k: i32) -> bool {
+    match mode {
+        0 | 2 => k == 0,
+        1 => least_k <= k && k <= greatest_k,
+        _ => false,
+    }
+}
+
+/// Refusals 1 2 3 of pack and length.
+fn admit<P: Lane>(level: u32, mode: u32, k: i32, n: usize) -> Result<(), Refusal> {
+    if !LEVELS.contains(&level) {
+        return Err(Refusal::bare(1));
+    }
+    if !setting_allowed(mode, k, P::LEAST_K, P::GREATEST_K) || need(P::W, mode) > level {
+        return Err(Refusal::bare(2));
+    }
+    if n > MOST_VALUES {
+        return Err(Refusal::bare(3));
+    }
+    Ok(())
+}
+
+/// Writes the packed stream to the front of the output.
+pub fn pack<P: Lane>(level: u32, mode: u32, k: i32, values: &[P], output: &mut [u8]) -> Answer {
+    admit::<P>(level, mode, k, values.len())?;
+    let end = by_rule!(mode, k, rule => pack_data(values, output, rule))?;
+    let n = values.len() as u32;
+    let c = n.div_ceil(CHUNK as u32);
+    let need = need(P::W, mode);
+    let numbers = [1, level, need, P::W, mode, k as u32, n, c, 48, 48 + 4 * c, 0, end as u32];
+    for (place, number) in output.chunks_exact_mut(4).zip(numbers) {
+        place.copy_from_slice(&number.to_le_bytes());
+    }
+    Ok(end as u64)
+}
+
+/// The bytes pack would use.
+pub fn length<P: Lane>(level: u32, mode: u32, k: i32, values: &[P]) -> Answer {
+    admit::<P>(level, mode, k, values.len())?;
+    Ok(by_rule!(mode, k, rule => measured(values, rule)) as u64)
+}
+
 /// The bit length of the largest code is that of all codes or-ed together.
 #[inline(always)]
 fn width_of<P: Lane>(codes: &[P; GROUP]) -> u32 {
@@ -323,10 +461,12 @@ fn bytes_of(count: usize, w: u32) -> usize {
     (count * w as usize).div_ceil(8)
 }
 
-fn measured<P: Lane>(values: &[P], code: impl Fn(P) -> P + Copy) -> usize {
-    let groups = values.chunks(GROUP);
-    let bytes = groups.map(|group| 1 + bytes_of(group.len(), width_of(&codes_of(group, code))));
-    HEADER + 4 * values.len().div_ceil(CHUNK) + bytes.sum::<usize>()
+fn measured<P: Lane>(values: &[P], rule: impl Rule<P>) -> usize {
+    let mut length = HEADER + 4 * values.len().div_ceil(CHUNK);
+    for chunk in values.chunks(CHUNK) {
+        rule.for_each_group(chunk, |codes, count| length += 1 + bytes_of(count, width_of(codes)));
+    }
+    length
 }
 
 /// The length no packed stream of n values exceeds.
@@ -339,10 +479,10 @@ fn most_bytes<P: Lane>(n: usize) -> usize {
 fn pack_data<P: Lane>(
     values: &[P],
     output: &mut [u8],
-    code: impl Fn(P) -> P + Copy,
+    rule: impl Rule<P>,
 ) -> Result<usize, Refusal> {
     if output.len() < most_bytes::<P>(values.len()) {
-        let length = measured(values, code);
+        let length = measured(values, rule);
         if output.len() < length {
             return Err(Refusal::with_detail(4, length as u64));
         }
@@ -353,21 +493,20 @@ fn pack_data<P: Lane>(
     let mut at = 0;
     for (chunk, entry) in values.chunks(CHUNK).zip(table) {
         entry.copy_from_slice(&(at as u32).to_le_bytes());
-        for group in chunk.chunks(GROUP) {
-            let codes = codes_of(group, code);
-            let w = width_of(&codes);
-            let length = bytes_of(group.len(), w);
+        rule.for_each_group(chunk, |codes, count| {
+            let w = width_of(codes);
+            let length = bytes_of(count, w);
             data[at] = w as u8;
             let packed = &mut data[at + 1..at + 1 + length];
-            if group.len() == GROUP {
-                P::PUT[w as usize](&codes, packed);
+            if count == GROUP {
+                P::PUT[w as usize](codes, packed);
             } else {
                 let mut whole = [0; 8 * GROUP];
-                P::PUT[w as usize](&codes, &mut whole);
+                P::PUT[w as usize](codes, &mut whole);
                 packed.copy_from_slice(&whole[..length]);
             }
             at += 1 + length;
-        }
+        });
     }
     Ok(data_place + at)
 }
@@ -419,7 +558,7 @@ fn number_at(stream: &[u8], place: usize) -> u32 {
 }
 
 fn read_header(level: u32, stream: &[u8]) -> Result<Header, Refusal> {
-    if !(8..=10).contains(&level) {
+    if !LEVELS.contains(&level) {
         return Err(Refusal::bare(1));
     }
     if stream.len() < HEADER {
@@ -612,12 +751,7 @@ pub fn unpack<P: Lane>(level: u32, stream: &[u8], output: &mut [P]) -> Answer {
     check_chunks::<P>(stream, &header)?;
     let data = &stream[header.data_place..header.data_end];
     let output = &mut output[..header.n];
-    if header.mode == 0 {
-        unpack_data(data, output, P::lossless_pattern);
-    } else {
-        let bin = P::bin(header.k);
-        unpack_data(data, output, |code| code.tolerance_pattern(bin));
-    }
+    by_rule!(header.mode, header.k, rule => unpack_data(data, output, rule));
     Ok(header.n as u64)
 }
 
@@ -634,49 +768,37 @@ pub fn probe<P: Lane>(level: u32, stream: &[u8], index: u64) -> Result<P, Refusa
     let (chunk, index) = (index as usize / CHUNK, index as usize % CHUNK);
     check_chunk(stream, &header, chunk, P::largest_code(header.mode, header.k))?;
     let start = header.data_place + chunk_start(stream, chunk);
-    let code = code_at::<P>(&stream[start..], index);
-    Ok(if header.mode == 0 {
-        code.lossless_pattern()
-    } else {
-        code.tolerance_pattern(P::bin(header.k))
-    })
+    Ok(by_rule!(header.mode, header.k, rule => rule.pattern_at(&stream[start..], index)))
 }
 
 /// The code at an index of the checked chunk that begins the bytes: the groups
 /// before its own are full, and are stepped over.
 fn code_at<P: Lane>(mut chunk: &[u8], index: usize) -> P {
     for _ in 0..index / GROUP {
-        chunk = &chunk[1 + bytes_of(GROUP, chunk[0] as u32)..];
+        chunk = after_full_group(chunk);
     }
     taken(&chunk[1..], chunk[0] as u32)[index % GROUP]
 }
 
-/// Restores all groups of checked data. Chunks need no attention: they hold
-/// whole groups and follow each other without a gap.
-fn unpack_data<P: Lane>(data: &[u8], output: &mut [P], restored: impl Fn(P) -> P + Copy) {
-    let mut at = 0;
-    for group in output.chunks_mut(GROUP) {
-        let w = data[at] as u32;
-        let packed = &data[at + 1..];
-        at += 1 + bytes_of(group.len(), w);
-        if w == 0 {
-            group.fill(restored(P::default()));
-            continue;
-        }
-        let codes = taken(packed, w);
-        match <&mut [P; GROUP]>::try_from(&mut *group) {
-            Ok(full) => restore_into(full, &codes, restored),
-            Err(_) => restore_into(group, &codes, restored),
-        }
-    }
+/// The bytes after the full group that begins them.
+fn after_full_group(bytes: &[u8]) -> &[u8] {
+    &bytes[1 + bytes_of(GROUP, bytes[0] as u32)..]
 }
 
-/// Restores as many codes as there are elements; a group of known length
-/// lets the compiler unroll.
-#[inline(always)]
-fn restore_into<P: Lane>(group: &mut [P], codes: &[P; GROUP], restored: impl Fn(P) -> P) {
-    for (element, &code) in group.iter_mut().zip(codes) {
-        *element = restored(code);
+/// Restores all groups of checked data: chunks hold whole groups and follow
+/// each other without a gap.
+fn unpack_data<P: Lane>(mut data: &[u8], output: &mut [P], rule: impl Rule<P>) {
+    for chunk in output.chunks_mut(CHUNK) {
+        let mut still = P::default();
+        for group in chunk.chunks_mut(GROUP) {
+            let (w, packed) = (data[0] as u32, &data[1..]);
+            data = &packed[bytes_of(group.len(), w)..];
+            if w == 0 {
+                group.fill(still);
+                continue;
+            }
+            still = rule.restore(packed, w, still, group);
+        }
     }
 }
 
@@ -684,15 +806,22 @@ fn restore_into<P: Lane>(group: &mut [P], codes: &[P; GROUP], restored: impl Fn(
 /// from any place where a code begins.
 const WINDOW: usize = 8 * GROUP + 8;
 
-/// 32 codes of w bits. All but a stream's last groups are read where they lie.
+/// 32 codes of w bits.
 #[inline(always)]
 fn taken<P: Lane>(packed: &[u8], w: u32) -> [P; GROUP] {
     let mut codes = [P::default(); GROUP];
-    match packed.first_chunk() {
-        Some(window) => P::TAKE[w as usize](window, &mut codes),
-        None => P::TAKE[w as usize](&windowed(packed), &mut codes),
-    }
+    opened(packed, |window| P::TAKE[w as usize](window, &mut codes));
     codes
+}
+
+/// Does something with the window that the bytes begin. All but a stream's last
+/// groups are read where they lie.
+#[inline(always)]
+fn opened<T>(packed: &[u8], done: impl FnOnce(&[u8; WINDOW]) -> T) -> T {
+    match packed.first_chunk() {
+        Some(window) => done(window),
+        None => done(&windowed(packed)),
+    }
 }
 
 /// The bytes, or as many as matter, with zero bytes after them.
@@ -703,22 +832,47 @@ fn windowed(packed: &[u8]) -> [u8; WINDOW] {
     window
 }
 
-/// Takes 32 codes of W bits, each with the eight or nine bytes that hold it; W
-/// is known to the compiler, and with it every place and shift. Past a short
-/// group's count they are made of whatever follows it, and nobody looks at them.
+/// Takes 32 codes of W bits. Past a short group's count they are made of
+/// whatever follows it, and nobody looks at them.
 fn take_codes<P: Lane, const W: usize>(window: &[u8; WINDOW], codes: &mut [P; GROUP]) {
-    let mask = if W == 0 { 0 } else { u64::MAX >> (64 - W) };
     macro_rules! take {
         ($index:literal) => {
-            let (place, shift) = ($index * W / 8, $index * W % 8);
-            let mut eight = [0; 8];
-            eight.copy_from_slice(&window[place..place + 8]);
-            let mut code = u64::from_le_bytes(eight) >> shift;
-            if shift + W > 64 {
-                code |= (window[place + 8] as u64) << (64 - shift);
-            }
-            codes[$index] = P::narrow(code & mask);
+            codes[$index] = code_in::<P, W>(window, $index);
         };
     }
     for_each_code!(take);
+}
+
+/// Sums up 32 differences, whose codes have W bits, to the patterns after one,
+/// and answers the last. A code goes from its bytes to its pattern without a
+/// stop: that is faster than several lanes with a stop between.
+fn sum_differences<P: Lane, const W: usize>(
+    window: &[u8; WINDOW],
+    before: P,
+    patterns: &mut [P; GROUP],
+) -> P {
+    let mut sum = before;
+    macro_rules! add {
+        ($index:literal) => {
+            sum = code_in::<P, W>(window, $index).difference_pattern(sum);
+            patterns[$index] = sum;
+        };
+    }
+    for_each_code!(add);
+    sum
+}
+
+/// The code at an index, from the eight or nine bytes that hold it. W and the
+/// index are known to the compiler, and with them the place and the shift.
+#[inline(always)]
+fn code_in<P: Lane, const W: usize>(window: &[u8; WINDOW], index: usize) -> P {
+    let mask = if W == 0 { 0 } else { u64::MAX >> (64 - W) };
+    let (place, shift) = (index * W / 8, index * W % 8);
+    let mut eight = [0; 8];
+    eight.copy_from_slice(&window[place..place + 8]);
+    let mut code = u64::from_le_bytes(eight) >> shift;
+    if shift + W > 64 {
+        code |= (window[place + 8] as u64) << (64 - shift);
+    }
+    P::narrow(code & mask)
 }

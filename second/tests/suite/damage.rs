@@ -76,7 +76,7 @@ fn canonical<P: Bits>(stream: &[u8], values: &[P]) {
         return;
     }
     let mut again = vec![0; stream.len()];
-    let answer = stream::pack(10, number(4), number(5) as i32, values, &mut again);
+    let answer = stream::pack(11, number(4), number(5) as i32, values, &mut again);
     assert_eq!(answer, Ok(stream.len() as u64));
     again[4..8].copy_from_slice(&stream[4..8]);
     assert!(again == stream);
@@ -99,7 +99,7 @@ fn judge_width<P: Bits>(rng: &mut XorShift, level: u32, stream: &[u8], seen: &mu
 
 /// Everything both implementations can say of a stream.
 fn judge(rng: &mut XorShift, stream: &[u8], seen: &mut Seen) {
-    let level = rng.one_of(&[10, 10, 10, 10, 9, 8, 7, 12]);
+    let level = rng.one_of(&[11, 11, 11, 11, 10, 9, 8, 7, 12]);
     let answer = stream::check(level, stream);
     assert_eq!(plain::check(level, stream), answer);
     note(seen, answer);
@@ -117,11 +117,11 @@ fn judge(rng: &mut XorShift, stream: &[u8], seen: &mut Seen) {
 /// A sound stream, now and then with side parts.
 fn some_stream(rng: &mut XorShift) -> Vec<u8> {
     fn packed<P: Bits>(rng: &mut XorShift) -> Vec<u8> {
-        let (mode, n) = (rng.below(2) as u32, some_length(rng));
-        let k = if mode == 0 { 0 } else { some_k(rng, P::WIDTH) };
+        let (mode, n) = (rng.below(3) as u32, some_length(rng));
+        let k = if mode == 1 { some_k(rng, P::WIDTH) } else { 0 };
         let values: Vec<P> = some_list(rng, k, n);
         let mut stream = vec![0; 30_000];
-        let length = plain::pack(10, mode, k, &values, &mut stream).unwrap();
+        let length = plain::pack(11, mode, k, &values, &mut stream).unwrap();
         stream.truncate(length as usize);
         stream
     }
@@ -229,15 +229,16 @@ fn damaged_streams() {
 fn every_bit_of_small_streams_flipped() {
     let rng = &mut XorShift(0x0DD_B175);
     let mut seen = Seen::new();
-    for round in 0..40 {
-        let (mode, n) = (round % 2, 1 + rng.below(6) as usize);
+    for round in 0..60 {
+        let (mode, n) = (round % 3, 1 + rng.below(6) as usize);
+        let k = if mode == 1 { -2 } else { 0 };
         let mut stream = vec![0; 200];
-        let length = if round % 4 < 2 {
+        let length = if round % 6 < 3 {
             let values: Vec<u32> = some_list(rng, -2, n);
-            stream::pack(10, mode, -2 * mode as i32, &values, &mut stream)
+            stream::pack(11, mode, k, &values, &mut stream)
         } else {
             let values: Vec<u64> = some_list(rng, -2, n);
-            stream::pack(10, mode, -2 * mode as i32, &values, &mut stream)
+            stream::pack(11, mode, k, &values, &mut stream)
         };
         stream.truncate(length.unwrap() as usize);
         for bit in 0..8 * stream.len() {
@@ -282,13 +283,17 @@ fn made_up_data() {
     let mut seen = Seen::new();
     for _ in 0..20_000 {
         let n = 1 + rng.below(40) as u32;
-        let (width, mode) = (rng.one_of(&[32u32, 64]), rng.below(2) as u32);
+        let (width, mode) = (rng.one_of(&[32u32, 64]), rng.below(3) as u32);
         let k = match (width, mode) {
-            (_, 0) => 0,
+            (_, 0 | 2) => 0,
             (32, _) => rng.one_of(&[-150, -2, 80, 100, 103]),
             _ => rng.one_of(&[-1075, -2, 900, 960, 970]),
         };
-        let need = if width == 64 { 10 } else { 8 + mode };
+        let need = match (width, mode) {
+            (_, 2) => 11,
+            (64, _) => 10,
+            _ => 8 + mode,
+        };
         let mut data = Vec::new();
         for count in (0..n).step_by(32).map(|at| (n - at).min(32)) {
             let w = rng.below(width as u64 + 2) as u32; // one too wide at most
@@ -304,7 +309,7 @@ fn made_up_data() {
             data.push(0);
         }
         let end = 52 + data.len() as u32;
-        let header = [1, 10, need, width, mode, k as u32, n, 1, 48, 52, 0, end, 0];
+        let header = [1, 11, need, width, mode, k as u32, n, 1, 48, 52, 0, end, 0];
         let mut stream: Vec<u8> = header.iter().flat_map(|n| n.to_le_bytes()).collect();
         stream.extend(data);
         judge(rng, &stream, &mut seen);

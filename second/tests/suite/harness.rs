@@ -13,22 +13,9 @@ use second::compare::{run, Extent, Options};
 use second::numbers::WIDTH_64;
 use second::plain;
 
-/// The tuned version where it has the operation and knows the level, else the
-/// reference.
+/// The tuned version where it has the operation, else the reference.
 fn by_tuned(call: &Call) -> Outcome {
-    let by_tuned = if is_at_level_11(call) { None } else { by_operations::<Tuned>(call) };
-    by_tuned.unwrap_or_else(|| by_reference(call))
-}
-
-fn is_at_level_11(call: &Call) -> bool {
-    matches!(
-        call,
-        Call::Pack { level: 11, .. }
-            | Call::Length { level: 11, .. }
-            | Call::Unpack { level: 11, .. }
-            | Call::Check { level: 11, .. }
-            | Call::Probe { level: 11, .. }
-    )
+    by_operations::<Tuned>(call).unwrap_or_else(|| by_reference(call))
 }
 
 #[test]

@@ -36,6 +36,25 @@ fn lossless_codes_return_and_agree_with_plain() {
     }
 }
 
+#[test]
+fn difference_codes_return_and_agree_with_plain() {
+    let rng = &mut XorShift(0x0246_8ACE_1357_9BDF);
+    for _ in 0..200_000 {
+        let [before, p] = [some_pattern(rng, WIDTH_32, -3), some_pattern(rng, WIDTH_32, -3)];
+        let code = difference_code(WIDTH_32, before, p);
+        assert!(code < 1 << 32);
+        assert_eq!(difference_pattern(WIDTH_32, before, code), p);
+        assert_eq!((p as u32).difference_code(before as u32), code as u32);
+        assert_eq!((code as u32).difference_pattern(before as u32), p as u32);
+
+        let [before, p] = [some_pattern(rng, WIDTH_64, -3), some_pattern(rng, WIDTH_64, -3)];
+        let code = difference_code(WIDTH_64, before, p);
+        assert_eq!(difference_pattern(WIDTH_64, before, code), p);
+        assert_eq!(p.difference_code(before), code);
+        assert_eq!(code.difference_pattern(before), p);
+    }
+}
+
 /// The whole of mode 1 stated without its formulas: from T on, the pattern
 /// itself returns; below, the value restored is the multiple of E nearest to
 /// v, a half going away from zero, with v's sign.

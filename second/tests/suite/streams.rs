@@ -47,7 +47,7 @@ fn packed_by_both<P: Bits>(level: u32, mode: u32, k: i32, values: &[P]) -> Vec<u
 
 /// What each value must return as.
 fn expected<P: Bits>(mode: u32, k: i32, values: &[P]) -> Vec<P> {
-    if mode == 0 {
+    if mode != 1 {
         return values.to_vec();
     }
     let t = numbers::Tolerance::allowed(P::WIDTH, k).unwrap();
@@ -111,16 +111,16 @@ fn probes_as<P: Bits>(rng: &mut XorShift, level: u32, stream: &[u8], values: &[P
 fn round_trips<P: Bits>(seed: u64, rounds: u32) {
     let rng = &mut XorShift(seed);
     for _ in 0..rounds {
-        let (n, mode) = (some_length(rng), rng.below(2) as u32);
-        let k = if mode == 0 { 0 } else { some_k(rng, P::WIDTH) };
+        let (n, mode) = (some_length(rng), rng.below(3) as u32);
+        let k = if mode == 1 { some_k(rng, P::WIDTH) } else { 0 };
         let values: Vec<P> = some_list(rng, k, n);
         let restored = expected(mode, k, &values);
-        for level in need::<P>(mode)..=10 {
+        for level in need::<P>(mode)..=stream::HIGHEST_LEVEL {
             let stream = packed_by_both(level, mode, k, &values);
             assert_eq!(stream[4..8], level.to_le_bytes());
             assert_eq!(stream[8..12], need::<P>(mode).to_le_bytes());
             // The reader's level need only reach the need.
-            for reader in need::<P>(mode)..=10 {
+            for reader in need::<P>(mode)..=stream::HIGHEST_LEVEL {
                 unpacks_to(reader, &stream, &restored);
                 probes_as(rng, reader, &stream, &restored);
             }
@@ -143,23 +143,24 @@ fn the_largest_lists() {
     fn one<P: Bits>(rng: &mut XorShift, mode: u32, k: i32) {
         let values: Vec<P> =
             (0..1_048_576).map(|_| P::of_number(some_pattern(rng, P::WIDTH, k))).collect();
-        let length = stream::length(10, mode, k, &values).unwrap() as usize;
+        let level = need::<P>(mode);
+        let length = stream::length(level, mode, k, &values).unwrap() as usize;
         let (mut first, mut second) = (vec![MARK; length], vec![MARK; length]);
-        assert_eq!(stream::pack(10, mode, k, &values, &mut first), Ok(length as u64));
-        assert_eq!(plain::pack(10, mode, k, &values, &mut second), Ok(length as u64));
+        assert_eq!(stream::pack(level, mode, k, &values, &mut first), Ok(length as u64));
+        assert_eq!(plain::pack(level, mode, k, &values, &mut second), Ok(length as u64));
         assert!(first == second);
         let mut output = vec![P::of_number(1); values.len()];
-        assert_eq!(plain::unpack(10, &first, &mut output), Ok(1_048_576));
+        assert_eq!(plain::unpack(level, &first, &mut output), Ok(1_048_576));
         assert!(output == expected(mode, k, &values));
         output.fill(P::of_number(1));
-        assert_eq!(stream::unpack(10, &first, &mut output), Ok(1_048_576));
+        assert_eq!(stream::unpack(level, &first, &mut output), Ok(1_048_576));
         assert!(output == expected(mode, k, &values));
     }
     let rng = &mut XorShift(0xFEED_FACE_8BAD_F00D);
-    one::<u32>(rng, 0, 0);
-    one::<u32>(rng, 1, -10);
-    one::<u64>(rng, 0, 0);
-    one::<u64>(rng, 1, -10);
+    for (mode, k) in [(0, 0), (1, -10), (2, 0)] {
+        one::<u32>(rng, mode, k);
+        one::<u64>(rng, mode, k);
+    }
 }
 
 /// Refusals 1 2 3 in their order, for every kind of level, mode and k.
@@ -196,12 +197,10 @@ fn pack_and_length_refuse_by_the_table() {
                         if refusal.is_some() {
                             assert_eq!(output, [MARK; 70]);
                         }
-                        if level != 11 {
-                            assert_eq!(plain::length(level, mode, k, values), length);
-                            let mut again = [MARK; 70];
-                            assert_eq!(plain::pack(level, mode, k, values, &mut again), packed);
-                            assert_eq!(output, again);
-                        }
+                        assert_eq!(plain::length(level, mode, k, values), length);
+                        let mut again = [MARK; 70];
+                        assert_eq!(plain::pack(level, mode, k, values, &mut again), packed);
+                        assert_eq!(output, again);
                     }
                 }
             }
