@@ -1,5 +1,5 @@
 //! What the benchmark asks of the system: processor time, and the libraries
-//! lz4, zstd and zfp where they are installed. They are opened when the
+//! lz4, zstd, zfp and blosc where they are installed. They are opened when the
 //! program runs, so that nothing needs to be installed to build it.
 
 use second::bench::codec::{Setting, Value};
@@ -64,13 +64,17 @@ pub struct Installable<P> {
     pub found: Option<Other<P>>,
 }
 
-pub fn installable<P: Value>() -> [Installable<P>; 3] {
+pub fn installable<P: Value>() -> [Installable<P>; 4] {
     [
         Installable { who: Who::Lz4, package: "liblz4-1", found: lz4() },
         Installable { who: Who::Zstd, package: "libzstd1", found: zstd() },
         Installable { who: Who::Zfp, package: "libzfp1", found: zfp() },
+        Installable { who: Who::Blosc, package: "libblosc1", found: blosc() },
     ]
 }
+
+/// The modes that a lossless compressor stands beside.
+const LOSSLESS: &[u32] = &[0, 2];
 
 // SAFETY of what follows: the types are those of the libraries' headers, and
 // each pointer is handed over with the length in bytes of its slice.
@@ -83,7 +87,7 @@ fn lz4<P: Value>() -> Option<Other<P>> {
     let decompress: Decompress<P> = unsafe { library.function(c"LZ4_decompress_safe")? };
     Some(Other {
         who: Who::Lz4,
-        modes: &[0],
+        modes: LOSSLESS,
         room: |bytes| bytes + bytes / 255 + 16,
         pack: Box::new(move |_, values, output| {
             let (from, room) = (size_of_val(values) as c_int, output.len() as c_int);
@@ -111,7 +115,7 @@ fn zstd<P: Value>() -> Option<Other<P>> {
     let length = |answer: usize, room: usize| if answer <= room { answer } else { 0 };
     Some(Other {
         who: Who::Zstd,
-        modes: &[0],
+        modes: LOSSLESS,
         room: |bytes| bytes + bytes / 128 + 1024,
         pack: Box::new(move |_, values, output| {
             let (from, room, to) = (size_of_val(values), output.len(), output.as_mut_ptr());
@@ -184,11 +188,10 @@ impl Zfp {
         };
         let bits = (self.bits_open)(bytes.0.cast(), bytes.1);
         let stream = (self.stream_open)(bits);
-        match setting.mode {
-            0 => (self.set_reversible)(stream),
-            _ => {
-                (self.set_accuracy)(stream, f64::powi(2.0, setting.k));
-            }
+        if setting.mode == 1 {
+            (self.set_accuracy)(stream, f64::powi(2.0, setting.k));
+        } else {
+            (self.set_reversible)(stream);
         }
         (self.set_bits)(stream, bits);
         let used = work(stream, field);
@@ -203,7 +206,7 @@ fn zfp<P: Value>() -> Option<Other<P>> {
     let zfp = Zfp::open()?;
     Some(Other {
         who: Who::Zfp,
-        modes: &[0, 1],
+        modes: &[0, 1, 2],
         // The last block of a row may be filled up.
         room: |bytes| 2 * bytes + 1024,
         pack: Box::new(move |setting, values, output| {
@@ -215,6 +218,49 @@ fn zfp<P: Value>() -> Option<Other<P>> {
             let from = (packed.as_ptr().cast_mut(), packed.len());
             let to = (values.as_mut_ptr(), values.len());
             unsafe { zfp.run(zfp.decompress, setting, to, from) }
+        }),
+    })
+}
+
+/// The usual level of blosc, and its shuffle of single bits.
+const BLOSC_LEVEL: c_int = 5;
+const BLOSC_BITSHUFFLE: c_int = 2;
+
+/// Blosc with lz4, which cuts the values into blocks of a length that it finds
+/// itself, on one thread.
+fn blosc<P: Value>() -> Option<Other<P>> {
+    type Compress<P> = unsafe extern "C" fn(
+        c_int,
+        c_int,
+        usize,
+        usize,
+        *const P,
+        *mut u8,
+        usize,
+        *const c_char,
+        usize,
+        c_int,
+    ) -> c_int;
+    type Decompress<P> = unsafe extern "C" fn(*const u8, *mut P, usize, c_int) -> c_int;
+    let library = Shared::open(c"libblosc.so.1")?;
+    let compress: Compress<P> = unsafe { library.function(c"blosc_compress_ctx")? };
+    let decompress: Decompress<P> = unsafe { library.function(c"blosc_decompress_ctx")? };
+    Some(Other {
+        who: Who::Blosc,
+        modes: LOSSLESS,
+        room: |bytes| bytes + 16,
+        pack: Box::new(move |_, values, output| {
+            let (size, from) = (size_of::<P>(), size_of_val(values));
+            let (to, room, with) = (output.as_mut_ptr(), output.len(), c"lz4".as_ptr());
+            let (level, shuffle, values) = (BLOSC_LEVEL, BLOSC_BITSHUFFLE, values.as_ptr());
+            let used =
+                unsafe { compress(level, shuffle, size, from, values, to, room, with, 0, 1) };
+            used.max(0) as usize
+        }),
+        unpack: Box::new(move |_, packed, values| {
+            let (room, to) = (size_of_val(values), values.as_mut_ptr());
+            let used = unsafe { decompress(packed.as_ptr(), to, room, 1) };
+            used.max(0) as usize
         }),
     })
 }

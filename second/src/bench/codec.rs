@@ -10,7 +10,7 @@ use std::ops::Range;
 use std::slice::from_mut;
 
 /// All settings are allowed at the highest level.
-pub const LEVEL: u32 = 10;
+pub const LEVEL: u32 = 11;
 /// The tolerance of mode 1 is 2^K: about a millimetre per second.
 pub const K: i32 = -10;
 
@@ -20,7 +20,8 @@ pub struct Setting {
     pub k: i32,
 }
 
-pub const SETTINGS: [Setting; 2] = [Setting { mode: 0, k: 0 }, Setting { mode: 1, k: K }];
+pub const SETTINGS: [Setting; 3] =
+    [Setting { mode: 0, k: 0 }, Setting { mode: 1, k: K }, Setting { mode: 2, k: 0 }];
 
 pub struct Codec<P> {
     pub who: Who,

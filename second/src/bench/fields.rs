@@ -18,9 +18,11 @@ pub enum Field {
     Calm,
     Noisy,
     HalfDry,
+    Tide,
 }
 
-pub const FIELDS: [Field; 4] = [Field::Smooth, Field::Calm, Field::Noisy, Field::HalfDry];
+pub const FIELDS: [Field; 5] =
+    [Field::Smooth, Field::Calm, Field::Noisy, Field::HalfDry, Field::Tide];
 
 impl Field {
     pub const fn name(self) -> &'static str {
@@ -29,6 +31,7 @@ impl Field {
             Field::Calm => "calm",
             Field::Noisy => "noisy",
             Field::HalfDry => "half-dry",
+            Field::Tide => "tide",
         }
     }
 
@@ -50,6 +53,7 @@ impl Field {
             Field::Noisy => P::finite(rng.next()),
             Field::HalfDry if dry(cell) => P::of_float(f64::NAN),
             Field::HalfDry => P::of_float(current(cell, rng)),
+            Field::Tide => P::of_float(weaker_tide(cell)),
         }
     }
 }
@@ -105,15 +109,31 @@ pub fn special_values<P: Cell>() -> Vec<P> {
     values
 }
 
-/// A tidal stream with eddies, in metres per second, and below a thousandth of
-/// it the noise that a model's last bits hold.
+/// A cell's place, each side of the grid being 1.
+fn place(cell: usize) -> (f64, f64) {
+    ((cell % SIDE) as f64 / SIDE as f64, (cell / SIDE) as f64 / SIDE as f64)
+}
+
+/// A tidal stream, in metres per second.
+fn tide(x: f64, y: f64) -> f64 {
+    0.9 * (2.1 * x + 0.4 * y).cos()
+}
+
+/// The tidal stream alone, weaker towards one shore, so that no row is like
+/// another: as smooth as a current is, with no noise but that of rounding.
+fn weaker_tide(cell: usize) -> f64 {
+    let (x, y) = place(cell);
+    tide(x, y) * (1.0 - 0.3 * y * y)
+}
+
+/// The tidal stream with eddies, and below a thousandth of it the noise that a
+/// model's last bits hold.
 fn current(cell: usize, rng: &mut XorShift) -> f64 {
-    let (x, y) = ((cell % SIDE) as f64 / SIDE as f64, (cell / SIDE) as f64 / SIDE as f64);
-    let tide = 0.9 * (2.1 * x + 0.4 * y).cos();
+    let (x, y) = place(cell);
     let large_eddies = 0.5 * (19.0 * x).sin() * (23.0 * y).cos();
     let small_eddies = 0.1 * (71.0 * x + 13.0 * y).sin() * (67.0 * y - 5.0 * x).sin();
     let noise = (rng.next() >> 11) as f64 / (1u64 << 53) as f64 - 0.5;
-    tide + large_eddies + small_eddies + noise * 1e-4
+    tide(x, y) + large_eddies + small_eddies + noise * 1e-4
 }
 
 /// Still water: five of six stretches of 200 cells.

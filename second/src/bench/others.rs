@@ -40,8 +40,8 @@ pub struct Lost {
     pub not_a_numbers: usize,
     /// Infinities with another pattern.
     pub infinities: usize,
-    /// Finite values with another pattern in mode 0, or further off than the
-    /// tolerance in mode 1.
+    /// Finite values with another pattern, or in mode 1 further off than the
+    /// tolerance.
     pub finite: usize,
 }
 

@@ -21,7 +21,7 @@ struct Point {
 
 /// The other versions of our own format are not drawn: they have our sizes, and
 /// the tables have their speeds.
-const DRAWN: [Who; 4] = [Who::Ours, Who::Lz4, Who::Zstd, Who::Zfp];
+const DRAWN: [Who; 5] = [Who::Ours, Who::Lz4, Who::Zstd, Who::Zfp, Who::Blosc];
 
 /// The picture as SVG, or nothing if the text is not a results.csv.
 pub fn picture(csv: &str) -> Option<String> {
@@ -59,7 +59,7 @@ fn point(line: &str) -> Option<Point> {
 // ------------------------------------------------------------------ layout
 
 const WIDTH: f64 = 1000.0;
-const HEIGHT: f64 = 860.0;
+const HEIGHT: f64 = 1230.0;
 const PANEL_WIDTH: f64 = 400.0;
 const PANEL_HEIGHT: f64 = 290.0;
 const SLOWEST: f64 = 30.0;
@@ -83,11 +83,13 @@ impl Panel {
 }
 
 /// A row for each mode.
-const PANELS: [Panel; 4] = [
+const PANELS: [Panel; 6] = [
     Panel::at(0, 0, "Lossless: pack", Operation::Pack),
     Panel::at(1, 0, "Lossless: unpack", Operation::Unpack),
     Panel::at(0, 1, "Within 2⁻¹⁰: pack", Operation::Pack),
     Panel::at(1, 1, "Within 2⁻¹⁰: unpack", Operation::Unpack),
+    Panel::at(0, 2, "Lossless by differences: pack", Operation::Pack),
+    Panel::at(1, 2, "Lossless by differences: unpack", Operation::Unpack),
 ];
 
 /// Adds a line; writing to a string does not fail.
@@ -279,6 +281,7 @@ fn colour(who: Who) -> &'static str {
         Who::Lz4 => "#009e73",
         Who::Zstd => "#cc79a7",
         Who::Zfp => "#d55e00",
+        Who::Blosc => "#e69f00",
         Who::Tuned | Who::PlainC | Who::Memcpy => "#222222",
     }
 }
@@ -289,6 +292,7 @@ fn mark(svg: &mut String, who: Who, filled: bool, x: f64, y: f64) {
         Who::Lz4 => &[(-5.5, 4.5), (0.0, -5.5), (5.5, 4.5)],
         Who::Zstd => &[(-4.5, -4.5), (4.5, -4.5), (4.5, 4.5), (-4.5, 4.5)],
         Who::Zfp => &[(-5.5, -4.5), (5.5, -4.5), (0.0, 5.5)],
+        Who::Blosc => &[(-6.0, 0.0), (0.0, -6.0), (6.0, 0.0), (0.0, 6.0)],
         Who::Ours | Who::Tuned | Who::PlainC | Who::Memcpy => &[],
     };
     let colour = colour(who);

@@ -9,7 +9,7 @@ use super::timing::{Operation, Timing, Who};
 use std::fmt::Write;
 
 const GROWING: [Who; 2] = [Who::Ours, Who::Tuned];
-const OTHERS: [Who; 3] = [Who::Lz4, Who::Zstd, Who::Zfp];
+const OTHERS: [Who; 4] = [Who::Lz4, Who::Zstd, Who::Zfp, Who::Blosc];
 const TIMED: [Operation; 6] = [
     Operation::Pack,
     Operation::PackExact,
@@ -144,13 +144,40 @@ fn cell(row: &Row, baseline: Who, operation: Operation) -> String {
         Operation::Probe => format!("{:.0} ns", ours.median * 1e9 / PROBES as f64),
         _ => format!("{:.0}", megabytes_a_second(row, ours.median)),
     };
-    let (by_medians, by_minima) = (baseline.median / ours.median, baseline.minimum / ours.minimum);
-    format!("{speed} ({by_medians:.2}, {by_minima:.2})")
+    format!("{speed} ({})", shares(ours, baseline))
+}
+
+/// One's speed as shares of another's, by medians and by minima.
+fn shares(one: &Timing, other: &Timing) -> String {
+    format!("{:.2}, {:.2}", other.median / one.median, other.minimum / one.minimum)
 }
 
 fn share(row: &Row, who: Who) -> String {
     let size = size_of(row, who).unwrap_or(0);
     format!("{:.1} %", 100.0 * size as f64 / raw_bytes(row) as f64)
+}
+
+/// What the library's mode 2 gives and costs beside its mode 0.
+pub fn differences(rows: &[Row]) -> String {
+    let mut text = String::from(
+        "Mode 2 beside mode 0, Gwizdorad alone: both sizes, and the speed of mode 2 as a share of \
+         that of mode 0, by medians and by minima.\n\n\
+         | width | field | size in mode 0 | size in mode 2 | pack | unpack |\n\
+         |---|---|---|---|---|---|\n",
+    );
+    // The fields of both modes stand in the same order.
+    let in_mode = |mode: u32| rows.iter().filter(move |row| row.mode == mode);
+    for (lossless, row) in in_mode(0).zip(in_mode(2)) {
+        let sizes = [lossless, row].map(|row| share(row, Who::Ours)).join(" | ");
+        let [pack, unpack] = [Operation::Pack, Operation::Unpack].map(|operation| {
+            let found = [row, lossless].map(|row| timing_of(&row.timings, Who::Ours, operation));
+            let [Some(one), Some(other)] = found else { return String::new() };
+            shares(one, other)
+        });
+        let Row { width, field, .. } = row;
+        add(&mut text, format_args!("| {width} | {field} | {sizes} | {pack} | {unpack} |"));
+    }
+    text + "\n"
 }
 
 /// Sizes and speeds beside the other compressors that were found.
@@ -161,7 +188,7 @@ pub fn beside_others(rows: &[Row]) -> String {
     let names: Vec<&str> = columns.iter().map(|who| who.name()).collect();
     let mut text = String::from(
         "Size; pack and unpack in MB a second, medians; how many values do not come back (bit for \
-         bit in mode 0; in mode 1 within the tolerance or, if not finite, bit for bit).\n\n",
+         bit in modes 0 and 2; in mode 1 within the tolerance or, if not finite, bit for bit).\n\n",
     );
     add(&mut text, format_args!("| width | mode | field | {} |", names.join(" | ")));
     add(&mut text, format_args!("|---|---|---|{}", "---|".repeat(names.len())));
@@ -206,7 +233,8 @@ pub fn kept_by<P: Value>(other: &Other<P>, setting: Setting) -> Keeping {
 pub fn keeping(keepings: &[Keeping]) -> String {
     let mut text = String::from(
         "A half-dry field with not-a-numbers, infinities and -0 on the dry land: the values that \
-         do not come back (finite ones: bit for bit in mode 0, within the tolerance in mode 1).\n\n\
+         do not come back (finite ones: bit for bit in modes 0 and 2, within the tolerance in mode \
+         1).\n\n\
          | library | width | mode | not-a-numbers | infinities | finite |\n\
          |---|---|---|---|---|---|\n",
     );

@@ -21,8 +21,8 @@ pub struct Row {
     /// How many values the field has.
     pub n: usize,
     pub sizes: Vec<(Who, usize)>,
-    /// How many values the other compressors do not bring back: bit for bit in
-    /// mode 0, in mode 1 within the tolerance or, if not finite, bit for bit.
+    /// How many values the other compressors do not bring back bit for bit or,
+    /// if finite, in mode 1 within the tolerance.
     pub losses: Vec<(Who, usize)>,
     pub timings: Vec<Timing>,
 }

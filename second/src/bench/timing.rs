@@ -53,7 +53,7 @@ macro_rules! named {
 named!(
     /// Whose code is timed.
     Who: Ours "Gwizdorad", Tuned "tuned Rust", PlainC "plain C", Memcpy "memcpy", Lz4 "lz4",
-    Zstd "zstd", Zfp "zfp"
+    Zstd "zstd", Zfp "zfp", Blosc "blosc"
 );
 named!(
     /// What it does. Pack has room for anything, `PackExact` for its bytes.

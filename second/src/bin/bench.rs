@@ -1,5 +1,5 @@
 //! Measures the linked library beside the tuned version, plain C where it was
-//! compiled, memcpy, and lz4, zstd and zfp where they are installed.
+//! compiled, memcpy, and lz4, zstd, zfp and blosc where they are installed.
 //!
 //! `bench DIRECTORY [ROUNDS] [--field WIDTH FILE]...` writes results.csv and
 //! growth.csv to the directory and prints tables in Markdown. A file holds raw
@@ -135,6 +135,7 @@ impl Results {
         if cfg!(plain_c) {
             print!("{}", report::beside(Who::PlainC, "plain C", &self.rows));
         }
+        print!("{}", report::differences(&self.rows));
         print!("{}", report::beside_others(&self.rows));
         print!("{}", report::keeping(&self.keeping));
         print!("{}", report::growing(&self.growths));

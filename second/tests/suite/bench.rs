@@ -1,10 +1,10 @@
 //! The benchmark's parts that need no linked library.
 
 use second::bench::codec::{Setting, SETTINGS};
-use second::bench::fields::{special_values, Cell, Field, Sample, FIELDS, VALUES};
+use second::bench::fields::{special_values, Cell, Field, Sample, FIELDS, SIDE, VALUES};
 use second::bench::others::{lost, Lost};
 use second::bench::picture::{letter_places, overlap, picture};
-use second::bench::report::{csv, CSV_HEADER};
+use second::bench::report::{csv, differences, CSV_HEADER};
 use second::bench::rows::Row;
 use second::bench::timing::{timed, Contender, Operation, Space, Timing, Watch, Who};
 use std::cell::Cell as Counter;
@@ -24,6 +24,8 @@ fn fields_are_repeatable_and_as_named() {
     assert!((0.45..0.55).contains(&share_of(&Field::HalfDry.values(), not_a_number)));
     assert!(share_of(&Field::Calm.values(), |value| value == 0) > 0.8);
     assert_eq!(share_of(&Field::Noisy.values(), |value| value.kind() == 0), 1.0);
+    let falls = |row: &[u64]| row.is_sorted_by(|a, b| a.float() > b.float());
+    assert!(Field::Tide.values().chunks(SIDE).all(falls), "the tide falls along a row");
     let whole = |value: u32| value & 0xFF == 0;
     assert!(share_of(&Field::Smooth.values(), whole) < 0.01, "the last bits are noise");
 }
@@ -71,9 +73,11 @@ fn lost_values_are_counted_by_kind() {
     let count = |kind: u64| values.iter().filter(|value| value.kind() == kind).count();
     let all = Lost { not_a_numbers: count(2), infinities: count(1), finite: count(0) };
     assert!(all.not_a_numbers > 0 && all.infinities > 0 && all.finite > 0);
-    let [lossless, within] = SETTINGS;
-    assert_eq!(lost(lossless, &values, &values), Lost::default());
-    assert_eq!(lost(lossless, &values, &altered), all);
+    let [lossless, within, differences] = SETTINGS;
+    for setting in [lossless, differences] {
+        assert_eq!(lost(setting, &values, &values), Lost::default());
+        assert_eq!(lost(setting, &values, &altered), all);
+    }
     assert_eq!(lost(within, &values, &altered), Lost { finite: 0, ..all });
 }
 
@@ -109,7 +113,7 @@ fn the_picture_is_drawn_from_results_alone() {
     let svg = picture(&format!("{CSV_HEADER}\n{line}\n{copy}\n{file}\n")).unwrap();
     // Two marks in a panel, and two in the legend.
     assert_eq!(svg.matches("<circle").count(), 4);
-    assert!(svg.contains("s smooth, c calm, n noisy, h half-dry, 1 sea.f32."), "{svg}");
+    assert!(svg.contains("s smooth, c calm, n noisy, h half-dry, t tide, 1 sea.f32."), "{svg}");
     assert!(svg.contains(">s</text>") && svg.contains(">1</text>"), "{svg}");
     assert!(svg.starts_with("<svg") && svg.ends_with("</svg>\n"));
     assert_eq!(picture("width,mode\n"), None);
@@ -129,6 +133,33 @@ fn a_mark_whose_compressor_lost_values_is_crossed() {
     };
     // Two strokes in the panel, and two in the legend.
     assert_eq!([crosses(0), crosses(7)], [0, 4]);
+}
+
+#[test]
+fn mode_2_stands_beside_mode_0_of_its_width_and_field() {
+    let row = |width: u32, mode: u32, field: &str, size: usize, seconds: f64| {
+        let who = Who::Ours;
+        let timing = |operation, median| Timing { who, operation, median, minimum: median / 2.0 };
+        let timings = vec![timing(Operation::Pack, seconds), timing(Operation::Unpack, 1.0)];
+        let (field, sizes) = (field.to_string(), vec![(who, size)]);
+        Row { width, mode, field, n: 1000, sizes, losses: vec![], timings }
+    };
+    let rows = [
+        row(32, 0, "tide", 3000, 1.0),
+        row(32, 1, "tide", 1, 9.0),
+        row(32, 2, "tide", 1000, 2.0),
+        row(64, 0, "tide", 6000, 1.0),
+        row(64, 2, "tide", 4000, 0.5),
+    ];
+    let text = differences(&rows);
+    let lines: Vec<&str> = text.lines().filter(|line| line.contains("tide")).collect();
+    assert_eq!(
+        lines,
+        [
+            "| 32 | tide | 75.0 % | 25.0 % | 0.50, 0.50 | 1.00, 1.00 |",
+            "| 64 | tide | 75.0 % | 50.0 % | 2.00, 2.00 | 1.00, 1.00 |"
+        ]
+    );
 }
 
 #[test]
