@@ -27,10 +27,6 @@ lentCodes t v32 v64 = codesOf t (chosen (t .width) v32 v64)
 abbrev pub Staged : Setting → List ℕ → List ℕ → Type 0
 Staged t v32 c32 = t .width ≡ 32 → (t .mode ≡ 0 → ⊥) → (t .mode ≡ 2 → ⊥) → take (length v32) c32 ≡ map (codeAt t) v32
 
--- the pattern before, as far as the mode looks at it: the code 0 repeats it, in mode 2 the pattern before, in the others 0
-unfoldable pub carry : Setting → ℕ → ℕ
-carry t before = cond (eqb (t .mode) 2) before 0
-
 -- what follows the pattern a is as if it followed b: the same pattern, or a mode that does not look
 abbrev pub SameBehind : Setting → ℕ → ℕ → Type 0
 SameBehind t a b = (cs : List ℕ) → patternsAfter t a cs ≡ patternsAfter t b cs

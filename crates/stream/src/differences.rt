@@ -49,8 +49,42 @@ pub(crate) fn coded64(before: u64, values: &[u64]) -> Group
     }
 }
 
-// The patterns of the first n codes, at the front of `out`.
-pub(crate) fn put_sums32(before: u32, codes: &[u32], n: usize, out: &mut [u32])
+// The patterns of the first four codes, at the front of `out`, and the last of them. The sum is serial; four at a time the codes are unfolded side by
+// side, ahead of it.
+fn four32(before: u32, codes: &[u32], out: &mut [u32]) -> u32
+    requires { ⌜ (4 ≤ length (now codes)) × (4 ≤ length (now out)) ⌝ }
+    ensures { λ r. ⌜ r ≡ lastOf before (runningSums 32 before (take 4 (now (codes .entry)))) ⌝ }
+    ensures { λ _. ⌜ now (out .exit) ≡ runningSums 32 before (take 4 (now (codes .entry))) ++ drop 4 (now (out .entry)) ⌝ }
+{
+    let a = difference::restored32(before, codes[0]);
+    let b = difference::restored32(a, codes[1]);
+    let c = difference::restored32(b, codes[2]);
+    let d = difference::restored32(c, codes[3]);
+    out[0] = a;
+    out[1] = b;
+    out[2] = c;
+    out[3] = d;
+    d
+}
+
+fn four64(before: u64, codes: &[u64], out: &mut [u64]) -> u64
+    requires { ⌜ (4 ≤ length (now codes)) × (4 ≤ length (now out)) ⌝ }
+    ensures { λ r. ⌜ r ≡ lastOf before (runningSums 64 before (take 4 (now (codes .entry)))) ⌝ }
+    ensures { λ _. ⌜ now (out .exit) ≡ runningSums 64 before (take 4 (now (codes .entry))) ++ drop 4 (now (out .entry)) ⌝ }
+{
+    let a = difference::restored64(before, codes[0]);
+    let b = difference::restored64(a, codes[1]);
+    let c = difference::restored64(b, codes[2]);
+    let d = difference::restored64(c, codes[3]);
+    out[0] = a;
+    out[1] = b;
+    out[2] = c;
+    out[3] = d;
+    d
+}
+
+// The patterns of the first n codes, at the front of `out`: one by one, for those that are left behind the fours, and all of them.
+fn one_by_one32(before: u32, codes: &[u32], n: usize, out: &mut [u32])
     requires { ⌜ (n ≤ length (now codes)) × (n ≤ length (now out)) ⌝ }
     ensures { λ _. ⌜ now (out .exit) ≡ runningSums 32 before (take n (now (codes .entry))) ++ drop n (now (out .entry)) ⌝ }
 {
@@ -63,7 +97,7 @@ pub(crate) fn put_sums32(before: u32, codes: &[u32], n: usize, out: &mut [u32])
     }
 }
 
-pub(crate) fn put_sums64(before: u64, codes: &[u64], n: usize, out: &mut [u64])
+fn one_by_one64(before: u64, codes: &[u64], n: usize, out: &mut [u64])
     requires { ⌜ (n ≤ length (now codes)) × (n ≤ length (now out)) ⌝ }
     ensures { λ _. ⌜ now (out .exit) ≡ runningSums 64 before (take n (now (codes .entry))) ++ drop n (now (out .entry)) ⌝ }
 {
@@ -74,6 +108,32 @@ pub(crate) fn put_sums64(before: u64, codes: &[u64], n: usize, out: &mut [u64])
         out[i] = last;
         i += 1;
     }
+}
+
+pub(crate) fn put_sums32(before: u32, codes: &[u32], n: usize, out: &mut [u32])
+    requires { ⌜ (n ≤ length (now codes)) × (n ≤ length (now out)) ⌝ }
+    ensures { λ _. ⌜ now (out .exit) ≡ runningSums 32 before (take n (now (codes .entry))) ++ drop n (now (out .entry)) ⌝ }
+{
+    let mut last = before;
+    let mut i: usize = 0;
+    while i + 4 <= n {
+        last = four32(last, &codes[i..], &mut out[i..]);
+        i += 4;
+    }
+    one_by_one32(last, &codes[i..], n - i, &mut out[i..]);
+}
+
+pub(crate) fn put_sums64(before: u64, codes: &[u64], n: usize, out: &mut [u64])
+    requires { ⌜ (n ≤ length (now codes)) × (n ≤ length (now out)) ⌝ }
+    ensures { λ _. ⌜ now (out .exit) ≡ runningSums 64 before (take n (now (codes .entry))) ++ drop n (now (out .entry)) ⌝ }
+{
+    let mut last = before;
+    let mut i: usize = 0;
+    while i + 4 <= n {
+        last = four64(last, &codes[i..], &mut out[i..]);
+        i += 4;
+    }
+    one_by_one64(last, &codes[i..], n - i, &mut out[i..]);
 }
 
 // The pattern of one code, in a word of either width.

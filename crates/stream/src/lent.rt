@@ -4,11 +4,11 @@ ghost use mathlib.Core.Path.{_≡_};
 ghost use mathlib.Core.List.{map, _++_};
 ghost use Prim.Native.Nat.{_≤_, _<_, _-_, _+_, _^_, min};
 ghost use lib.ListN.{length, take, drop, getD, replicate};
-ghost use Rattle.numbers.specs.Difference.{differenceCodes, lastOf};
+ghost use Rattle.numbers.specs.Difference.{differenceCodes, runningSums, lastOf};
 ghost use Rattle.blocks.specs.Bytes.{Below};
 ghost use Rattle.stream.specs.Group.{groupBytes, givenWidth, groupLength, groupCodes};
 ghost use Rattle.stream.specs.Setting.{groupSize, codeAt, patternAt, patternsAfter};
-ghost use Rattle.stream.specs.Lent.{chosen, landed, lentCodes, carry, Staged, SameBehind};
+ghost use Rattle.stream.specs.Lent.{chosen, landed, lentCodes, Staged, SameBehind};
 ghost use Rattle.stream.specs.Relied.{Allowed};
 use crate::coding;
 use crate::differences;
@@ -283,73 +283,52 @@ fn read_codes64(s: &[u8], n: usize, out: &mut [u64])
     copied64(&g.codes, n, out);
 }
 
-// The patterns of the first n codes, at the front of `out`.
-fn put_patterns32(t: Setting, before: u32, codes: &[u32], n: usize, out: &mut [u32])
-    requires { ⌜ (t .width ≡ 32) × (n ≤ length (now codes)) × (n ≤ length (now out)) ⌝ }
-    ensures { λ _. ⌜ now (out .exit) ≡ patternsAfter t before (take n (now (codes .entry))) ++ drop n (now (out .entry)) ⌝ }
-{
-    if t.mode == 2 {
-        differences::put_sums32(before, codes, n, out);
-    } else {
-        coding::put_patterns32(t, codes, n, out);
-    }
-}
-
-fn put_patterns64(t: Setting, before: u64, codes: &[u64], n: usize, out: &mut [u64])
-    requires { ⌜ (t .width ≡ 64) × (n ≤ length (now codes)) × (n ≤ length (now out)) ⌝ }
-    ensures { λ _. ⌜ now (out .exit) ≡ patternsAfter t before (take n (now (codes .entry))) ++ drop n (now (out .entry)) ⌝ }
-{
-    if t.mode == 2 {
-        differences::put_sums64(before, codes, n, out);
-    } else {
-        coding::put_patterns64(t, codes, n, out);
-    }
-}
-
-// The pattern that the patterns from `at` on stand behind, as far as the mode looks at it.
-fn carry32(t: Setting, values: &[u32], at: usize) -> u32
-    requires { ⌜ at ≤ length (now values) ⌝ }
-    ensures { λ r. ⌜ r ≡ carry t (lastOf 0 (take at (now (values .entry)))) ⌝ }
-{
-    if t.mode != 2 {
-        return 0;
-    }
-    before32(values, at)
-}
-
-fn carry64(t: Setting, values: &[u64], at: usize) -> u64
-    requires { ⌜ at ≤ length (now values) ⌝ }
-    ensures { λ r. ⌜ r ≡ carry t (lastOf 0 (take at (now (values .entry)))) ⌝ }
-{
-    if t.mode != 2 {
-        return 0;
-    }
-    before64(values, at)
-}
-
-// The patterns of the group at the front of `s`, at the front of `out`; its codes go through the scratch `c`. A group of no bits, as nearly
-// constant fields have many, is not opened: the code 0 repeats the carry.
-fn put_values32(t: Setting, before: u32, s: &[u8], n: usize, c: &mut [u32], out: &mut [u32])
-    requires { ⌜ Allowed t × (carry t before ≡ before) ⌝ }
-    requires { ⌜ (t .width ≡ 32) × (n ≤ 32) × (givenWidth (now s) ≤ 32) × (groupLength n (now s) ≤ length (now s)) × (n ≤ length (now c)) × (n ≤ length (now out)) ⌝ }
-    ensures { λ _. ⌜ now (out .exit) ≡ patternsAfter t before (groupCodes n (now (s .entry))) ++ drop n (now (out .entry)) ⌝ }
+// The patterns of the group at the front of `s` in the modes 0 and 1, at the front of `out`; its codes go through the scratch `c`. In both modes
+// the code 0 is that of the pattern 0, so that a group of no bits, as nearly constant fields have many, is not opened.
+fn put_values32(t: Setting, s: &[u8], n: usize, c: &mut [u32], out: &mut [u32])
+    requires { ⌜ Allowed t × (t .width ≡ 32) × (n ≤ 32) × (givenWidth (now s) ≤ 32) × (groupLength n (now s) ≤ length (now s)) × (n ≤ length (now c)) × (n ≤ length (now out)) ⌝ }
+    ensures { λ _. ⌜ now (out .exit) ≡ map (patternAt t) (groupCodes n (now (s .entry))) ++ drop n (now (out .entry)) ⌝ }
 {
     if 0 < s[0] {
         read_codes32(s, n, c);
-        put_patterns32(t, before, c, n, out);
+        coding::put_patterns32(t, c, n, out);
+    } else {
+        repeated32(0, n, out);
+    }
+}
+
+fn put_values64(t: Setting, s: &[u8], n: usize, c: &mut [u64], out: &mut [u64])
+    requires { ⌜ Allowed t × (t .width ≡ 64) × (n ≤ 32) × (givenWidth (now s) ≤ 64) × (groupLength n (now s) ≤ length (now s)) × (n ≤ length (now c)) × (n ≤ length (now out)) ⌝ }
+    ensures { λ _. ⌜ now (out .exit) ≡ map (patternAt t) (groupCodes n (now (s .entry))) ++ drop n (now (out .entry)) ⌝ }
+{
+    if 0 < s[0] {
+        read_codes64(s, n, c);
+        coding::put_patterns64(t, c, n, out);
+    } else {
+        repeated64(0, n, out);
+    }
+}
+
+// The same in mode 2, behind the pattern `before`, which the code 0 repeats.
+fn put_summed32(before: u32, s: &[u8], n: usize, c: &mut [u32], out: &mut [u32])
+    requires { ⌜ (n ≤ 32) × (givenWidth (now s) ≤ 32) × (groupLength n (now s) ≤ length (now s)) × (n ≤ length (now c)) × (n ≤ length (now out)) ⌝ }
+    ensures { λ _. ⌜ now (out .exit) ≡ runningSums 32 before (groupCodes n (now (s .entry))) ++ drop n (now (out .entry)) ⌝ }
+{
+    if 0 < s[0] {
+        read_codes32(s, n, c);
+        differences::put_sums32(before, c, n, out);
     } else {
         repeated32(before, n, out);
     }
 }
 
-fn put_values64(t: Setting, before: u64, s: &[u8], n: usize, c: &mut [u64], out: &mut [u64])
-    requires { ⌜ Allowed t × (carry t before ≡ before) ⌝ }
-    requires { ⌜ (t .width ≡ 64) × (n ≤ 32) × (givenWidth (now s) ≤ 64) × (groupLength n (now s) ≤ length (now s)) × (n ≤ length (now c)) × (n ≤ length (now out)) ⌝ }
-    ensures { λ _. ⌜ now (out .exit) ≡ patternsAfter t before (groupCodes n (now (s .entry))) ++ drop n (now (out .entry)) ⌝ }
+fn put_summed64(before: u64, s: &[u8], n: usize, c: &mut [u64], out: &mut [u64])
+    requires { ⌜ (n ≤ 32) × (givenWidth (now s) ≤ 64) × (groupLength n (now s) ≤ length (now s)) × (n ≤ length (now c)) × (n ≤ length (now out)) ⌝ }
+    ensures { λ _. ⌜ now (out .exit) ≡ runningSums 64 before (groupCodes n (now (s .entry))) ++ drop n (now (out .entry)) ⌝ }
 {
     if 0 < s[0] {
         read_codes64(s, n, c);
-        put_patterns64(t, before, c, n, out);
+        differences::put_sums64(before, c, n, out);
     } else {
         repeated64(before, n, out);
     }
@@ -372,11 +351,19 @@ pub(crate) fn put_values(
     ensures { λ _. ⌜ chosen (t .width) (now (o32 .exit)) (now (o64 .exit)) ≡ landed at (patternsAfter t (lastOf 0 (take at (chosen (t .width) (now (o32 .entry)) (now (o64 .entry))))) (groupCodes n (now (s .entry)))) (chosen (t .width) (now (o32 .entry)) (now (o64 .entry))) ⌝ }
 {
     if t.width == 32 {
-        let before = carry32(t, o32, at);
-        put_values32(t, before, s, n, c32, &mut o32[at..]);
+        if t.mode == 2 {
+            let before = before32(o32, at);
+            put_summed32(before, s, n, c32, &mut o32[at..]);
+        } else {
+            put_values32(t, s, n, c32, &mut o32[at..]);
+        }
     } else {
-        let before = carry64(t, o64, at);
-        put_values64(t, before, s, n, c64, &mut o64[at..]);
+        if t.mode == 2 {
+            let before = before64(o64, at);
+            put_summed64(before, s, n, c64, &mut o64[at..]);
+        } else {
+            put_values64(t, s, n, c64, &mut o64[at..]);
+        }
     }
 }
 

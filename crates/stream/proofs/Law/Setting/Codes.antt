@@ -1,5 +1,5 @@
 -- Codes and patterns of a setting, behind the pattern before: a list of them is as long as its source, its parts follow each other by their carry,
--- they stay below 2 ^ W, and the code 0 repeats the carry. Modes 0 and 1 are maps, mode 2 cites the laws of `numbers`.
+-- they stay below 2 ^ W, and where each is coded by itself zeros are zeros. Modes 0 and 1 are maps, mode 2 cites the laws of `numbers`.
 use mathlib.Core.Path.{_≡_, refl, sym, ap, ap₂, _∙_}
 use mathlib.Core.Bool.{Bool, true, false, cond}
 use mathlib.Core.List.{List, _∷_, _++_, map, map-append}
@@ -14,11 +14,10 @@ use lib.Seq.{length-take-le}
 use Rattle.numbers.specs.Difference.{differenceCodes, runningSums, lastOf}
 use Rattle.numbers.specs.Theorem.{Format}
 use Rattle.bins.specs.Tolerance.{lastBin}
-use Rattle.numbers.proofs.Law.Difference.{codes-append, sums-append, length-difference-codes, length-sums, sums-of-zeros}
+use Rattle.numbers.proofs.Law.Difference.{codes-append, sums-append, length-difference-codes, length-sums}
 use Rattle.numbers.proofs.Theorems.{lossless-code-has-W-bits, lossless-pattern-has-W-bits, tolerance-code-has-W-bits, tolerance-pattern-has-W-bits, lossless-zero, tolerance-zero, difference-codes-have-W-bits, running-sums-have-W-bits}
 use Rattle.blocks.specs.Bytes.{Below}
 use Rattle.stream.specs.Setting.{fractionBits, clipped, codeAt, patternAt, codesAfter, patternsAfter}
-use Rattle.stream.specs.Lent.{carry}
 use Rattle.stream.specs.declared.setting.Setting.{Setting}
 use Rattle.stream.proofs.Law.Plain.Mapped.{length-put, map-below}
 
@@ -93,22 +92,6 @@ module _ (t : Setting) (before : ℕ) (xs : List ℕ) where
 pub any-before : (t : Setting) (a b : ℕ) (cs : List ℕ) → (t .mode ≡ 2 → ⊥) → patternsAfter t a cs ≡ patternsAfter t b cs
 any-before t a b cs n = patterns-each t a cs n ∙ sym (patterns-each t b cs n)
 
-pub carry-same : (t : Setting) (before : ℕ) (cs : List ℕ) → patternsAfter t (carry t before) cs ≡ patternsAfter t before cs
-unfolding patternsAfter carry
-carry-same t before cs = go (eqb (t .mode) 2)
-  where
-    go : (b : Bool) → cond b (runningSums (t .width) (cond b before 0) cs) (map (patternAt t) cs) ≡ cond b (runningSums (t .width) before cs) (map (patternAt t) cs)
-    go true = refl
-    go false = refl
-
-pub carry-twice : (t : Setting) (before : ℕ) → carry t (carry t before) ≡ carry t before
-unfolding carry
-carry-twice t before = go (eqb (t .mode) 2)
-  where
-    go : (b : Bool) → cond b (cond b before 0) 0 ≡ cond b before 0
-    go true = refl
-    go false = refl
-
 -- ---- the bound
 
 either-under : (b : Bool) (x y N : ℕ) → x < N → y < N → cond b x y < N
@@ -154,7 +137,7 @@ module _ (t : Setting) (format : Format (t .width) (fractionBits (t .width))) wh
       go true = running-sums-have-W-bits W some before cs
       go false = map-below (patternAt t) (2 ^ W) (2 ^ W) (pow-pos W) pattern-under cs below
 
-  -- ---- the code 0
+  -- ---- the code 0 of the modes 0 and 1
 
   pattern-zero : patternAt t 0 ≡ 0
   unfolding patternAt
@@ -164,15 +147,6 @@ module _ (t : Setting) (format : Format (t .width) (fractionBits (t .width))) wh
       go true h l = h
       go false h l = l
 
-  zeros-each : (n : ℕ) → map (patternAt t) (replicate n 0) ≡ replicate n 0
-  zeros-each zero = refl
-  zeros-each (suc n) = ap₂ (λ (x : ℕ) (r : List ℕ). x ∷ r) pattern-zero (zeros-each n)
-
-  -- it repeats the carry
-  pub patterns-zero : (n before : ℕ) → before < 2 ^ W → carry t before ≡ before → patternsAfter t before (replicate n 0) ≡ replicate n before
-  unfolding patternsAfter carry
-  patterns-zero n before h e = go (eqb (t .mode) 2) e
-    where
-      go : (b : Bool) → cond b before 0 ≡ before → cond b (runningSums W before (replicate n 0)) (map (patternAt t) (replicate n 0)) ≡ replicate n before
-      go true same = sums-of-zeros W some before n h
-      go false same = zeros-each n ∙ ap (replicate n) same
+  pub patterns-zero : (n : ℕ) → map (patternAt t) (replicate n 0) ≡ replicate n 0
+  patterns-zero zero = refl
+  patterns-zero (suc n) = ap₂ (λ (x : ℕ) (r : List ℕ). x ∷ r) pattern-zero (patterns-zero n)

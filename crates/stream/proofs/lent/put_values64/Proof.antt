@@ -1,13 +1,13 @@
--- `stream::lent::put_values64` meets its contract: the patterns of its codes, and for a group of no bits the carry.
-use mathlib.Core.Path.{_≡_, sym, ap, subst, _∙_}
-use mathlib.Core.List.{List, _++_}
-use Prim.Native.Nat.{ℕ, _^_, _<_}
+-- `stream::lent::put_values64` meets its contract: the patterns of its codes, and zeros for a group of no bits.
+use mathlib.Core.Path.{_≡_, sym, ap, _∙_}
+use mathlib.Core.List.{List, _++_, map}
+use Prim.Native.Nat.{ℕ}
 use native.Mathlib.Omega.{arith}
 use lib.ListN.{take, drop, getD}
 use lib.Seq.{take-at}
 use borrow.Author.Needs.{needs}
 use Rattle.stream.specs.Group.{givenWidth, groupLength, groupCodes}
-use Rattle.stream.specs.Setting.{patternsAfter}
+use Rattle.stream.specs.Setting.{patternAt}
 use Rattle.stream.proofs.Law.Group.Reading.{no-codes}
 use Rattle.stream.proofs.Law.Group.RoundTrip.{length-codes}
 use Rattle.stream.proofs.Law.Setting.Allowed.{width-format}
@@ -17,13 +17,13 @@ use Rattle.stream.proofs.lent.put_values64.Tie as tie
 
 shared-slice-read-if1 : tie.Need-shared-slice-read-if1
 unfolding groupLength
-shared-slice-read-if1 c = omega (arith, c .before .before .before .before .pre .1 .3)
+shared-slice-read-if1 c = omega (arith, c .before .before .before .before .pre .4)
 
 read-codes64-requires : tie.Need-read-codes64-requires
 unfolding givenWidth
 read-codes64-requires c κs =
-    let p = c .before .before .before .before .before .before .pre .1 in
-    (p .1, c .before .if1 .taken, p .2, p .3, p .4)
+    let p = c .before .before .before .before .before .before .pre in
+    (p .2, c .before .if1 .taken, p .3, p .4, p .5)
 
 put-patterns64-requires : tie.Need-put-patterns64-requires
 put-patterns64-requires c κs = search needs
@@ -42,7 +42,7 @@ returns c =
     let a = c .before .before .before .before .before .before .before .before .before .before .before .before .before .before .args in
     let cs = groupCodes (a .n) (a .s .now) in
     c .before .before .put-patterns64 .ensures
-    ∙ ap (λ (l : List ℕ). patternsAfter (a .t) (a .before) l ++ drop (a .n) (a .out .now))
+    ∙ ap (λ (l : List ℕ). map (patternAt (a .t)) l ++ drop (a .n) (a .out .now))
     (ap (take (a .n)) (c .before .before .before .before .before .before .before .read-codes64 .ensures) ∙ take-at cs (drop (a .n) (a .c .now)) (a .n) (length-codes (a .n) (a .s .now)))
 
 same-length-3 : tie.Need-same-length-3
@@ -53,11 +53,9 @@ returns-2 c =
     let s = c .before .before .before .before .before .before .before .before .before in
     let a = s .args in
     let zero : getD (a .s .now) 0 0 ≡ 0 = omega (arith, c .before .before .before .before .if1 .left) in
-    let under = subst (λ (w : ℕ). a .before < 2 ^ w) (sym (s .pre .1 .0)) (s .fits .before .fits) in
     c .before .before .repeated64 .ensures
     ∙ ap (λ (r : List ℕ). r ++ drop (a .n) (a .out .now))
-    (sym (ap (patternsAfter (a .t) (a .before)) (no-codes (a .n) (a .s .now) zero)
-    ∙ patterns-zero (a .t) (width-format (a .t .width) (s .pre .0 .0 .known)) (a .n) (a .before) under (s .pre .0 .1)))
+    (sym (ap (map (patternAt (a .t))) (no-codes (a .n) (a .s .now) zero) ∙ patterns-zero (a .t) (width-format (a .t .width) (s .pre .0 .known)) (a .n)))
 
 pub put-values64-spec : {M : Type 1} → statement M
 put-values64-spec =

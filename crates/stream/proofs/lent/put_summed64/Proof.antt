@@ -1,0 +1,72 @@
+-- `stream::lent::put_summed64` meets its contract: the sums of its codes, and for a group of no bits the pattern before.
+use mathlib.Core.Path.{_≡_, sym, ap, _∙_}
+use mathlib.Core.List.{List, _++_}
+use Prim.Native.Nat.{ℕ}
+use native.Mathlib.Omega.{arith}
+use lib.Dec.{lit<}
+use lib.ListN.{take, drop, getD}
+use lib.Seq.{take-at}
+use borrow.Author.Needs.{needs}
+use Rattle.numbers.specs.Difference.{runningSums}
+use Rattle.numbers.proofs.Law.Difference.{sums-of-zeros}
+use Rattle.stream.specs.Group.{givenWidth, groupLength, groupCodes}
+use Rattle.stream.proofs.Law.Group.Reading.{no-codes}
+use Rattle.stream.proofs.Law.Group.RoundTrip.{length-codes}
+use Rattle.stream.proofs.lent.put_summed64.Statement.{statement}
+use Rattle.stream.proofs.lent.put_summed64.Tie as tie
+
+shared-slice-read-if1 : tie.Need-shared-slice-read-if1
+unfolding groupLength
+shared-slice-read-if1 c = omega (arith, c .before .before .before .before .pre .2)
+
+read-codes64-requires : tie.Need-read-codes64-requires
+unfolding givenWidth
+read-codes64-requires c κs =
+    let p = c .before .before .before .before .before .before .pre in
+    (p .0, c .before .if1 .taken, p .1, p .2, p .3)
+
+put-sums64-requires : tie.Need-put-sums64-requires
+put-sums64-requires c κs = search needs
+
+repeated64-requires : tie.Need-repeated64-requires
+repeated64-requires c κs = search needs
+
+same-length : tie.Need-same-length
+same-length c = search needs
+
+same-length-2 : tie.Need-same-length-2
+same-length-2 c = search needs
+
+returns : tie.Need-returns
+returns c =
+    let a = c .before .before .before .before .before .before .before .before .before .before .before .before .before .before .args in
+    let cs = groupCodes (a .n) (a .s .now) in
+    c .before .before .put-sums64 .ensures
+    ∙ ap (λ (l : List ℕ). runningSums 64 (a .before) l ++ drop (a .n) (a .out .now))
+    (ap (take (a .n)) (c .before .before .before .before .before .before .before .read-codes64 .ensures) ∙ take-at cs (drop (a .n) (a .c .now)) (a .n) (length-codes (a .n) (a .s .now)))
+
+same-length-3 : tie.Need-same-length-3
+same-length-3 c = search needs
+
+returns-2 : tie.Need-returns-2
+returns-2 c =
+    let s = c .before .before .before .before .before .before .before .before .before in
+    let a = s .args in
+    let zero : getD (a .s .now) 0 0 ≡ 0 = omega (arith, c .before .before .before .before .if1 .left) in
+    c .before .before .repeated64 .ensures
+    ∙ ap (λ (r : List ℕ). r ++ drop (a .n) (a .out .now))
+    (sym (ap (runningSums 64 (a .before)) (no-codes (a .n) (a .s .now) zero) ∙ sums-of-zeros 64 (lit< tt) (a .before) (a .n) (s .fits .before .fits)))
+
+pub put-summed64-spec : {M : Type 1} → statement M
+put-summed64-spec =
+    tie.close
+    (tie.spec
+    shared-slice-read-if1
+    read-codes64-requires
+    put-sums64-requires
+    repeated64-requires
+    same-length
+    same-length-2
+    returns
+    same-length-3
+    returns-2)
