@@ -4,8 +4,8 @@
     tests/format/compare.py STREAMS SEED COMMAND...      COMMAND starts the library behind a pipe (tests/caller)
 
 It and the library get the same streams, clean and damaged, and have to answer the same: check, unpack and probe with
-number, detail and every value; and pack, length and bound. One stream in twelve has up to three chunks and is damaged
-within them, for the place that refusal 10 names. The last line is 'N passed, M failed', a stream each.
+number, detail and every value; and pack, length and bound. One stream in twelve has up to three chunks, most of them
+damaged within, for the place that refusal 10 names. The last line is 'N passed, M failed', a stream each.
 """
 
 import itertools
@@ -19,7 +19,8 @@ sys.path.append(str(pathlib.Path(__file__).resolve().parent.parent / "caller"))
 from caller import Caller  # noqa: E402  the folder has to be named first
 
 HEADER_WORDS = 12
-INTERESTING = [0, 1, 2, 7, 8, 9, 10, 11, 31, 32, 33, 48, 52, 63, 64, 65, 1023, 1024, 1025, 1048576, 1048577,
+LEVEL = reader.LEVELS[-1]
+INTERESTING = [0, 1, 2, 3, 7, 8, 9, 10, 11, 12, 31, 32, 33, 48, 52, 63, 64, 65, 1023, 1024, 1025, 1048576, 1048577,
                2**31 - 1, 2**31, 2**32 - 2, 2**32 - 1]
 
 
@@ -30,16 +31,45 @@ def some_count(pick):
 
 
 def some_setting(pick):
-    width, mode = pick.choice([32, 64]), pick.choice([0, 1])
+    width, mode = pick.choice([32, 64]), pick.choice([0, 1, 2])
     low, high = reader.ALLOWED_K[width]
     k = pick.choice([low, high, pick.randrange(low, high + 1), pick.randrange(-12, 3)]) if mode == 1 else 0
     return width, mode, k
 
 
-def some_values(pick, width, k):
-    """Patterns of one kind: any, special, alike, or around the threshold and the bins."""
+def other_setting(pick, width):
+    """A mode and a k that are mostly not allowed."""
+    low, high = reader.ALLOWED_K[width]
+    return pick.choice([0, 1, 2, 3, 2**32 - 1]), pick.choice([0, 1, -1, low - 1, high + 1, -2**31, 2**31 - 1])
+
+
+def some_level(pick):
+    return pick.choice([*reader.LEVELS] + [LEVEL] * 5 + [pick.choice([0, 7, LEVEL + 1, 2**32 - 1])])
+
+
+def special_patterns(width):
     m, half = reader.FRACTION_BITS[width], 1 << (width - 1)
-    special = [0, half, 1, half + 1, half - 1, 2 * half - 1, half - (1 << m), half - (1 << m) + 1]
+    return [0, half, 1, half + 1, half - 1, 2 * half - 1, half - (1 << m), half - (1 << m) + 1]
+
+
+def some_values(pick, width, k):
+    return some_walk(pick, width) if pick.random() < 0.3 else some_field(pick, width, k)
+
+
+def some_walk(pick, width):
+    """Patterns that change little: small steps up and down, past the ends too, and runs of equal ones, which fill whole groups."""
+    count, most = some_count(pick), pick.choice([0, 1, 3, 5000])
+    at = pick.choice([pick.randrange(1 << width)] + special_patterns(width))
+    values = []
+    while len(values) < count:
+        values += [at] * pick.choice([1, 1, 1, 1, 2, 50, 100])
+        at = (at + pick.randrange(-most, most + 1)) % (1 << width)
+    return values[:count]
+
+
+def some_field(pick, width, k):
+    """Patterns of one kind: any, special, alike, or around the threshold and the bins."""
+    m, half, special = reader.FRACTION_BITS[width], 1 << (width - 1), special_patterns(width)
     bins = k + reader.BIN_OFFSET[width]
     middle = pick.randrange(half)
     kinds = [lambda: pick.randrange(2 * half), lambda: pick.choice(special), lambda: (middle + pick.randrange(5000)) % (2 * half),
@@ -71,6 +101,14 @@ def other_word(pick, data):
     return data[:at] + words([new]) + data[at + 4:]
 
 
+def other_mode(pick, data):
+    """Another mode, k and need in the header: mostly the need of that mode, so that the codes are read by other rules."""
+    needed, width, _, k = (reader.word(data, at) for at in (8, 12, 16, 20))
+    mode = pick.choice([0, 1, 2, 2, 3])
+    needed = pick.choice([reader.need(width, mode)] * 4 + [needed, pick.randrange(7, LEVEL + 2)])
+    return data[:8] + words([needed, width, mode, pick.choice([k, 0, 0, 1])]) + data[24:]
+
+
 def other_byte(pick, data):
     at = pick.randrange(len(data))
     return data[:at] + bytes([pick.choice([0, 255, pick.randrange(256)])]) + data[at + 1:]
@@ -83,7 +121,7 @@ def other_bit(pick, data):
 
 def damaged(pick, data):
     for _ in range(pick.choice([0, 0, 1, 1, 1, 2, 3])):
-        how = pick.choice([other_word, other_byte, other_bit, other_bit, with_sides,
+        how = pick.choice([other_word, other_mode, other_byte, other_bit, other_bit, with_sides,
                            lambda pick, data: data[:pick.randrange(len(data) + 1)],
                            lambda pick, data: data + bytes(pick.randrange(1, 4))])
         if data:
@@ -131,7 +169,7 @@ def other_groups(pick, width, groups):
 
 def damaged_within(pick, width, data):
     chunks = chunks_of(data)
-    for groups in pick.sample(chunks, min(pick.choice([1, 1, 1, 2, 3]), len(chunks))):
+    for groups in pick.sample(chunks, min(pick.choice([0, 1, 1, 1, 2, 3]), len(chunks))):
         other_groups(pick, width, groups)
     data = with_chunks(data, chunks)
     return with_sides(pick, data) if pick.random() < 0.2 else data
@@ -143,12 +181,13 @@ def calls_of_any(pick, library):
     """The calls for one more stream of any kind: those that write, and those that read it once it is damaged."""
     width, mode, k = some_setting(pick)
     values = some_values(pick, width, k)
-    level = pick.choice([8, 9, 10, 10, 10, 10])
-    room = reader.length(width, level, mode, k, values)[1] + pick.choice([0, 0, 0, -1, 5])
-    calls = [("pack", width, level, mode, k, values, max(room, 0)), ("length", width, level, mode, k, values),
+    asked = (mode, k) if pick.random() < 0.95 else other_setting(pick, width)
+    setting = width, some_level(pick), *asked, values
+    room = reader.length(*setting)[1] + pick.choice([0, 0, 0, -1, 5])
+    calls = [("pack", *setting, max(room, 0)), ("length", *setting),
              ("bound", pick.choice([32, 64, 64, 16]), pick.choice([pick.randrange(2**63), pick.randrange(2**64), pick.randrange(2**54), 1, 0]))]
-    data = damaged(pick, library.pack(width, 10, mode, k, values, 2**14)[2])
-    acting, n = pick.choice([8, 9, 10, 10, 10, 10, pick.choice([0, 7, 11, 2**32 - 1])]), len(values)
+    data = damaged(pick, library.pack(width, LEVEL, mode, k, values, 2**14)[2])
+    acting, n = some_level(pick), len(values)
     other = width if pick.random() < 0.95 else 96 - width
     calls += [("check", acting, data), ("unpack", other, acting, data, max(n + pick.choice([0, 0, 0, 1, -1]), 0))]
     calls += [("probe", other, acting, data, index) for index in (pick.randrange(n + 1), pick.choice([0, n, 1023, 1024, 2**64 - 1]))]
@@ -156,12 +195,14 @@ def calls_of_any(pick, library):
 
 
 def calls_of_chunks(pick, library):
-    """The calls that read one more stream of up to three chunks, once it is damaged within them."""
+    """The calls for one more stream of up to three chunks: the one that writes it, and those that read it once it is damaged within them."""
     width, mode, k = some_setting(pick)
     n = pick.choice([1024, 1025, 2048, pick.randrange(1, 1024), pick.randrange(1, 3072), 32 * pick.randrange(1, 96)])
     values = list(itertools.islice(itertools.cycle(some_values(pick, width, k) or [0]), n))
-    data = damaged_within(pick, width, library.pack(width, 10, mode, k, values, 2**15)[2])
-    return [("check", 10, data), ("unpack", width, 10, data, n)] + [("probe", width, 10, data, index) for index in (pick.randrange(n), n - 1)]
+    packing = ("pack", width, LEVEL, mode, k, values, 2**15)
+    data = damaged_within(pick, width, library.pack(*packing[1:])[2])
+    return [packing, ("check", LEVEL, data), ("unpack", width, LEVEL, data, n)] + [
+        ("probe", width, LEVEL, data, index) for index in (pick.randrange(n), n - 1)]
 
 
 def differences(pick, library):

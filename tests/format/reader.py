@@ -7,7 +7,7 @@ the bytes at hand and by the page's limits, never by what a header claims.
 
 from collections import namedtuple
 
-LEVELS = (8, 9, 10)                           # "knownLevel"
+LEVELS = (8, 9, 10, 11)                       # "knownLevel"
 WIDTHS = (32, 64)                             # "knownWidth"
 FRACTION_BITS = {32: 23, 64: 52}              # "fractionBits": m
 BIN_OFFSET = {32: 150, 64: 1075}              # "binOf": j = k + this
@@ -26,6 +26,18 @@ Header = namedtuple("Header", "major written needed width mode k n c table_at da
 
 # --- Mode 0: lossless -------------------------------------------------------
 
+def folded(width, r):
+    """r read in two's complement as x: 2x, or -2x-1 where x is negative ("folded")."""
+    if r < 1 << (width - 1):
+        return 2 * r
+    return 2 * ((1 << width) - 1 - r) + 1
+
+
+def unfolded(width, q):
+    """The r that is folded to q ("unfolded")."""
+    return q // 2 if q % 2 == 0 else (1 << width) - 1 - q // 2
+
+
 def lossless_code(width, p):
     """Code of the pattern p ("losslessCode")."""
     half, size = 1 << (width - 1), 1 << width
@@ -35,16 +47,14 @@ def lossless_code(width, p):
         r = (r - half) % size
         if r // unit == 0 or r >= half:       # "lowered"
             r = (r - unit) % size
-    if r < half:                              # 3. "folded"
-        return 2 * r
-    return 2 * (size - 1 - r) + 1
+    return folded(width, r)                   # 3.
 
 
 def lossless_restored(width, q):
     """Pattern of the code q ("losslessRestored")."""
     half, size = 1 << (width - 1), 1 << width
     unit = 1 << (FRACTION_BITS[width] + 1)
-    r = q // 2 if q % 2 == 0 else size - 1 - q // 2   # 1. "unfolded"
+    r = unfolded(width, q)                    # 1.
     if r // unit != 0:                        # 2. "unstepped": the field is looked at once
         if r >= half:
             r = (r + unit) % size             # "raised"
@@ -105,28 +115,56 @@ def largest_u(width, k):
     return (1 << (width - 1)) - 1 - ((k + BIN_OFFSET[width]) << FRACTION_BITS[width])
 
 
-# --- Both modes -------------------------------------------------------------
+# --- Mode 2: lossless, by differences ---------------------------------------
 
-def code_of(width, mode, k, p):
-    return lossless_code(width, p) if mode == 0 else tolerance_code(width, k, p)
+def difference_codes(width, patterns):
+    """Codes of a chunk's patterns, the first behind the pattern 0 ("differenceCodes")."""
+    return [folded(width, (p - b) % (1 << width)) for b, p in zip([0] + patterns, patterns)]
 
 
-def restored(width, mode, k, q):
-    return lossless_restored(width, q) if mode == 0 else tolerance_restored(width, k, q)
+def running_sums(width, codes):
+    """Patterns of a chunk's codes, from its first code on ("runningSums")."""
+    patterns, b = [], 0
+    for q in codes:
+        b = (b + unfolded(width, q)) % (1 << width)
+        patterns.append(b)
+    return patterns
+
+
+# --- All modes --------------------------------------------------------------
+
+def codes_of(width, mode, k, patterns):
+    """The codes of a chunk's patterns."""
+    if mode == 0:
+        return [lossless_code(width, p) for p in patterns]
+    if mode == 1:
+        return [tolerance_code(width, k, p) for p in patterns]
+    return difference_codes(width, patterns)
+
+
+def restored(width, mode, k, codes):
+    """The patterns of a chunk's codes, from its first code on."""
+    if mode == 0:
+        return [lossless_restored(width, q) for q in codes]
+    if mode == 1:
+        return [tolerance_restored(width, k, q) for q in codes]
+    return running_sums(width, codes)
 
 
 def allowed_setting(width, mode, k):
     """"allowedSetting", with the width's own rule."""
     if width not in WIDTHS:
         return False
-    if mode == 0:
+    if mode in (0, 2):
         return k == 0
     low, high = ALLOWED_K[width]
     return mode == 1 and low <= k <= high
 
 
 def need(width, mode):
-    """10 for width 64, else 9 for mode 1, else 8."""
+    """11 for mode 2, else 10 for width 64, else 9 for mode 1, else 8."""
+    if mode == 2:
+        return 11
     if width == 64:
         return 10
     return 9 if mode == 1 else 8
@@ -274,14 +312,14 @@ def chunk_codes(h, data, i):
 
 
 def all_codes(h, data):
-    """Test 10 of check and unpack: the refusal of the first bad chunk, or all codes."""
-    codes = []
+    """Test 10 of check and unpack: the refusal of the first bad chunk, or the codes of each."""
+    chunks = []
     for i in range(h.c):
-        refusal, chunk = chunk_codes(h, data, i)
+        refusal, codes = chunk_codes(h, data, i)
         if refusal is not None:
             return refusal, None
-        codes += chunk
-    return None, codes
+        chunks.append(codes)
+    return None, chunks
 
 
 # --- The readers ------------------------------------------------------------
@@ -306,10 +344,10 @@ def unpack(width, level, data, room):
     if refusal is None:
         refusal = tables_refusal(h, data)
     if refusal is None:
-        refusal, codes = all_codes(h, data)
+        refusal, chunks = all_codes(h, data)
     if refusal is not None:
         return refusal + (None,)
-    return 0, h.n, [restored(width, h.mode, h.k, q) for q in codes]
+    return 0, h.n, [p for codes in chunks for p in restored(width, h.mode, h.k, codes)]
 
 
 def kind_of(width, p):
@@ -337,7 +375,7 @@ def probe(width, level, data, index):
         refusal, codes = chunk_codes(h, data, index // CHUNK)
     if refusal is not None:
         return refusal + (None,)
-    p = restored(width, h.mode, h.k, codes[index % CHUNK])
+    p = restored(width, h.mode, h.k, codes[:index % CHUNK + 1])[-1]
     return 0, kind_of(width, p), p
 
 
@@ -363,8 +401,8 @@ def chunk_bytes(codes):
 
 def stream(width, level, mode, k, values):
     """The only stream of a level, an allowed setting and the values ("stream")."""
-    codes = [code_of(width, mode, k, p) for p in values]
-    chunks = [chunk_bytes(codes[i:i + CHUNK]) for i in range(0, len(codes), CHUNK)]
+    chunks = [chunk_bytes(codes_of(width, mode, k, values[i:i + CHUNK]))
+              for i in range(0, len(values), CHUNK)]
     starts, total = [], 0
     for chunk in chunks:
         starts.append(total)
@@ -372,7 +410,7 @@ def stream(width, level, mode, k, values):
     c = len(chunks)
     data_at = HEADER_BYTES + 4 * c
     numbers = Header(major=1, written=level, needed=need(width, mode), width=width, mode=mode,
-                     k=k, n=len(codes), c=c, table_at=HEADER_BYTES, data_at=data_at, s=0,
+                     k=k, n=len(values), c=c, table_at=HEADER_BYTES, data_at=data_at, s=0,
                      end=data_at + total)
     return b"".join(map(spell, numbers)) + b"".join(map(spell, starts)) + b"".join(chunks)
 
