@@ -21,7 +21,8 @@ import reader  # noqa: E402  its folder has to be named first
 from caller import Caller  # noqa: E402
 
 # Width, mode, k, and the levels that write it.
-SETTINGS = [(32, 0, 0, (8, 9, 10)), (32, 1, -8, (9, 10)), (64, 0, 0, (10,)), (64, 1, -8, (10,))]
+SETTINGS = [(32, 0, 0, (8, 9, 10, 11)), (32, 1, -8, (9, 10, 11)), (64, 0, 0, (10, 11)), (64, 1, -8, (10, 11)),
+            (32, 2, 0, (11,)), (64, 2, 0, (11,))]
 LIMITS = [(32, 1, -150, 9), (32, 1, 103, 9), (64, 1, -1075, 10), (64, 1, 970, 10)]
 
 # The places of the header's numbers.
@@ -88,11 +89,19 @@ def thirty_three(width):
     return [dry(width, 1) if i == 16 else water(width, i) for i in range(33)]
 
 
+def resting(width):
+    """A walk that rests for 70 values at a time, so that groups of no bits repeat what stands before them, across the
+    start of the second chunk too; it goes through 0 and 2^width - 1, where a difference wraps, and past dry cells."""
+    stops = [water(width, 0), dry(width, 0), 0, 2**width - 1, 1, dry(width, 4), water(width, 99), 2**(width - 1)]
+    return [stops[i // 70 % len(stops)] for i in range(LONG)]
+
+
 def widths(width, mode, k):
     """A group for each width byte that the setting can have."""
-    largest = 2**width - 1 if mode == 0 else 2 * reader.largest_u(width, k) + 1
+    largest = 2 * reader.largest_u(width, k) + 1 if mode == 1 else 2**width - 1
     codes = [min(2**w - 1, largest) >> i % (w + 1) for w in range(largest.bit_length() + 1) for i in range(32)]
-    return [reader.restored(width, mode, k, code) for code in codes]
+    chunks = [codes[start:start + 1024] for start in range(0, len(codes), 1024)]
+    return [pattern for chunk in chunks for pattern in reader.restored(width, mode, k, chunk)]
 
 
 # ---- edits
@@ -159,7 +168,7 @@ def with_group(data, chunk, group, w, codes):
 # ---- the streams: a name and bytes each
 
 def setting_name(width, mode, k):
-    return f"{width}-lossless" if mode == 0 else f"{width}-within-k{k}"
+    return f"{width}-within-k{k}" if mode == 1 else f"{width}-{'differences' if mode == 2 else 'lossless'}"
 
 
 def packed(library, width, mode, k, level, values):
@@ -179,6 +188,8 @@ def written(library):
                 yield f"{name}-{what}-by-{level}", packed(library, width, mode, k, level, values)
         for what, values in (("calm", calm(width)), ("widths", widths(width, mode, k))):
             yield f"{name}-{what}-by-{levels[0]}", packed(library, width, mode, k, levels[0], values)
+    for width in (32, 64):
+        yield f"{width}-differences-resting-by-11", packed(library, width, 2, 0, 11, resting(width))
     for n in (40, 993, 1048576):
         yield f"32-lossless-{n}-by-8", packed(library, 32, 0, 0, 8, [0] * n)
     for width, mode, k, level in LIMITS:
@@ -191,19 +202,26 @@ MANY_SIDES = [(5 * i, bytes(i % 3)) for i in range(63)] + [(2**32 - 1, b"last")]
 
 def edited(streams):
     """What a reader has to take besides: side parts, and a writer of a later level."""
-    for name in ("32-lossless-33-by-8", "32-within-k-8-calm-by-9", "64-lossless-33-by-10", "64-within-k-8-empty-by-10"):
+    for name in ("32-lossless-33-by-8", "32-within-k-8-calm-by-9", "64-lossless-33-by-10", "64-within-k-8-empty-by-10",
+                 "32-differences-resting-by-11", "64-differences-33-by-11"):
         yield f"{name}-2-sides", with_sides(streams[name], TWO_SIDES)
     yield "32-lossless-33-by-8-64-sides", with_sides(streams["32-lossless-33-by-8"], MANY_SIDES)
     yield "32-lossless-33-by-8-written-4294967295", with_number(streams["32-lossless-33-by-8"], WRITTEN, 2**32 - 1)
     yield "64-within-k-8-33-by-10-written-11", with_number(streams["64-within-k-8-33-by-10"], WRITTEN, 11)
+    yield "64-differences-33-by-11-written-12", with_number(streams["64-differences-33-by-11"], WRITTEN, 12)
 
 
 def later(streams):
-    """What levels to come may write, as far as it concerns the levels of today: it needs more than each of them."""
+    """What levels to come may write, as far as it concerns the levels of its day: it needs more than each of them. (The
+    streams that need 11 are from before level 11, which reads no such setting.)"""
     data = with_number(with_number(streams["32-lossless-33-by-8"], WRITTEN, 11), NEEDED, 11)
     yield "32-lossless-33-need-11", data
     yield "32-lossless-33-need-11-cut-to-48", data[:48]
     yield "32-lossless-33-need-11-width-16-mode-2", with_number(with_number(data, WIDTH, 16), MODE, 2)
+    data = with_number(with_number(streams["32-differences-33-by-11"], WRITTEN, 12), NEEDED, 12)
+    yield "32-differences-33-need-12", data
+    yield "32-differences-33-need-12-cut-to-48", data[:48]
+    yield "32-differences-33-need-12-width-16-mode-258", with_number(with_number(data, WIDTH, 16), MODE, 258)
     yield "64-lossless-33-need-4294967295", with_number(streams["64-lossless-33-by-10"], NEEDED, 2**32 - 1)
 
 
@@ -217,6 +235,9 @@ BAD_NUMBERS = {
     (32, 1): [("need-8", NEEDED, 8), ("mode-0", MODE, 0), ("k104", K, 104), ("k-151", K, -151)],
     (64, 0): [("need-9", NEEDED, 9), ("width-32", WIDTH, 32), ("k-1", K, -1)],
     (64, 1): [("need-9", NEEDED, 9), ("width-32", WIDTH, 32), ("k971", K, 971), ("k-1076", K, -1076)],
+    (32, 2): [("need-8", NEEDED, 8), ("need-10", NEEDED, 10), ("written-10", WRITTEN, 10), ("mode-0", MODE, 0),
+              ("mode-1", MODE, 1), ("mode-3", MODE, 3), ("k1", K, 1), ("k-1", K, -1)],
+    (64, 2): [("need-10", NEEDED, 10), ("mode-0", MODE, 0), ("mode-1", MODE, 1), ("k1", K, 1)],
 }
 
 
