@@ -37,9 +37,9 @@
  * means, may change where the second number does.
  */
 #define GWZ_VERSION_MAJOR 0
-#define GWZ_VERSION_MINOR 8
+#define GWZ_VERSION_MINOR 9
 #define GWZ_VERSION_PATCH 0
-#define GWZ_VERSION "0.8.0"
+#define GWZ_VERSION "0.9.0"
 
 #ifndef GWZ_HELPER
 #define GWZ_HELPER static inline
