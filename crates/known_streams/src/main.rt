@@ -134,12 +134,17 @@ fn largest_u() {
     shown(b"one more probed", probe::probe32(9, &out, 0));
 }
 
-// Mode 2: a slow walk with a rest, two chunks of it, read back by each level and probed at both sides of the chunk's start.
-fn differences() {
+// Mode 2: a slow walk with a rest, in two chunks.
+fn walk() -> [u32; 1026] {
     let mut list: [u32; 1026] = [0x3F80_0000; 1026];
     list[0] = 0x3F7F_FFFE;
     list[1] = 0x3F7F_FFFF;
     list[1025] = 0x3F80_0003;
+    list
+}
+
+fn differences() {
+    let list = walk();
     let mut out: [u8; 221] = [0; 221];
     told(
         b"differences at level 10",
@@ -156,18 +161,23 @@ fn differences() {
     told(b"differences measured", pack::length32(11, 2, 0, &list));
     told(b"differences told level 10", reading::check(10, &out));
     told(b"differences checked", reading::check(11, &out));
+    differences_read(&out);
+}
+
+// Probed at both sides of the second chunk's start, and unpacked.
+fn differences_read(stream: &[u8]) {
     shown(
         b"differences probed at 1023",
-        probe::probe32(11, &out, 1023),
+        probe::probe32(11, stream, 1023),
     );
     shown(
         b"differences probed at 1024",
-        probe::probe32(11, &out, 1024),
+        probe::probe32(11, stream, 1024),
     );
     let mut back: [u32; 1026] = [0; 1026];
     told(
         b"differences unpacked",
-        reading::unpack32(11, &out, &mut back),
+        reading::unpack32(11, stream, &mut back),
     );
     text(b"differences values");
     pattern(back[0]);

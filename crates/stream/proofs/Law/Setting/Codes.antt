@@ -14,7 +14,7 @@ use lib.Seq.{length-take-le}
 use Rattle.numbers.specs.Difference.{differenceCodes, runningSums, lastOf}
 use Rattle.numbers.specs.Theorem.{Format}
 use Rattle.bins.specs.Tolerance.{lastBin}
-use Rattle.numbers.proofs.Law.Difference.{codes-append, sums-append, length-difference-codes, length-sums}
+use Rattle.numbers.proofs.Law.Difference.{sums-append, length-difference-codes, length-sums}
 use Rattle.numbers.proofs.Theorems.{lossless-code-has-W-bits, lossless-pattern-has-W-bits, tolerance-code-has-W-bits, tolerance-pattern-has-W-bits, lossless-zero, tolerance-zero, difference-codes-have-W-bits, running-sums-have-W-bits}
 use Rattle.blocks.specs.Bytes.{Below}
 use Rattle.stream.specs.Setting.{fractionBits, clipped, codeAt, patternAt, codesAfter, patternsAfter}
@@ -51,7 +51,7 @@ module _ (t : Setting) (before : ℕ) (xs : List ℕ) where
   unfolding patternsAfter
   patterns-each n = rw (ne-eqb (t .mode) 2 n)
 
-  -- ---- the length, and the append with its carry
+  -- ---- the length, and the append of patterns with its carry
 
   pub length-codes-after : length (codesAfter t before xs) ≡ length xs
   unfolding codesAfter
@@ -68,15 +68,6 @@ module _ (t : Setting) (before : ℕ) (xs : List ℕ) where
       go : (b : Bool) → length (cond b (runningSums (t .width) before xs) (map (patternAt t) xs)) ≡ length xs
       go true = length-sums (t .width) before xs
       go false = length-map xs (patternAt t)
-
-  pub codes-after-append : (ys : List ℕ) → codesAfter t before (xs ++ ys) ≡ codesAfter t before xs ++ codesAfter t (lastOf before xs) ys
-  unfolding codesAfter
-  codes-after-append ys = go (eqb (t .mode) 2)
-    where
-      go : (b : Bool) → cond b (differenceCodes (t .width) before (xs ++ ys)) (map (codeAt t) (xs ++ ys))
-          ≡ cond b (differenceCodes (t .width) before xs) (map (codeAt t) xs) ++ cond b (differenceCodes (t .width) (lastOf before xs) ys) (map (codeAt t) ys)
-      go true = codes-append (t .width) before xs ys
-      go false = map-append (codeAt t) xs ys
 
   pub patterns-append : (ys : List ℕ) → patternsAfter t before (xs ++ ys) ≡ patternsAfter t before xs ++ patternsAfter t (lastOf before (patternsAfter t before xs)) ys
   unfolding patternsAfter
