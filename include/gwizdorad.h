@@ -75,7 +75,8 @@ extern "C" {
 /*
  * A level is the minor number of the format that a call acts as. A writer's level is noted in the stream, with
  * the least level that a reader needs: 11 in mode GWZ_DIFFERENCES, else 10 for width 64, else 9 within a tolerance,
- * else 8. For boats whose reader is of level 10 or below, pack lossless by GWZ_LOSSLESS.
+ * else 8. A reader of level 10 or below refuses GWZ_DIFFERENCES by 7: for such boats use GWZ_LOSSLESS, whose need is 8, or
+ * 10 at width 64.
  */
 enum gwz_level {
     GWZ_LEVEL_8 = 8,   /* width 32, GWZ_LOSSLESS */
@@ -88,8 +89,9 @@ enum gwz_mode {
     GWZ_LOSSLESS = 0,         /* every pattern comes back bit for bit; k must be 0 */
     GWZ_WITHIN_TOLERANCE = 1, /* a magnitude below 2^(k+24) (width 64: 2^(k+53)) comes back at most 2^k off,
                                  every other value, infinities and not-a-numbers too, bit for bit */
-    GWZ_DIFFERENCES = 2       /* as GWZ_LOSSLESS, and smaller where a value is near the one before it in the list: each is
-                                 kept as its difference from that one, within its chunk of 1,024; k must be 0 */
+    GWZ_DIFFERENCES = 2       /* as GWZ_LOSSLESS, by the difference of each pattern from the one before it in the list, within
+                                 its chunk of 1,024; k must be 0. It is smaller where most values have the sign of the one before
+                                 and nearly its magnitude, and larger where the sign changes often */
 };
 
 /* What gwz_probe32 and gwz_probe64 answer. */

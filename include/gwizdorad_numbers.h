@@ -158,7 +158,10 @@ GWZ_HELPER const char *gwz_refusal_text(uint32_t number)
  */
 uint64_t gwz_bound(uint32_t width, uint64_t tolerance);
 
-/* The lossless code of a pattern, and the pattern of a code. Each is answered as it is; nothing is refused. */
+/*
+ * The code of mode 0, GWZ_LOSSLESS, of a pattern, and the pattern of a code. Each is answered as it is; nothing is refused.
+ * (The codes of mode 2, GWZ_DIFFERENCES, run through a chunk, and are not offered by themselves.)
+ */
 uint32_t gwz_lossless_code32(uint32_t pattern);
 uint64_t gwz_lossless_code64(uint64_t pattern);
 uint32_t gwz_lossless_restored32(uint32_t code);

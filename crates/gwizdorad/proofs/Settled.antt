@@ -6,6 +6,7 @@ use Prim.Native.Nat.{ℕ}
 use lib.IntN.{ℤ}
 use lib.ListN.{length}
 use Rattle.numbers.specs.Lossless.{losslessCode, losslessRestored}
+use Rattle.numbers.specs.Difference.{differenceCode, differenceRestored}
 use Rattle.numbers.specs.Answers.{codeAnswer, patternAnswer}
 use Rattle.numbers.specs.Bound.{boundAnswer}
 use Rattle.stream.specs.Operations.{checkAnswer, unpackAnswer, unpackOut, probeAnswer32, probeAnswer64, lengthAnswer, packAnswer, packOut}
@@ -53,6 +54,14 @@ module _ (level : ℕ) (s : List ℕ) where
 
 pub gwz-bound-is-settled : (width tolerance r r′ : ℕ) → r ≡ boundResult (boundAnswer width tolerance) → r′ ≡ boundResult (boundAnswer width tolerance) → r ≡ r′
 gwz-bound-is-settled width tolerance r r′ = one
+
+-- the difference rule, which Rattle alone reaches
+module _ (W before : ℕ) where
+  pub a-difference-code-is-settled : (p r r′ : ℕ) → r ≡ differenceCode W before p → r′ ≡ differenceCode W before p → r ≡ r′
+  a-difference-code-is-settled p r r′ = one
+
+  pub a-restored-difference-is-settled : (c r r′ : ℕ) → r ≡ differenceRestored W before c → r′ ≡ differenceRestored W before c → r ≡ r′
+  a-restored-difference-is-settled c r r′ = one
 
 module _ (W m : ℕ) where
   pub gwz-lossless-code-is-settled : (p r r′ : ℕ) → r ≡ losslessCode W m p → r′ ≡ losslessCode W m p → r ≡ r′

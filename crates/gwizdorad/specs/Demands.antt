@@ -87,8 +87,8 @@ pub record Demand1 : Type 0 where
 unfoldable pub formatOf : ℕ → Format
 formatOf W = cond (eqb W 32) binary32 binary64
 
--- How a pattern p comes back as q: in the modes 0 and 2, which `losslessMode` names, as itself. `Returned` is the tolerance in the words of IEEE 754. It counts in units of 2^-149 or 2^-1074, where the bin
--- E = 2^(k+1) is 2 ^ binOf: twice the distance is at most E, so the distance is at most 2^k.
+-- How a pattern p comes back as q: in the modes 0 and 2, which `losslessMode` names, as itself. `Returned` is the tolerance in the words of IEEE 754. It
+-- counts in units of 2^-149 or 2^-1074, where the bin E = 2^(k+1) is 2 ^ binOf: twice the distance is at most E, so the distance is at most 2^k.
 pub record ComesBack (W mode : ℕ) (k : ℤ) (p q : ℕ) : Type 0 where
   pub lossless : losslessMode mode ≡ true → q ≡ p
   pub within : mode ≡ 1 → Returned (formatOf W) (binOf W (fractionBits W) k) p q

@@ -1,4 +1,4 @@
-// The known values of document 01 that concern streams, run through the operations; `stdout` beside this folder has what they should be.
+// The known values of document 01 that concern streams, and some of mode 2 (document 02, R-2), run through the operations; `stdout` beside this folder has what they should be.
 use libc::STDOUT_FILENO;
 use stream::answers::Answer;
 use stream::answers::Probe32;
@@ -32,7 +32,10 @@ fn told(what: &[u8], answer: Answer) {
 fn shown(what: &[u8], answer: Probe32) {
     text(what);
     match answer {
-        Probe32::Finite(_) => text(b" finite"),
+        Probe32::Finite(x) => {
+            text(b" finite ");
+            io::print_hex(STDOUT_FILENO, f32::to_bits(x) as u64, 8);
+        }
         Probe32::Infinity(_) => text(b" infinity"),
         Probe32::NotANumber(p) => {
             text(b" not a number ");
@@ -139,13 +142,15 @@ fn walk() -> [u32; 1026] {
     let mut list: [u32; 1026] = [0x3F80_0000; 1026];
     list[0] = 0x3F7F_FFFE;
     list[1] = 0x3F7F_FFFF;
+    list[1023] = 0x3F80_0001;
+    list[1024] = 0x3F80_0002;
     list[1025] = 0x3F80_0003;
     list
 }
 
 fn differences() {
     let list = walk();
-    let mut out: [u8; 221] = [0; 221];
+    let mut out: [u8; 229] = [0; 229];
     told(
         b"differences at level 10",
         pack::pack32(10, 2, 0, &list, &mut out),

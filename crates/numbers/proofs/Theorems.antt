@@ -2,14 +2,14 @@
 -- The proofs are citations of the laws in proofs/Law/, here and in `bins`. The words are those of specs/, here and there.
 use mathlib.Core.Path.{_≡_, refl, sym, ap, subst, _∙_}
 use mathlib.Core.Bool.{Bool, true, false, cond}
-use mathlib.Core.List.{List}
-use Prim.Native.Nat.{ℕ, _+_, _-_, _*_, _/_, _%_, _^_, _≤_, _<_}
+use mathlib.Core.List.{List, [], _∷_, _++_}
+use Prim.Native.Nat.{ℕ, suc, _+_, _-_, _*_, _/_, _%_, _^_, _≤_, _<_}
 use native.Mathlib.Nat.{mod-lt, le-refl}
 use native.Mathlib.Omega.{arith}
 use borrow.Author.Tests.{le-leb}
 use lib.Dec.{leb, eqb, lit<, lit≤}
 use lib.IntN.{ℤ}
-use lib.ListN.{getD}
+use lib.ListN.{length, take, getD, replicate}
 use lib.Pow.{pow-pos}
 use lib.Ieee.{binary32, binary64, inf, nan, ofBits}
 use lib.Ieee.Exact.{HasValue}
@@ -19,7 +19,7 @@ use Rattle.numbers.specs.declared.tolerance.CodeAnswer.the-variants as c
 use Rattle.numbers.specs.declared.tolerance.PatternAnswer.the-variants as pattern
 use Rattle.numbers.specs.Answers.{codeAnswer, patternAnswer}
 use Rattle.numbers.specs.Lossless.{losslessCode, losslessRestored}
-use Rattle.numbers.specs.Difference.{differenceCodes, runningSums}
+use Rattle.numbers.specs.Difference.{differenceCode, differenceCodes, differenceRestored, runningSums, lastOf}
 use Rattle.bins.specs.Tolerance.{kOffset, lastBin, allowedK, binOf, sign, ordinal, magnitude, restoredOrdinal, toleranceCode, toleranceRestored, largestU}
 use Rattle.bins.specs.Answers.{binAnswer}
 use Rattle.numbers.specs.Bound.{isTolerance, exponentOf, notAbove, boundAt}
@@ -67,9 +67,75 @@ module _ (W m : ℕ) (format : Format W m) where
   pub the-k-of-its-bin : (k : ℤ) → allowedK W m k ≡ true → exponentOf W m (binOf W m k) ≡ k
   the-k-of-its-bin = Bound.exponent-back W m format
 
--- ---- differences, which know no fraction bits: `before` is the pattern that a list stands behind
+-- ---- differences, which know no fraction bits: `before` is the pattern that a list stands behind. Who packs and restores lists by parts needs no more
+-- of `differenceCodes`, `runningSums` and `lastOf` than this: nothing, an append with its carry, one more, the length and the bound.
+
+pub nothing-carries-on : (before : ℕ) → lastOf before [] ≡ before
+unfolding lastOf
+nothing-carries-on before = refl
+
+pub an-append-carries-on : (before : ℕ) (xs ys : List ℕ) → lastOf before (xs ++ ys) ≡ lastOf (lastOf before xs) ys
+an-append-carries-on = Difference.last-append
+
+pub the-last-of-a-beginning : (before : ℕ) (xs : List ℕ) (i : ℕ) → i < length xs → lastOf before (take (suc i) xs) ≡ getD xs i 0
+the-last-of-a-beginning = Difference.last-taken
+
+pub the-last-of-a-list : (before : ℕ) (xs : List ℕ) (i : ℕ) → length xs ≡ suc i → lastOf before xs ≡ getD xs i 0
+the-last-of-a-list = Difference.last-is
+
+pub the-last-is-below : (N before : ℕ) (xs : List ℕ) → before < N → ((i : ℕ) → getD xs i 0 < N) → lastOf before xs < N
+the-last-is-below = Difference.last-under
+
+module _ (W before : ℕ) where
+  pub no-differences : differenceCodes W before [] ≡ []
+  unfolding differenceCodes
+  no-differences = refl
+
+  pub no-sums : runningSums W before [] ≡ []
+  unfolding runningSums
+  no-sums = refl
+
+  pub differences-of-an-append : (ps qs : List ℕ) → differenceCodes W before (ps ++ qs) ≡ differenceCodes W before ps ++ differenceCodes W (lastOf before ps) qs
+  differences-of-an-append = Difference.codes-append W before
+
+  pub sums-of-an-append : (cs ds : List ℕ) → runningSums W before (cs ++ ds) ≡ runningSums W before cs ++ runningSums W (lastOf before (runningSums W before cs)) ds
+  sums-of-an-append = Difference.sums-append W before
+
+  pub one-more-difference : (ps : List ℕ) (i : ℕ) → i < length ps
+      → differenceCodes W before (take (suc i) ps) ≡ differenceCodes W before (take i ps) ++ (differenceCode W (lastOf before (take i ps)) (getD ps i 0) ∷ [])
+  one-more-difference = Difference.one-more-code W before
+
+  pub one-more-sum : (cs : List ℕ) (i : ℕ) → i < length cs
+      → let sums = runningSums W before (take i cs) in
+      runningSums W before (take (suc i) cs) ≡ sums ++ (differenceRestored W (lastOf before sums) (getD cs i 0) ∷ [])
+  one-more-sum = Difference.one-more-sum W before
+
+  pub the-last-sum : (cs : List ℕ) (i : ℕ) → i < length cs
+      → lastOf before (runningSums W before (take (suc i) cs)) ≡ differenceRestored W (lastOf before (runningSums W before (take i cs))) (getD cs i 0)
+  the-last-sum = Difference.last-sum W before
+
+  pub four-sums : (cs : List ℕ) → 4 ≤ length cs
+      → let a = differenceRestored W before (getD cs 0 0) in
+      let b = differenceRestored W a (getD cs 1 0) in
+      let c = differenceRestored W b (getD cs 2 0) in
+      let d = differenceRestored W c (getD cs 3 0) in
+      (runningSums W before (take 4 cs) ≡ a ∷ b ∷ c ∷ d ∷ []) × (lastOf before (runningSums W before (take 4 cs)) ≡ d)
+  four-sums cs h = (Difference.four-sums W before cs h, Difference.four-last W before cs h)
+
+  pub as-many-differences : (ps : List ℕ) → length (differenceCodes W before ps) ≡ length ps
+  as-many-differences = Difference.length-difference-codes W before
+
+  pub as-many-sums : (cs : List ℕ) → length (runningSums W before cs) ≡ length cs
+  as-many-sums = Difference.length-sums W before
 
 module _ (W : ℕ) (some : 0 < W) where
+  pub a-sum-has-W-bits : (before c : ℕ) → differenceRestored W before c < 2 ^ W
+  a-sum-has-W-bits = Difference.restored-under W some
+
+  -- The code 0 repeats the pattern before.
+  pub sums-of-zeros : (before n : ℕ) → before < 2 ^ W → runningSums W before (replicate n 0) ≡ replicate n before
+  sums-of-zeros = Difference.sums-of-zeros W some
+
   -- A code has W bits, and so has a pattern that is restored.
   pub difference-codes-have-W-bits : (before : ℕ) (ps : List ℕ) (i : ℕ) → getD (differenceCodes W before ps) i 0 < 2 ^ W
   difference-codes-have-W-bits = Difference.codes-under W some

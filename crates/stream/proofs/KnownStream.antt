@@ -1,7 +1,7 @@
 -- Document 01's worked stream, computed: "The list 0, -0, 2^-149, packed at level 8, mode 0, is 55 bytes: the numbers
 -- 1 8 8 32 0 0 3 1 48 52 0 55, the table 0, then bytes 03 10 01." Every level accepts it. Then a stream of mode 2, and what each setting needs.
 use mathlib.Core.Path.{_≡_, refl}
-use Prim.Native.Nat.{ℕ}
+use Prim.Native.Nat.{ℕ, _+_}
 use mathlib.Core.List.{List, [], _∷_, _++_, map}
 use lib.IntN.{pos}
 use lib.ListN.{length, replicate}
@@ -51,7 +51,7 @@ pub differences-packed : stream 11 (settingOf 32 2 (pos 0)) fourValues ≡ their
 unfolding size signedView folded bitsOf rotated field minus lowered stepped losslessCode number digits bytesFor largest widthOf packed groupBytes fractionBits widthNeed modeNeed need kBits binFor groupSize codeAt codesAfter groupsIn groupsBytes chunkBytes chunksIn joined spell piece pieceBytes dataOf startsOf headerNumbers endOf body stream differenceCode differenceCodes fourValues theirDifferences
 differences-packed = refl
 
--- "a reader of level 10 refuses it by 7, with detail 11"
+-- a reader of level 10 or below refuses it by 7, with detail 11
 pub differences-checked : map (λ (level : ℕ). checkAnswer level theirDifferences) (8 ∷ 9 ∷ 10 ∷ 11 ∷ []) ≡ Refused 7 11 ∷ Refused 7 11 ∷ Refused 7 11 ∷ Done 4 ∷ []
 unfolding size signedView folded bitsOf number digits bytesFor largest widthOf givenWidth groupLength groupNumber groupCodes within goodGroup highestLevel knownLevel knownWidth fractionBits widthNeed modeNeed need losslessMode isZero allowedSetting binFor groupSize limitOf groupsIn firstFault chunkAnswer first answer word headerOf kOf chunksIn tooMany needRight settingRight layoutRight every startAt startRight chunkTableRight partAt sideTableRight countOf chunkOf chunkState spell headerRows openingRows tableRows faultDetail faultRow rowsFrom chunkRow chunkRows contentRows checkRows checkAnswer theirDifferences
 differences-checked = refl
@@ -67,6 +67,12 @@ needs = map (λ (t : ℕ × ℕ). need (settingOf (t .0) (t .1) (pos 0))) ((32, 
 pub needs-known : needs ≡ 8 ∷ 9 ∷ 11 ∷ 10 ∷ 10 ∷ 11 ∷ []
 unfolding needs need widthNeed modeNeed
 needs-known = refl
+
+-- The difference restarts at each chunk, and not at each group: of 1,025 sevens the first of each chunk has a code of 4 bits, in a group of 1 + 16 bytes
+-- and in one of 1 + 1, and the 31 other groups have no bits.
+pub sevens-measured : length (stream 11 (settingOf 32 2 (pos 0)) (replicate 1025 7)) ≡ 48 + 8 + (17 + 31) + 2
+unfolding stream body spell headerNumbers startsOf endOf dataOf joined pieceBytes piece chunksIn need kBits widthNeed modeNeed bitsOf binFor groupSize chunkBytes groupsBytes groupsIn codesAfter codeAt fractionBits losslessCode rotated stepped lowered minus field signedView folded groupBytes widthOf largest packed bytesFor digits number size differenceCode differenceCodes
+sevens-measured = refl
 
 -- "Lengths at level 8, mode 0: no values, 48 bytes; 1,024 zeros, 84; 1,025 values have two chunks."
 pub lengths : List ℕ

@@ -18,14 +18,14 @@ pub record Words (h : Header) : Type 0 where
   pub count : h .count < 2 ^ 32
   pub chunks : h .chunks < 2 ^ 32
 
--- a setting that document 01 allows
+-- a setting that is allowed
 pub record Allowed (t : Setting) : Type 0 where
   pub known : knownWidth (t .width) ≡ true
   pub mode : t .mode ≤ 2
   pub bin : t .bin ≤ lastBin (t .width) (fractionBits (t .width))
   pub none : (t .mode ≡ 1 → ⊥) → t .bin ≡ 0
 
--- the setting of a header is one that document 01 allows
+-- the setting of a header is one that is allowed
 pub record Settled (h : Header) : Type 0 where
   pub known : knownWidth (h .width) ≡ true
   pub narrow : h .width ≤ 64

@@ -1,5 +1,5 @@
--- Document 01, "Levels", document 02, R-2, and what a setting says of codes. A setting is a record of natural numbers (`Setting` of src/setting.rt): a width, a
--- mode and a bin. It is made here, from the width, the mode and the k of a call or of a header; all else is said of the record.
+-- Document 01, "Levels", document 02, R-2, and what a setting says of codes. A setting is a record of natural numbers (`Setting` of src/setting.rt): a
+-- width, a mode and a bin. It is made here, from the width, the mode and the k of a call or of a header; all else is said of the record.
 -- The number rules are those of the libraries `numbers` and `bins`.
 use Prim.Native.Nat.{ℕ, _-_, _^_, min, max}
 use mathlib.Core.Bool.{Bool, false, _&&_, _||_, cond}
@@ -70,7 +70,7 @@ groupSize t = 32
 
 -- ---- the codes of a chunk's values, and the values of a chunk's codes
 
--- modes 0 and 1: the code of a pattern and the pattern of a code, each by itself. A bin past the last counts as the last.
+-- modes 0 and 1: the code of a pattern and the pattern of a code, each by itself (in mode 2 nothing asks them). A bin past the last counts as the last.
 unfoldable pub clipped : Setting → ℕ
 clipped t = min (t .bin) (lastBin (t .width) (fractionBits (t .width)))
 

@@ -83,7 +83,7 @@ fn four64(before: u64, codes: &[u64], out: &mut [u64]) -> u64
     d
 }
 
-// The patterns of the first n codes, at the front of `out`: one by one, for those that are left behind the fours, and all of them.
+// The patterns of the first n codes, at the front of `out`, one by one: what is left behind the fours.
 fn one_by_one32(before: u32, codes: &[u32], n: usize, out: &mut [u32])
     requires { ⌜ (n ≤ length (now codes)) × (n ≤ length (now out)) ⌝ }
     ensures { λ _. ⌜ now (out .exit) ≡ runningSums 32 before (take n (now (codes .entry))) ++ drop n (now (out .entry)) ⌝ }
@@ -110,6 +110,7 @@ fn one_by_one64(before: u64, codes: &[u64], n: usize, out: &mut [u64])
     }
 }
 
+// The patterns of the first n codes, at the front of `out`, four at a time.
 pub(crate) fn put_sums32(before: u32, codes: &[u32], n: usize, out: &mut [u32])
     requires { ⌜ (n ≤ length (now codes)) × (n ≤ length (now out)) ⌝ }
     ensures { λ _. ⌜ now (out .exit) ≡ runningSums 32 before (take n (now (codes .entry))) ++ drop n (now (out .entry)) ⌝ }

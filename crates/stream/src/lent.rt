@@ -158,7 +158,8 @@ pub(crate) fn coded(
     coded_wide(t, v64, at, end)
 }
 
-// How many bytes the full group from `at` on takes. Mode 2 has a way of its own here and below, so that the other modes' loops stay whole.
+// How many bytes the full group from `at` on takes. Mode 2 has a way of its own here and below, so that the loops of the modes 0 and 1
+// have no test of the mode inside.
 pub(crate) fn measured_group(t: Setting, v32: &[u32], c32: &[u32], v64: &[u64], at: usize) -> usize
     requires { ⌜ Allowed t × (at + groupSize t ≤ length (chosen (t .width) (now v32) (now v64))) × (at + groupSize t ≤ 1024) ⌝ }
     requires { ⌜ (length (now v32) ≤ length (now c32)) × Staged t (now v32) (now c32) ⌝ }
@@ -284,7 +285,7 @@ fn read_codes64(s: &[u8], n: usize, out: &mut [u64])
 }
 
 // The patterns of the group at the front of `s` in the modes 0 and 1, at the front of `out`; its codes go through the scratch `c`. In both modes
-// the code 0 is that of the pattern 0, so that a group of no bits, as nearly constant fields have many, is not opened.
+// the code 0 is that of the pattern 0, so that a group of no bits, as fields with many zeros have, is not opened.
 fn put_values32(t: Setting, s: &[u8], n: usize, c: &mut [u32], out: &mut [u32])
     requires { ⌜ Allowed t × (t .width ≡ 32) × (n ≤ 32) × (givenWidth (now s) ≤ 32) × (groupLength n (now s) ≤ length (now s)) × (n ≤ length (now c)) × (n ≤ length (now out)) ⌝ }
     ensures { λ _. ⌜ now (out .exit) ≡ map (patternAt t) (groupCodes n (now (s .entry))) ++ drop n (now (out .entry)) ⌝ }
@@ -309,7 +310,7 @@ fn put_values64(t: Setting, s: &[u8], n: usize, c: &mut [u64], out: &mut [u64])
     }
 }
 
-// The same in mode 2, behind the pattern `before`, which the code 0 repeats.
+// The same in mode 2, behind the pattern `before`, which the code 0 repeats: nearly constant fields have many groups of no bits there.
 fn put_summed32(before: u32, s: &[u8], n: usize, c: &mut [u32], out: &mut [u32])
     requires { ⌜ (n ≤ 32) × (givenWidth (now s) ≤ 32) × (groupLength n (now s) ≤ length (now s)) × (n ≤ length (now c)) × (n ≤ length (now out)) ⌝ }
     ensures { λ _. ⌜ now (out .exit) ≡ runningSums 32 before (groupCodes n (now (s .entry))) ++ drop n (now (out .entry)) ⌝ }
@@ -379,7 +380,7 @@ fn pattern(t: Setting, c: u64) -> u64
     }
 }
 
-// The i-th of the patterns of the first codes. In mode 2 it takes all codes before it, else its own.
+// The pattern of the code i, of codes that stand behind `before`: in mode 2 the sum up to that code and with it, else of that code alone.
 pub(crate) fn value(t: Setting, before: u64, codes: &[u64], i: usize) -> u64
     requires { ⌜ Allowed t × (before < 2 ^ t .width) × (i < length (now codes)) × (i < 1024) × Below (2 ^ t .width) (take (i + 1) (now codes)) ⌝ }
     ensures { λ p. ⌜ p ≡ getD (patternsAfter t before (take (i + 1) (now (codes .entry)))) i 0 ⌝ }

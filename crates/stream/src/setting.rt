@@ -42,7 +42,7 @@ fn bin_at(width: usize, k: i32) -> BinAnswer
     bin::bin64(k)
 }
 
-// Whether a setting is one that document 01 allows.
+// Whether a setting is allowed, at some level.
 pub(crate) fn allowed(width: usize, mode: usize, k: i32) -> bool
     requires { ⌜ knownWidth width ≡ true ⌝ }
     ensures { λ r. ⌜ r ≡ allowedSetting width mode k ⌝ }

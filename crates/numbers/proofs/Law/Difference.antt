@@ -1,5 +1,4 @@
--- The laws of the difference code, once over W: of one pattern behind another, and of a list with its carry. What stands above cites the laws of
--- an append, of the length and of the bound, and unfolds nothing.
+-- The laws of the difference code, once over W: of one pattern behind another, and of a list with its carry.
 use mathlib.Core.Path.{_≡_, refl, sym, ap, ap₂, _∙_}
 use mathlib.Core.Logic.{_⊎_, inl, inr}
 use mathlib.Core.List.{List, [], _∷_, _++_}
@@ -78,6 +77,27 @@ module _ (W before : ℕ) (xs : List ℕ) (i : ℕ) (h : i < length xs) where
   pub last-sum : lastOf before (runningSums W before (take (suc i) xs)) ≡ differenceRestored W (lastOf before sums) (getD xs i 0)
   unfolding lastOf
   last-sum = ap (lastOf before) one-more-sum ∙ last-append before sums (differenceRestored W (lastOf before sums) (getD xs i 0) ∷ [])
+
+-- four of them
+pub four-sums : (W before : ℕ) (cs : List ℕ) → 4 ≤ length cs
+    → let a = differenceRestored W before (getD cs 0 0) in
+    let b = differenceRestored W a (getD cs 1 0) in
+    let c = differenceRestored W b (getD cs 2 0) in
+    runningSums W before (take 4 cs) ≡ a ∷ b ∷ c ∷ differenceRestored W c (getD cs 3 0) ∷ []
+unfolding runningSums
+four-sums W before [] h = absurd (omega arith)
+four-sums W before (x ∷ []) h = absurd (omega arith)
+four-sums W before (x ∷ y ∷ []) h = absurd (omega arith)
+four-sums W before (x ∷ y ∷ z ∷ []) h = absurd (omega arith)
+four-sums W before (x ∷ y ∷ z ∷ w ∷ cs) h = refl
+
+pub four-last : (W before : ℕ) (cs : List ℕ) → 4 ≤ length cs
+    → let a = differenceRestored W before (getD cs 0 0) in
+    let b = differenceRestored W a (getD cs 1 0) in
+    let c = differenceRestored W b (getD cs 2 0) in
+    lastOf before (runningSums W before (take 4 cs)) ≡ differenceRestored W c (getD cs 3 0)
+unfolding lastOf
+four-last W before cs h = ap (lastOf before) (four-sums W before cs h)
 
 -- ---- one pattern behind another
 

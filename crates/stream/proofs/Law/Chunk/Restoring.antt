@@ -12,6 +12,7 @@ use lib.Seq.{drop-drop, getD-append-add, length-take-le}
 use Rattle.numbers.specs.Difference.{runningSums, lastOf}
 use lib.Pow.{pow-mono}
 use Rattle.blocks.specs.Bytes.{Below}
+use Rattle.numbers.proofs.Theorems.{no-sums}
 use Rattle.stream.specs.Group.{givenWidth, groupLength, groupCodes, goodGroup}
 use Rattle.stream.specs.declared.chunk.ChunkAnswer.the-variants.{Good}
 use Rattle.stream.specs.Setting.{patternAt, patternsAfter, patternsOf}
@@ -25,11 +26,11 @@ use Rattle.stream.proofs.Law.Setting.Codes.{length-patterns, patterns-a
 use Rattle.stream.proofs.Law.Chunk.Checking.{found, found-bad, found-good, part-is, within-bytes}
 
 pub patterns-none : (t : Setting) (before : ℕ) → patternsAfter t before [] ≡ []
-unfolding patternsAfter runningSums
+unfolding patternsAfter
 patterns-none t before = go (eqb (t .mode) 2)
   where
     go : (b : Bool) → cond b (runningSums (t .width) before []) (map (patternAt t) []) ≡ []
-    go true = refl
+    go true = no-sums (t .width) before
     go false = refl
 
 -- an array whose first n elements are n codes is long enough

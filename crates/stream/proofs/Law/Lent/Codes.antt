@@ -7,7 +7,7 @@ use native.Mathlib.Omega.{arith}
 use lib.ListN.{length, take, drop, length-map, length-drop, take-append-drop}
 use lib.Seq.{take-at, drop-at, length-take-le}
 use Rattle.numbers.specs.Difference.{differenceCodes, lastOf}
-use Rattle.numbers.proofs.Law.Difference.{codes-append, length-difference-codes}
+use Rattle.numbers.proofs.Theorems.{differences-of-an-append, as-many-differences}
 use Rattle.blocks.specs.Bytes.{Below}
 use Rattle.stream.specs.Setting.{knownWidth, groupSize, codeAt, codesOf}
 use Rattle.stream.specs.Chunk.{chunkBytes}
@@ -39,11 +39,11 @@ differences-part W vs n at h =
     let part : length (take n rest) ≡ n = length-take-le n rest (rw (length-drop at vs) (omega arith)) in
     sym
     (ap (λ (l : List ℕ). take n (drop at (differenceCodes W 0 l))) (sym (take-append-drop at vs))
-    ∙ ap (λ (l : List ℕ). take n (drop at l)) (codes-append W 0 (take at vs) rest)
-    ∙ ap (take n) (drop-at (differenceCodes W 0 (take at vs)) (differenceCodes W b rest) at (length-difference-codes W 0 (take at vs) ∙ length-take-le at vs (omega arith)))
+    ∙ ap (λ (l : List ℕ). take n (drop at l)) (differences-of-an-append W 0 (take at vs) rest)
+    ∙ ap (take n) (drop-at (differenceCodes W 0 (take at vs)) (differenceCodes W b rest) at (as-many-differences W 0 (take at vs) ∙ length-take-le at vs (omega arith)))
     ∙ ap (λ (l : List ℕ). take n (differenceCodes W b l)) (sym (take-append-drop n rest))
-    ∙ ap (take n) (codes-append W b (take n rest) (drop n rest))
-    ∙ take-at (differenceCodes W b (take n rest)) (differenceCodes W (lastOf b (take n rest)) (drop n rest)) n (length-difference-codes W b (take n rest) ∙ part))
+    ∙ ap (take n) (differences-of-an-append W b (take n rest) (drop n rest))
+    ∙ take-at (differenceCodes W b (take n rest)) (differenceCodes W (lastOf b (take n rest)) (drop n rest)) n (as-many-differences W b (take n rest) ∙ part))
 
 module _ (t : Setting) (v32 v64 : List ℕ) where
   pub lent-are : lentCodes t v32 v64 ≡ codesOf t (chosen (t .width) v32 v64)

@@ -8,7 +8,7 @@ use lib.ListN.{length, take, drop, length-append, length-drop, drop-of-length-le
 use lib.Seq.{take-at, drop-at, drop-drop, take-all, take-add, length-take-le}
 use borrow.Rule.Slice.PartMut.{putMid}
 use Rattle.numbers.specs.Difference.{lastOf}
-use Rattle.numbers.proofs.Law.Difference.{last-append}
+use Rattle.numbers.proofs.Theorems.{an-append-carries-on}
 use Rattle.stream.specs.Lent.{landed}
 
 -- new elements, written into the part from `at` on
@@ -34,7 +34,7 @@ carried-on at n new out now l h is =
     ap (lastOf 0)
     (ap (take (at + n)) is
     ∙ take-at (take at out ++ new) (drop (at + length new) out) (at + n) (length-append (take at out) new ∙ ap₂ _+_ (length-take-le at out h) l))
-    ∙ last-append 0 (take at out) new
+    ∙ an-append-carries-on 0 (take at out) new
 
 pub record Appended (all rest base out : List ℕ) (put : ℕ) : Type 0 where
   pub whole : put + length rest ≡ length all

@@ -9,7 +9,7 @@ use lib.ListN.{length, take, drop, getD, set, length-append, length-drop, take-a
 use lib.Seq.{take-suc-set, length-take-le, take-all, drop-drop}
 use borrow.Rule.Slice.PartMut.{putMid}
 use Rattle.numbers.specs.Difference.{differenceCode, differenceCodes, differenceRestored, runningSums, lastOf}
-use Rattle.numbers.proofs.Law.Difference.{last-taken, last-sum, one-more-code, one-more-sum, length-sums, sums-append}
+use Rattle.numbers.proofs.Theorems.{the-last-of-a-beginning, the-last-sum, one-more-difference, one-more-sum, as-many-sums, sums-of-an-append, no-sums}
 use Rattle.stream.proofs.Law.Plain.Mapped.{one-over-there, part-taken}
 use Rattle.stream.proofs.Law.Plain.Appended.{Appended, nothing-yet, same-room, one-piece, all-there}
 
@@ -21,20 +21,20 @@ module _ (W before : ℕ) (xs : List ℕ) (i : ℕ) (h : i < length xs) where
       ap (λ (k : ℕ). take k (set ys i x)) (add-one i)
       ∙ take-suc-set ys i x l
       ∙ ap (λ (l : List ℕ). l ++ (x ∷ [])) e
-      ∙ sym (ap (λ (k : ℕ). differenceCodes W before (take k xs)) (add-one i) ∙ one-more-code W before xs i h)
+      ∙ sym (ap (λ (k : ℕ). differenceCodes W before (take k xs)) (add-one i) ∙ one-more-difference W before xs i h)
 
   pub passed-is : lastOf before (take (i + 1) xs) ≡ getD xs i 0
-  passed-is = ap (λ (k : ℕ). lastOf before (take k xs)) (add-one i) ∙ last-taken before xs i h
+  passed-is = ap (λ (k : ℕ). lastOf before (take k xs)) (add-one i) ∙ the-last-of-a-beginning before xs i h
 
   pub summed-is : lastOf before (runningSums W before (take (i + 1) xs)) ≡ differenceRestored W (lastOf before (runningSums W before (take i xs))) (getD xs i 0)
-  summed-is = ap (λ (k : ℕ). lastOf before (runningSums W before (take k xs))) (add-one i) ∙ last-sum W before xs i h
+  summed-is = ap (λ (k : ℕ). lastOf before (runningSums W before (take k xs))) (add-one i) ∙ the-last-sum W before xs i h
 
   pub one-summed : (base : List ℕ) → i < length base
       → set (runningSums W before (take i xs) ++ drop i base) i (differenceRestored W (lastOf before (runningSums W before (take i xs))) (getD xs i 0))
       ≡ runningSums W before (take (i + 1) xs) ++ drop (i + 1) base
   one-summed base l =
       let x = differenceRestored W (lastOf before (runningSums W before (take i xs))) (getD xs i 0) in
-      one-over-there (runningSums W before (take i xs)) base i x (length-sums W before (take i xs) ∙ length-take-le i xs (omega arith)) l
+      one-over-there (runningSums W before (take i xs)) base i x (as-many-sums W before (take i xs) ∙ length-take-le i xs (omega arith)) l
       ∙ ap (λ (s : List ℕ). s ++ drop (i + 1) base) (sym (ap (λ (k : ℕ). runningSums W before (take k xs)) (add-one i) ∙ one-more-sum W before xs i h))
 
 -- so the output keeps its length
@@ -42,21 +42,9 @@ pub length-summed : (W before : ℕ) (xs base out : List ℕ) (i : ℕ) → i �
     → length out ≡ length base
 length-summed W before xs base out i h l e =
     ap length e ∙ length-append (runningSums W before (take i xs)) (drop i base)
-    ∙ ap₂ _+_ (length-sums W before (take i xs) ∙ length-take-le i xs h) (length-drop i base) ∙ (let q : i + (length base - i) ≡ length base = omega arith in q)
+    ∙ ap₂ _+_ (as-many-sums W before (take i xs) ∙ length-take-le i xs h) (length-drop i base) ∙ (let q : i + (length base - i) ≡ length base = omega arith in q)
 
 -- ---- four at a time
-
-pub four-sums : (W before : ℕ) (cs : List ℕ) → 4 ≤ length cs
-    → let a = differenceRestored W before (getD cs 0 0) in
-    let b = differenceRestored W a (getD cs 1 0) in
-    let c = differenceRestored W b (getD cs 2 0) in
-    runningSums W before (take 4 cs) ≡ a ∷ b ∷ c ∷ differenceRestored W c (getD cs 3 0) ∷ []
-unfolding runningSums
-four-sums W before [] h = absurd (omega arith)
-four-sums W before (x ∷ []) h = absurd (omega arith)
-four-sums W before (x ∷ y ∷ []) h = absurd (omega arith)
-four-sums W before (x ∷ y ∷ z ∷ []) h = absurd (omega arith)
-four-sums W before (x ∷ y ∷ z ∷ w ∷ cs) h = refl
 
 pub four-over : (a b c d : ℕ) (out : List ℕ) → 4 ≤ length out → set (set (set (set out 0 a) 1 b) 2 c) 3 d ≡ (a ∷ b ∷ c ∷ d ∷ []) ++ drop 4 out
 four-over a b c d [] h = absurd (omega arith)
@@ -80,7 +68,7 @@ module _ (W before n : ℕ) (codes base : List ℕ) (h : n ≤ length codes) (l 
     pub put : Appended all (runningSums W last (drop i cs)) base out i
 
   length-all : length all ≡ n
-  length-all = length-sums W before cs ∙ length-take-le n codes h
+  length-all = as-many-sums W before cs ∙ length-take-le n codes h
 
   pub nothing-summed : Summed base before 0
   nothing-summed = record { within = zero-le; put = nothing-yet all base (rw length-all l) }
@@ -105,14 +93,13 @@ module _ (W before n : ℕ) (codes base : List ℕ) (h : n ≤ length codes) (l 
         let piece = runningSums W last (lent k) in
         let split : runningSums W last (drop i cs) ≡ piece ++ runningSums W r (drop (i + k) cs) =
         ap (runningSums W last) (sym (take-append-drop k (drop i cs)) ∙ ap₂ _++_ (sym (lent-is k e)) (drop-drop k i cs))
-        ∙ sums-append W last (lent k) (drop (i + k) cs) ∙ ap (λ (b : ℕ). piece ++ runningSums W b (drop (i + k) cs)) (sym is) in
+        ∙ sums-of-an-append W last (lent k) (drop (i + k) cs) ∙ ap (λ (b : ℕ). piece ++ runningSums W b (drop (i + k) cs)) (sym is) in
         record {
           within = e;
-          put = one-piece _ _ _ _ _ (m .put) piece (runningSums W r (drop (i + k) cs)) ys k split (sym (length-sums W last (lent k) ∙ lent-long k e)) put;
+          put = one-piece _ _ _ _ _ (m .put) piece (runningSums W r (drop (i + k) cs)) ys k split (sym (as-many-sums W last (lent k) ∙ lent-long k e)) put;
         }
 
   pub all-summed : (out : List ℕ) (last i : ℕ) → i ≡ n → Summed out last i → out ≡ all ++ drop n base
-  unfolding runningSums
   all-summed out last i e m =
-      let none : runningSums W last (drop i cs) ≡ [] = ap (runningSums W last) (drop-of-length-le cs {i = i} (rw (length-take-le n codes h) (omega arith))) in
+      let none : runningSums W last (drop i cs) ≡ [] = ap (runningSums W last) (drop-of-length-le cs {i = i} (rw (length-take-le n codes h) (omega arith))) ∙ no-sums W last in
       all-there all base out i (subst (λ (rest : List ℕ). Appended all rest base out i) none (m .put)) ∙ ap (λ (k : ℕ). all ++ drop k base) e

@@ -14,8 +14,7 @@ use lib.Seq.{length-take-le}
 use Rattle.numbers.specs.Difference.{differenceCodes, runningSums, lastOf}
 use Rattle.numbers.specs.Theorem.{Format}
 use Rattle.bins.specs.Tolerance.{lastBin}
-use Rattle.numbers.proofs.Law.Difference.{sums-append, length-difference-codes, length-sums}
-use Rattle.numbers.proofs.Theorems.{lossless-code-has-W-bits, lossless-pattern-has-W-bits, tolerance-code-has-W-bits, tolerance-pattern-has-W-bits, lossless-zero, tolerance-zero, difference-codes-have-W-bits, running-sums-have-W-bits}
+use Rattle.numbers.proofs.Theorems.{lossless-code-has-W-bits, lossless-pattern-has-W-bits, tolerance-code-has-W-bits, tolerance-pattern-has-W-bits, lossless-zero, tolerance-zero, difference-codes-have-W-bits, running-sums-have-W-bits, sums-of-an-append, as-many-differences, as-many-sums}
 use Rattle.blocks.specs.Bytes.{Below}
 use Rattle.stream.specs.Setting.{fractionBits, clipped, codeAt, patternAt, codesAfter, patternsAfter}
 use Rattle.stream.specs.declared.setting.Setting.{Setting}
@@ -58,7 +57,7 @@ module _ (t : Setting) (before : ℕ) (xs : List ℕ) where
   length-codes-after = go (eqb (t .mode) 2)
     where
       go : (b : Bool) → length (cond b (differenceCodes (t .width) before xs) (map (codeAt t) xs)) ≡ length xs
-      go true = length-difference-codes (t .width) before xs
+      go true = as-many-differences (t .width) before xs
       go false = length-map xs (codeAt t)
 
   pub length-patterns : length (patternsAfter t before xs) ≡ length xs
@@ -66,7 +65,7 @@ module _ (t : Setting) (before : ℕ) (xs : List ℕ) where
   length-patterns = go (eqb (t .mode) 2)
     where
       go : (b : Bool) → length (cond b (runningSums (t .width) before xs) (map (patternAt t) xs)) ≡ length xs
-      go true = length-sums (t .width) before xs
+      go true = as-many-sums (t .width) before xs
       go false = length-map xs (patternAt t)
 
   pub patterns-append : (ys : List ℕ) → patternsAfter t before (xs ++ ys) ≡ patternsAfter t before xs ++ patternsAfter t (lastOf before (patternsAfter t before xs)) ys
@@ -76,7 +75,7 @@ module _ (t : Setting) (before : ℕ) (xs : List ℕ) where
       go : (b : Bool) → cond b (runningSums (t .width) before (xs ++ ys)) (map (patternAt t) (xs ++ ys))
           ≡ cond b (runningSums (t .width) before xs) (map (patternAt t) xs)
           ++ cond b (runningSums (t .width) (lastOf before (cond b (runningSums (t .width) before xs) (map (patternAt t) xs))) ys) (map (patternAt t) ys)
-      go true = sums-append (t .width) before xs ys
+      go true = sums-of-an-append (t .width) before xs ys
       go false = map-append (patternAt t) xs ys
 
 -- a mode that does not look at the pattern before

@@ -1,5 +1,6 @@
 -- `stream::chunk::restored` meets its contract. The invariant: the patterns put so far, and those that the bytes left give, are all of them.
 use Prim.Native.Nat.{ℕ, _-_, _+_, _≤_, _<_, min}
+use Rattle.numbers.proofs.Theorems.{nothing-carries-on}
 use Rattle.stream.proofs.Law.Plain.Appended.{Appended, nothing-yet, same-room, one-landed, all-there, carried-on}
 use Rattle.stream.proofs.Law.Chunk.LongerBytes.{Going, starts-going, going-inside, going-wide, going-whole, goes}
 use Rattle.stream.proofs.Law.Chunk.Groups.{codes-none}
@@ -86,14 +87,13 @@ group-size-requires : tie.Need-group-size-requires Inv-loop μ-loop
 group-size-requires c κs = search needs
 
 loop-holds : tie.Need-loop-holds Inv-loop μ-loop
-unfolding lastOf
 loop-holds c =
     let s = c .before .before .before .before .before .before in
     let v = s .args in
     let b = s .pre .0 .2 in (
       zero-add (v .n),
       starts-going (groupSize (v .t)) (size-some (v .t)) (v .t .width) (limitOf (v .t)) (v .s .now) (v .n) (b .bytes) (b .rest) (b .split) (b .good),
-      nothing-yet _ _ (rw (length-restored (groupSize (v .t)) (size-some (v .t)) (v .t) (v .n) (v .s .now)) (s .pre .1 .1)),
+      rw (nothing-carries-on 0) (nothing-yet _ _ (rw (length-restored (groupSize (v .t)) (size-some (v .t)) (v .t) (v .n) (v .s .now)) (s .pre .1 .1))),
       refl,
       refl,
       refl,

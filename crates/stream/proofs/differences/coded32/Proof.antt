@@ -7,6 +7,7 @@ use lib.ListN.{length, take, getD, set, length-set}
 use lib.Seq.{take-length}
 use borrow.Author.Needs.{needs}
 use Rattle.numbers.specs.Difference.{differenceCode, differenceCodes, lastOf}
+use Rattle.numbers.proofs.Theorems.{nothing-carries-on, no-differences}
 use Rattle.stream.proofs.Law.Plain.Differences.{one-coded, passed-is}
 use Rattle.stream.proofs.differences.coded32.Statement.{statement}
 use Rattle.stream.proofs.differences.coded32.Tie as tie
@@ -19,8 +20,7 @@ abbrev μ-loop : tie.MeasureT-loop
 μ-loop before values codes₀ last₀ i₀ codes last i = length values - i
 
 loop-holds : tie.Need-loop-holds Inv-loop μ-loop
-unfolding differenceCodes lastOf
-loop-holds c = (omega arith, c .before .pre, refl, refl, refl)
+loop-holds c = let b = c .before .args .before in (omega arith, c .before .pre, refl, sym (no-differences 32 b), sym (nothing-carries-on b))
 
 mul-code32 : tie.Need-mul-code32 Inv-loop μ-loop
 mul-code32 c = search needs

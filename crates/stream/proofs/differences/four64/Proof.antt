@@ -5,8 +5,9 @@ use Prim.Native.Nat.{ℕ}
 use native.Mathlib.Omega.{arith}
 use lib.ListN.{drop, getD, set, length-set}
 use borrow.Author.Needs.{needs}
-use Rattle.numbers.specs.Difference.{differenceRestored, lastOf}
-use Rattle.stream.proofs.Law.Plain.Differences.{four-sums, four-over}
+use Rattle.numbers.specs.Difference.{differenceRestored}
+use Rattle.numbers.proofs.Theorems.{four-sums}
+use Rattle.stream.proofs.Law.Plain.Differences.{four-over}
 use Rattle.stream.proofs.differences.four64.Statement.{statement}
 use Rattle.stream.proofs.differences.four64.Tie as tie
 
@@ -52,7 +53,6 @@ same-length : tie.Need-same-length
 same-length c = search needs
 
 returns : tie.Need-returns
-unfolding lastOf
 returns c =
     let s = c .before .before .before .before .before .before .before .before .before .before in
     let b = s .args .before in
@@ -68,11 +68,11 @@ returns c =
     let e3 : c .before .before .restored643 .result ≡ a3 = c .before .before .restored643 .ensures ∙ ap (λ (x : ℕ). R x (getD codes 2 0)) e2 in
     let e4 : c .restored644 .result ≡ a4 = c .restored644 .ensures ∙ ap (λ (x : ℕ). R x (getD codes 3 0)) e3 in
     let sums = four-sums 64 b codes (s .pre .0) in (
-      e4 ∙ sym (ap (lastOf b) sums),
+      e4 ∙ sym (sums .1),
       ap₂ (λ (x y : ℕ). set (set (set (set out 0 x) 1 y) 2 (c .before .before .restored643 .result)) 3 (c .restored644 .result)) e1 e2
           ∙ ap₂ (λ (x y : ℕ). set (set (set (set out 0 a1) 1 a2) 2 x) 3 y) e3 e4
           ∙ four-over a1 a2 a3 a4 out (s .pre .1)
-          ∙ ap (λ (l : List ℕ). l ++ drop 4 out) (sym sums),
+          ∙ ap (λ (l : List ℕ). l ++ drop 4 out) (sym (sums .0)),
     )
 
 pub four64-spec : {M : Type 1} → statement M

@@ -1,13 +1,13 @@
 -- `stream::differences::last_sum` meets its contract. The invariant: `last` is the last sum of the codes passed.
 use Prim.Native.Nat.{ℕ, _-_, _^_, _≤_, _<_}
 use mathlib.Core.List.{List}
-use mathlib.Core.Path.{_≡_, refl, sym, ap, ap₂, subst, _∙_}
+use mathlib.Core.Path.{_≡_, sym, ap, ap₂, subst, _∙_}
 use native.Mathlib.Nat.{le-refl}
 use native.Mathlib.Omega.{arith}
 use lib.ListN.{take, getD}
 use lib.Seq.{take-all, length-take-le, getD-take}
 use Rattle.numbers.specs.Difference.{differenceRestored, runningSums, lastOf}
-use Rattle.numbers.proofs.Law.Difference.{restored-under}
+use Rattle.numbers.proofs.Theorems.{a-sum-has-W-bits, nothing-carries-on, no-sums}
 use Rattle.stream.proofs.Law.Plain.Differences.{summed-is}
 use Rattle.stream.proofs.Law.Setting.Allowed.{width-some}
 use Rattle.stream.proofs.differences.last_sum.Statement.{statement}
@@ -21,8 +21,7 @@ abbrev μ-loop : tie.MeasureT-loop
 μ-loop t before codes n last₀ i₀ last i = n - i
 
 loop-holds : tie.Need-loop-holds Inv-loop μ-loop
-unfolding runningSums lastOf
-loop-holds c = (omega arith, refl, c .before .pre .1)
+loop-holds c = let a = c .before .args in (omega arith, sym (ap (lastOf (a .before)) (no-sums (a .t .width) (a .before)) ∙ nothing-carries-on (a .before)), c .before .pre .1)
 
 mul-next : tie.Need-mul-next Inv-loop μ-loop
 mul-next c = let s = c .before .before .before in omega (arith, s .good, s .pre .2, c .loop-test .taken)
@@ -58,7 +57,7 @@ loop-again c =
       omega (arith, under),
       c .next .ensures ∙ ap₂ (differenceRestored W) (l .inv .1) (code-is c)
           ∙ sym (summed-is W (a .before) (take (a .n) (a .codes .now)) (l .i) (rw (length-take-le (a .n) (a .codes .now) (s .pre .2)) under)),
-      rw (c .next .ensures) (restored-under W (width-some W (s .pre .0 .known)) (l .last) (getD (a .codes .now) (l .i) 0)),
+      rw (c .next .ensures) (a-sum-has-W-bits W (width-some W (s .pre .0 .known)) (l .last) (getD (a .codes .now) (l .i) 0)),
     )
 
 returns : tie.Need-returns Inv-loop μ-loop

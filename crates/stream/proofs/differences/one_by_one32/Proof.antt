@@ -1,5 +1,5 @@
 -- `stream::differences::one_by_one32` meets its contract. The invariant: the sums of the codes passed, and then what was there; `last` is the last sum.
-use mathlib.Core.Path.{_≡_, refl, sym, ap, ap₂, _∙_}
+use mathlib.Core.Path.{_≡_, sym, ap, ap₂, _∙_}
 use mathlib.Core.List.{List, _++_}
 use Prim.Native.Nat.{ℕ, _-_, _≤_, _<_}
 use native.Mathlib.Nat.{le-refl}
@@ -8,6 +8,7 @@ use lib.ListN.{length, take, drop, set}
 use lib.Seq.{take-all, length-take-le, getD-take}
 use borrow.Author.Needs.{needs}
 use Rattle.numbers.specs.Difference.{differenceRestored, runningSums, lastOf}
+use Rattle.numbers.proofs.Theorems.{nothing-carries-on, no-sums}
 use Rattle.stream.proofs.Law.Plain.Differences.{one-summed, summed-is, length-summed}
 use Rattle.stream.proofs.differences.one_by_one32.Statement.{statement}
 use Rattle.stream.proofs.differences.one_by_one32.Tie as tie
@@ -20,8 +21,10 @@ abbrev μ-loop : tie.MeasureT-loop
 μ-loop before codes n out₀ last₀ i₀ out last i = n - i
 
 loop-holds : tie.Need-loop-holds Inv-loop μ-loop
-unfolding runningSums lastOf
-loop-holds c = (omega arith, refl, refl)
+loop-holds c =
+    let a = c .before .before .args in
+    let none = no-sums 32 (a .before) in
+    (omega arith, ap (λ (l : List ℕ). l ++ a .out .now) (sym none), sym (ap (lastOf (a .before)) none ∙ nothing-carries-on (a .before)))
 
 mul-restored32 : tie.Need-mul-restored32 Inv-loop μ-loop
 mul-restored32 c = let start = c .before .before .before .before in omega (arith, start .good, start .pre, c .loop-test .taken)

@@ -5,7 +5,7 @@ use native.Mathlib.Omega.{arith}
 use borrow.Author.Needs.{needs}
 use lib.ListN.{take}
 use Rattle.numbers.specs.Difference.{lastOf}
-use Rattle.numbers.proofs.Law.Difference.{last-taken}
+use Rattle.numbers.proofs.Theorems.{the-last-of-a-beginning, nothing-carries-on}
 use Rattle.stream.proofs.lent.before64.Statement.{statement}
 use Rattle.stream.proofs.lent.before64.Tie as tie
 
@@ -19,15 +19,14 @@ shared-slice-read-result : tie.Need-shared-slice-read-result
 shared-slice-read-result c = search needs
 
 returns : tie.Need-returns
-unfolding lastOf
-returns c = ap (λ (n : ℕ). lastOf 0 (take n (c .before .args .values .now))) (sym (c .if1 .taken))
+returns c = sym (ap (λ (n : ℕ). lastOf 0 (take n (c .before .args .values .now))) (c .if1 .taken) ∙ nothing-carries-on 0)
 
 returns-2 : tie.Need-returns-2
 returns-2 c =
     let s = c .before .before in
     let a = s .args in
     let e : suc (a .at - 1) ≡ a .at = omega (arith, c .before .if1 .left) in
-    sym (last-taken 0 (a .values .now) (a .at - 1) (omega (arith, s .pre, e))) ∙ ap (λ (n : ℕ). lastOf 0 (take n (a .values .now))) e
+    sym (the-last-of-a-beginning 0 (a .values .now) (a .at - 1) (omega (arith, s .pre, e))) ∙ ap (λ (n : ℕ). lastOf 0 (take n (a .values .now))) e
 
 pub before64-spec : {M : Type 1} → statement M
 before64-spec =

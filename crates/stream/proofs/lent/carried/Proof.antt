@@ -5,7 +5,7 @@ use mathlib.Core.Path.{sym, ap, _∙_}
 use native.Mathlib.Nat.{le-trans, lt-of-lt-of-le}
 use lib.Pow.{pow-mono}
 use Rattle.numbers.specs.Difference.{runningSums, lastOf}
-use Rattle.numbers.proofs.Law.Difference.{last-under, sums-under}
+use Rattle.numbers.proofs.Theorems.{the-last-is-below, running-sums-have-W-bits}
 use Rattle.stream.specs.Group.{groupCodes}
 use Rattle.stream.specs.Setting.{patternsAfter}
 use Rattle.stream.proofs.Law.Group.RoundTrip.{codes-below, length-codes}
@@ -44,7 +44,7 @@ returns-2 c =
     let W = a .t .width in
     let cs = groupCodes (a .n) (a .s .now) in
     let is = c .last-sum .ensures ∙ ap (λ (l : List ℕ). lastOf (a .before) (runningSums W (a .before) l)) (g .ensures .1) in (
-      rw is (last-under (2 ^ W) (a .before) (runningSums W (a .before) cs) (s .pre .1) (sums-under W (width-some W (s .pre .0 .known)) (a .before) cs)),
+      rw is (the-last-is-below (2 ^ W) (a .before) (runningSums W (a .before) cs) (s .pre .1) (running-sums-have-W-bits W (width-some W (s .pre .0 .known)) (a .before) cs)),
       λ ds. ap (λ (b : ℕ). patternsAfter (a .t) b ds) (is ∙ ap (lastOf (a .before)) (sym (patterns-by-sum (a .t) (a .before) cs (c .before .before .before .before .if1 .left)))),
     )
 

@@ -8,7 +8,7 @@ use lib.ListN.{take, drop, getD}
 use lib.Seq.{take-at}
 use borrow.Author.Needs.{needs}
 use Rattle.numbers.specs.Difference.{runningSums}
-use Rattle.numbers.proofs.Law.Difference.{sums-of-zeros}
+use Rattle.numbers.proofs.Theorems.{sums-of-zeros}
 use Rattle.stream.specs.Group.{givenWidth, groupLength, groupCodes}
 use Rattle.stream.proofs.Law.Group.Reading.{no-codes}
 use Rattle.stream.proofs.Law.Group.RoundTrip.{length-codes}

@@ -7,7 +7,7 @@ use lib.ListN.{length, take, length-map, length-take, length-drop}
 use borrow.Author.Needs.{needs}
 use borrow.Rule.Slice.PartMut.{putMid}
 use Rattle.numbers.specs.Difference.{runningSums, lastOf}
-use Rattle.numbers.proofs.Law.Difference.{length-sums}
+use Rattle.numbers.proofs.Theorems.{as-many-sums}
 use Rattle.stream.specs.Group.{groupCodes}
 use Rattle.stream.specs.Lent.{chosen, landed}
 use Rattle.stream.specs.Setting.{patternAt, patternsAfter}
@@ -152,7 +152,7 @@ returns c =
     let here : chosen (a .t .width) (a .o32 .now) (a .o64 .now) ≡ out = at-32 (a .t .width) (a .o32 .now) (a .o64 .now) (i .before .before .if1 .taken) in
     let same : ps ≡ patternsAfter (a .t) (lastOf 0 (take (a .at) out)) cs = ap₂ (λ (v b : ℕ). runningSums v b cs) (sym (i .before .before .if1 .taken)) (c .before .before .before .before .before .before .before .before32 .ensures) ∙ sym (patterns-by-sum (a .t) (lastOf 0 (take (a .at) out)) cs (i .if2 .taken)) in
     at-32 (a .t .width) (putMid (a .at) (length out - a .at) out ys) (a .o64 .now) (i .before .before .if1 .taken)
-    ∙ landed-mid (a .at) (a .n) ps out ys (length-sums 32 (c .before .before .before .before .before .before .before .before32 .result) cs ∙ length-codes (a .n) (a .s .now)) (call .ensures)
+    ∙ landed-mid (a .at) (a .n) ps out ys (as-many-sums 32 (c .before .before .before .before .before .before .before .before32 .result) cs ∙ length-codes (a .n) (a .s .now)) (call .ensures)
     ∙ ap (λ (l : List ℕ). landed (a .at) l out) same
     ∙ ap (λ (u : List ℕ). landed (a .at) (patternsAfter (a .t) (lastOf 0 (take (a .at) u)) cs) u) (sym here)
 
@@ -196,7 +196,7 @@ returns-3 c =
     let here : chosen (a .t .width) (a .o32 .now) (a .o64 .now) ≡ out = at-other (a .t .width) (a .o32 .now) (a .o64 .now) (i .before .before .if1 .left) in
     let same : ps ≡ patternsAfter (a .t) (lastOf 0 (take (a .at) out)) cs = ap₂ (λ (v b : ℕ). runningSums v b cs) (sym (width-other (a .t .width) (i .before .before .before .before .before .before .before .before .before .pre .0 .0 .known) (i .before .before .if1 .left))) (c .before .before .before .before .before .before .before .before64 .ensures) ∙ sym (patterns-by-sum (a .t) (lastOf 0 (take (a .at) out)) cs (i .if3 .taken)) in
     at-other (a .t .width) (a .o32 .now) (putMid (a .at) (length out - a .at) out ys) (i .before .before .if1 .left)
-    ∙ landed-mid (a .at) (a .n) ps out ys (length-sums 64 (c .before .before .before .before .before .before .before .before64 .result) cs ∙ length-codes (a .n) (a .s .now)) (call .ensures)
+    ∙ landed-mid (a .at) (a .n) ps out ys (as-many-sums 64 (c .before .before .before .before .before .before .before .before64 .result) cs ∙ length-codes (a .n) (a .s .now)) (call .ensures)
     ∙ ap (λ (l : List ℕ). landed (a .at) l out) same
     ∙ ap (λ (u : List ℕ). landed (a .at) (patternsAfter (a .t) (lastOf 0 (take (a .at) u)) cs) u) (sym here)
 

@@ -7,7 +7,7 @@ use native.Mathlib.Omega.{arith}
 use lib.ListN.{take, getD}
 use lib.Seq.{length-take-le, getD-take}
 use Rattle.numbers.specs.Difference.{runningSums}
-use Rattle.numbers.proofs.Law.Difference.{last-is, length-sums}
+use Rattle.numbers.proofs.Theorems.{the-last-of-a-list, as-many-sums}
 use Rattle.stream.specs.Setting.{patternAt}
 use Rattle.stream.proofs.Law.Plain.Mapped.{map-at}
 use Rattle.stream.proofs.Law.Setting.Codes.{patterns-by-sum, patterns-each}
@@ -40,7 +40,7 @@ returns c =
     let W = a .t .width in
     let cs = take (a .i + 1) (a .codes .now) in
     c .last-sum .ensures
-    ∙ last-is (a .before) (runningSums W (a .before) cs) (a .i) (length-sums W (a .before) cs ∙ length-take-le (a .i + 1) (a .codes .now) (omega (arith, s .pre .2)) ∙ add-one (a .i))
+    ∙ the-last-of-a-list (a .before) (runningSums W (a .before) cs) (a .i) (as-many-sums W (a .before) cs ∙ length-take-le (a .i + 1) (a .codes .now) (omega (arith, s .pre .2)) ∙ add-one (a .i))
     ∙ ap (λ (ps : List ℕ). getD ps (a .i) 0) (sym (patterns-by-sum (a .t) (a .before) cs (c .before .if1 .taken)))
 
 returns-2 : tie.Need-returns-2
