@@ -1,9 +1,9 @@
 /*
  * The field of the first run: packed, and read back and measured.
  *
- *     harbour pack FIELD FOLDER METRES       packs FIELD into FOLDER: lossless, within a tolerance, and a cut file
- *     harbour read FIELD FOLDER METRES       reads the three files back and compares them with FIELD
- *     harbour verdict FIELD FOLDER METRES    the same in three lines, with both streams cut at every length
+ *     harbour pack FIELD FOLDER METRES       packs FIELD into FOLDER: lossless in both ways, within a tolerance, and a cut file
+ *     harbour read FIELD FOLDER METRES       reads the four files back and compares them with FIELD
+ *     harbour verdict FIELD FOLDER METRES    the same in three lines, with the three streams cut at every length
  *
  * The exit status is 0 only where every file could be read or written, every call was answered as it must be,
  * and every cell came back as promised. examples/make_harbour.py says what the field is.
@@ -22,7 +22,8 @@ enum { LONGEST = GWZ_LONGEST_STREAM(32, CELLS) };
 /* The cells to probe: in the mouth of the harbour, and on the western breakwater. */
 enum { MOUTH_ROW = 46, MOUTH_COLUMN = 47, WALL_ROW = 46, WALL_COLUMN = 10 };
 
-static const char lossless_name[] = "lossless.gwz", tolerance_name[] = "tolerance.gwz", cut_name[] = "cut.gwz";
+static const char lossless_name[] = "lossless.gwz", differences_name[] = "differences.gwz";
+static const char tolerance_name[] = "tolerance.gwz", cut_name[] = "cut.gwz";
 
 static void stop(const char *format, ...)
 {
@@ -162,8 +163,8 @@ static void pack(const char *field_path, const char *folder, double metres)
 {
     static uint32_t field[CELLS];
     static uint8_t stream[LONGEST];
-    struct path lossless = path_of(folder, lossless_name), tolerance = path_of(folder, tolerance_name);
-    struct path cut = path_of(folder, cut_name);
+    struct path lossless = path_of(folder, lossless_name), differences = path_of(folder, differences_name);
+    struct path tolerance = path_of(folder, tolerance_name), cut = path_of(folder, cut_name);
     int dry = 0;
 
     read_field(field_path, field);
@@ -175,6 +176,10 @@ static void pack(const char *field_path, const char *folder, double metres)
     size_t length = packed(GWZ_LOSSLESS, 0, field, stream);
     write_file(lossless.text, stream, length);
     print_packed("lossless", length, lossless.text);
+
+    length = packed(GWZ_DIFFERENCES, 0, field, stream);
+    write_file(differences.text, stream, length);
+    print_packed("lossless by differences", length, differences.text);
 
     int32_t k = exponent_of(metres);
     length = packed(GWZ_WITHIN_TOLERANCE, k, field, stream);
@@ -215,13 +220,13 @@ static struct measured measured_of(const uint32_t *field, const uint32_t *back, 
     return all;
 }
 
-static void compare_lossless(const char *path, const uint32_t *field)
+static void compare_lossless(const char *how, const char *path, const uint32_t *field)
 {
     static uint32_t back[CELLS];
     static uint8_t stream[LONGEST];
     unpacked(path, stream, back);
     struct measured all = measured_of(field, back, 0);
-    printf("Lossless, read back: %d of %d cells are the same bit for bit\n", all.same, (int)CELLS);
+    printf("%s, read back: %d of %d cells are the same bit for bit\n", how, all.same, (int)CELLS);
     if (all.same != CELLS)
         stop("a cell of %s is not as it was", path);
 }
@@ -287,11 +292,12 @@ static void read_back(const char *field_path, const char *folder, double metres)
 {
     static uint32_t field[CELLS], back[CELLS];
     static uint8_t stream[LONGEST];
-    struct path lossless = path_of(folder, lossless_name), tolerance = path_of(folder, tolerance_name);
-    struct path cut = path_of(folder, cut_name);
+    struct path lossless = path_of(folder, lossless_name), differences = path_of(folder, differences_name);
+    struct path tolerance = path_of(folder, tolerance_name), cut = path_of(folder, cut_name);
 
     read_field(field_path, field);
-    compare_lossless(lossless.text, field);
+    compare_lossless("Lossless", lossless.text, field);
+    compare_lossless("Lossless by differences", differences.text, field);
     size_t length = unpacked(tolerance.text, stream, back);
     compare_within(tolerance.text, field, back, exponent_of(metres));
     print_probe("the harbour mouth", stream, length, MOUTH_ROW, MOUTH_COLUMN);
@@ -320,22 +326,25 @@ static size_t cuts_refused(const uint8_t *stream, size_t length)
 static int verdict(const char *field_path, const char *folder, double metres)
 {
     static uint32_t field[CELLS], back[CELLS];
-    static uint8_t lossless[LONGEST], tolerance[LONGEST];
+    static uint8_t lossless[LONGEST], differences[LONGEST], tolerance[LONGEST];
     double allowed = ldexp(1, (int)exponent_of(metres));
     read_field(field_path, field);
     size_t lossless_length = unpacked(path_of(folder, lossless_name).text, lossless, back);
     struct measured exact = measured_of(field, back, 0);
+    size_t differences_length = unpacked(path_of(folder, differences_name).text, differences, back);
+    struct measured summed = measured_of(field, back, 0);
     size_t tolerance_length = unpacked(path_of(folder, tolerance_name).text, tolerance, back);
     struct measured near = measured_of(field, back, allowed);
-    size_t cuts = lossless_length + tolerance_length;
-    size_t refused = cuts_refused(lossless, lossless_length) + cuts_refused(tolerance, tolerance_length);
+    size_t cuts = lossless_length + differences_length + tolerance_length;
+    size_t refused = cuts_refused(lossless, lossless_length) + cuts_refused(differences, differences_length)
+        + cuts_refused(tolerance, tolerance_length);
 
-    printf("Cells kept: %d of %d lossless, bit for bit, and %d of %d within the tolerance; dry cells kept: %d of %d and %d of %d\n",
-           exact.same, (int)CELLS, near.within, (int)CELLS, exact.same_dry, exact.dry, near.same_dry, near.dry);
+    printf("Cells kept: %d and %d of %d lossless, bit for bit, and %d within the tolerance; dry cells kept: %d, %d and %d of %d\n",
+           exact.same, summed.same, (int)CELLS, near.within, exact.same_dry, summed.same_dry, near.same_dry, near.dry);
     printf("Worst error: %.6f mm, %.4f of the tolerance of %.6f mm\n", 1000 * near.largest, near.largest / allowed, 1000 * allowed);
-    printf("Cut files refused: %lu of %lu, every length of both files; accepted: %lu\n", (unsigned long)refused, (unsigned long)cuts,
+    printf("Cut files refused: %lu of %lu, every length of the three files; accepted: %lu\n", (unsigned long)refused, (unsigned long)cuts,
            (unsigned long)(cuts - refused));
-    return exact.same == CELLS && near.within == CELLS && refused == cuts;
+    return exact.same == CELLS && summed.same == CELLS && near.within == CELLS && refused == cuts;
 }
 
 int main(int count, char **words)
