@@ -32,10 +32,7 @@ fn told(what: &[u8], answer: Answer) {
 fn shown(what: &[u8], answer: Probe32) {
     text(what);
     match answer {
-        Probe32::Finite(x) => {
-            text(b" finite ");
-            io::print_hex(STDOUT_FILENO, f32::to_bits(x) as u64, 8);
-        }
+        Probe32::Finite(_) => text(b" finite"),
         Probe32::Infinity(_) => text(b" infinity"),
         Probe32::NotANumber(p) => {
             text(b" not a number ");
@@ -137,20 +134,20 @@ fn largest_u() {
     shown(b"one more probed", probe::probe32(9, &out, 0));
 }
 
-// Mode 2: a slow walk with a rest, in two chunks.
+// Mode 2: a slow walk with a rest, in two chunks, and dry cells at both sides of the second chunk's start, so that probe shows their patterns.
 fn walk() -> [u32; 1026] {
     let mut list: [u32; 1026] = [0x3F80_0000; 1026];
     list[0] = 0x3F7F_FFFE;
     list[1] = 0x3F7F_FFFF;
-    list[1023] = 0x3F80_0001;
-    list[1024] = 0x3F80_0002;
+    list[1023] = 0x7FC0_0001;
+    list[1024] = 0x7FC0_0002;
     list[1025] = 0x3F80_0003;
     list
 }
 
 fn differences() {
     let list = walk();
-    let mut out: [u8; 229] = [0; 229];
+    let mut out: [u8; 349] = [0; 349];
     told(
         b"differences at level 10",
         pack::pack32(10, 2, 0, &list, &mut out),
@@ -169,7 +166,7 @@ fn differences() {
     differences_read(&out);
 }
 
-// Probed at both sides of the second chunk's start, and unpacked.
+// Probed at the two dry cells, and unpacked.
 fn differences_read(stream: &[u8]) {
     shown(
         b"differences probed at 1023",
