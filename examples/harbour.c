@@ -137,7 +137,7 @@ static int32_t exponent_of(double metres)
 /* Each stream is written at the lowest level that allows it, so that the oldest readers can read it. */
 static size_t packed(uint32_t mode, int32_t k, const uint32_t *field, uint8_t *stream)
 {
-    uint32_t level = mode == GWZ_LOSSLESS ? GWZ_LEVEL_8 : GWZ_LEVEL_9;
+    uint32_t level = mode == GWZ_LOSSLESS ? GWZ_LEVEL_8 : mode == GWZ_DIFFERENCES ? GWZ_LEVEL_11 : GWZ_LEVEL_9;
     return gwz_answer(not_refused("pack", gwz_pack32(level, mode, k, field, CELLS, stream, LONGEST)));
 }
 
