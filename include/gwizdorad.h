@@ -90,8 +90,8 @@ enum gwz_mode {
     GWZ_WITHIN_TOLERANCE = 1, /* a magnitude below 2^(k+24) (width 64: 2^(k+53)) comes back at most 2^k off,
                                  every other value, infinities and not-a-numbers too, bit for bit */
     GWZ_DIFFERENCES = 2       /* as GWZ_LOSSLESS, by the difference of each pattern from the one before it in the list, within
-                                 its chunk of 1,024; k must be 0. It is smaller where most values have the sign of the one before
-                                 and nearly its magnitude, and larger where the sign changes often */
+                                 its chunk of 1,024; k must be 0. Mostly smaller where values have the sign of the one before
+                                 and nearly its magnitude, and larger where the sign changes often: gwz_length tells */
 };
 
 /* What gwz_probe32 and gwz_probe64 answer. */

@@ -158,8 +158,8 @@ pub(crate) fn coded(
     coded_wide(t, v64, at, end)
 }
 
-// How many bytes the full group from `at` on takes. Mode 2 has a way of its own here and below, so that the loops of the modes 0 and 1
-// have no test of the mode inside.
+// How many bytes the full group from `at` on takes. Mode 2 has a way of its own here and below, so that nothing comes into the loops of
+// the modes 0 and 1.
 pub(crate) fn measured_group(t: Setting, v32: &[u32], c32: &[u32], v64: &[u64], at: usize) -> usize
     requires { ⌜ Allowed t × (at + groupSize t ≤ length (chosen (t .width) (now v32) (now v64))) × (at + groupSize t ≤ 1024) ⌝ }
     requires { ⌜ (length (now v32) ≤ length (now c32)) × Staged t (now v32) (now c32) ⌝ }
