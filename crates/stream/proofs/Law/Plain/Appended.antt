@@ -25,7 +25,6 @@ landed-mid at n new out ys l is =
     ∙ append-nil (new ++ drop (at + length new) out))
     ∙ sym (append-assoc (take at out) new (drop (at + length new) out))
 
--- Of `all`, the first `put` bytes stand in `out`, which was `base`; `rest` is still to come.
 -- what stands before the place behind them
 pub carried-on : (at n : ℕ) (new out now : List ℕ) → length new ≡ n → at ≤ length out → now ≡ landed at new out
     → lastOf 0 (take (at + n) now) ≡ lastOf (lastOf 0 (take at out)) new
@@ -36,6 +35,7 @@ carried-on at n new out now l h is =
     ∙ take-at (take at out ++ new) (drop (at + length new) out) (at + n) (length-append (take at out) new ∙ ap₂ _+_ (length-take-le at out h) l))
     ∙ an-append-carries-on 0 (take at out) new
 
+-- Of `all`, the first `put` bytes stand in `out`, which was `base`; `rest` is still to come.
 pub record Appended (all rest base out : List ℕ) (put : ℕ) : Type 0 where
   pub whole : put + length rest ≡ length all
   pub left : drop put all ≡ rest

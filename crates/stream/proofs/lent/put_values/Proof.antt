@@ -1,24 +1,33 @@
 -- `stream::lent::put_values` meets its contract: the patterns land in the output of the width, by mode.
 use mathlib.Core.Path.{_≡_, sym, ap, ap₂, _∙_}
-use mathlib.Core.List.{List, map}
+use mathlib.Core.List.{List, _++_, map}
 use Prim.Native.Nat.{ℕ, _+_, _-_, _≤_}
 use native.Mathlib.Omega.{arith}
-use lib.ListN.{length, take, length-map, length-take, length-drop}
+use lib.ListN.{length, take, drop, length-take, length-drop}
 use borrow.Author.Needs.{needs}
 use borrow.Rule.Slice.PartMut.{putMid}
 use Rattle.numbers.specs.Difference.{runningSums, lastOf}
-use Rattle.numbers.proofs.Theorems.{as-many-sums}
 use Rattle.stream.specs.Group.{groupCodes}
 use Rattle.stream.specs.Lent.{chosen, landed}
 use Rattle.stream.specs.Setting.{patternAt, patternsAfter}
+use Rattle.stream.specs.declared.setting.Setting.{Setting}
 use Rattle.stream.proofs.Law.Setting.Allowed.{width-other}
-use Rattle.stream.proofs.Law.Setting.Codes.{patterns-by-sum, patterns-each}
+use Rattle.stream.proofs.Law.Setting.Codes.{patterns-by-sum, patterns-each, length-patterns}
 use Rattle.stream.proofs.Law.Group.RoundTrip.{length-codes}
 use Rattle.stream.proofs.Law.Plain.Appended.{landed-mid}
 use Rattle.stream.proofs.Law.Lent.Chosen.{at-32, at-other}
 use Rattle.stream.proofs.Law.Lent.Codes.{length-32, length-other}
 use Rattle.stream.proofs.lent.put_values.Statement.{statement}
 use Rattle.stream.proofs.lent.put_values.Tie as tie
+
+-- a group's patterns, written from `at` on into the output that is lent for the width, are what is promised, whichever output and way it was
+in-place : (t : Setting) (at n : ℕ) (s ps out ys lent : List ℕ) → let cs = groupCodes n s in lent ≡ out → ps ≡ patternsAfter t (lastOf 0 (take at out)) cs
+    → ys ≡ ps ++ drop n (take (length out - at) (drop at out)) → putMid at (length out - at) out ys ≡ landed at (patternsAfter t (lastOf 0 (take at lent)) cs) lent
+in-place t at n s ps out ys lent here same is =
+    let cs = groupCodes n s in
+    landed-mid at n ps out ys (ap length same ∙ length-patterns t (lastOf 0 (take at out)) cs ∙ length-codes n s) is
+    ∙ ap (λ (p : List ℕ). landed at p out) same
+    ∙ ap (λ (u : List ℕ). landed at (patternsAfter t (lastOf 0 (take at u)) cs) u) (sym here)
 
 -- what is lent, in this way
 room-summed32 : (c : tie.Then2) → let a = c .before .before .before .before .before .before .before .before .before .args in (a .at + a .n ≤ length (a .o32 .now)) × (a .n ≤ length (a .c32 .now))
@@ -152,9 +161,7 @@ returns c =
     let here : chosen (a .t .width) (a .o32 .now) (a .o64 .now) ≡ out = at-32 (a .t .width) (a .o32 .now) (a .o64 .now) (i .before .before .if1 .taken) in
     let same : ps ≡ patternsAfter (a .t) (lastOf 0 (take (a .at) out)) cs = ap₂ (λ (v b : ℕ). runningSums v b cs) (sym (i .before .before .if1 .taken)) (c .before .before .before .before .before .before .before .before32 .ensures) ∙ sym (patterns-by-sum (a .t) (lastOf 0 (take (a .at) out)) cs (i .if2 .taken)) in
     at-32 (a .t .width) (putMid (a .at) (length out - a .at) out ys) (a .o64 .now) (i .before .before .if1 .taken)
-    ∙ landed-mid (a .at) (a .n) ps out ys (as-many-sums 32 (c .before .before .before .before .before .before .before .before32 .result) cs ∙ length-codes (a .n) (a .s .now)) (call .ensures)
-    ∙ ap (λ (l : List ℕ). landed (a .at) l out) same
-    ∙ ap (λ (u : List ℕ). landed (a .at) (patternsAfter (a .t) (lastOf 0 (take (a .at) u)) cs) u) (sym here)
+    ∙ in-place (a .t) (a .at) (a .n) (a .s .now) ps out ys (chosen (a .t .width) (a .o32 .now) (a .o64 .now)) here same (call .ensures)
 
 same-length-3 : tie.Need-same-length-3
 same-length-3 c = search needs
@@ -174,9 +181,7 @@ returns-2 c =
     let here : chosen (a .t .width) (a .o32 .now) (a .o64 .now) ≡ out = at-32 (a .t .width) (a .o32 .now) (a .o64 .now) (i .before .before .if1 .taken) in
     let same : ps ≡ patternsAfter (a .t) (lastOf 0 (take (a .at) out)) cs = sym (patterns-each (a .t) (lastOf 0 (take (a .at) out)) cs (i .if2 .left)) in
     at-32 (a .t .width) (putMid (a .at) (length out - a .at) out ys) (a .o64 .now) (i .before .before .if1 .taken)
-    ∙ landed-mid (a .at) (a .n) ps out ys (length-map cs (patternAt (a .t)) ∙ length-codes (a .n) (a .s .now)) (call .ensures)
-    ∙ ap (λ (l : List ℕ). landed (a .at) l out) same
-    ∙ ap (λ (u : List ℕ). landed (a .at) (patternsAfter (a .t) (lastOf 0 (take (a .at) u)) cs) u) (sym here)
+    ∙ in-place (a .t) (a .at) (a .n) (a .s .now) ps out ys (chosen (a .t .width) (a .o32 .now) (a .o64 .now)) here same (call .ensures)
 
 same-length-5 : tie.Need-same-length-5
 same-length-5 c = search needs
@@ -196,9 +201,7 @@ returns-3 c =
     let here : chosen (a .t .width) (a .o32 .now) (a .o64 .now) ≡ out = at-other (a .t .width) (a .o32 .now) (a .o64 .now) (i .before .before .if1 .left) in
     let same : ps ≡ patternsAfter (a .t) (lastOf 0 (take (a .at) out)) cs = ap₂ (λ (v b : ℕ). runningSums v b cs) (sym (width-other (a .t .width) (i .before .before .before .before .before .before .before .before .before .pre .0 .0 .known) (i .before .before .if1 .left))) (c .before .before .before .before .before .before .before .before64 .ensures) ∙ sym (patterns-by-sum (a .t) (lastOf 0 (take (a .at) out)) cs (i .if3 .taken)) in
     at-other (a .t .width) (a .o32 .now) (putMid (a .at) (length out - a .at) out ys) (i .before .before .if1 .left)
-    ∙ landed-mid (a .at) (a .n) ps out ys (as-many-sums 64 (c .before .before .before .before .before .before .before .before64 .result) cs ∙ length-codes (a .n) (a .s .now)) (call .ensures)
-    ∙ ap (λ (l : List ℕ). landed (a .at) l out) same
-    ∙ ap (λ (u : List ℕ). landed (a .at) (patternsAfter (a .t) (lastOf 0 (take (a .at) u)) cs) u) (sym here)
+    ∙ in-place (a .t) (a .at) (a .n) (a .s .now) ps out ys (chosen (a .t .width) (a .o32 .now) (a .o64 .now)) here same (call .ensures)
 
 same-length-7 : tie.Need-same-length-7
 same-length-7 c = search needs
@@ -218,9 +221,7 @@ returns-4 c =
     let here : chosen (a .t .width) (a .o32 .now) (a .o64 .now) ≡ out = at-other (a .t .width) (a .o32 .now) (a .o64 .now) (i .before .before .if1 .left) in
     let same : ps ≡ patternsAfter (a .t) (lastOf 0 (take (a .at) out)) cs = sym (patterns-each (a .t) (lastOf 0 (take (a .at) out)) cs (i .if3 .left)) in
     at-other (a .t .width) (a .o32 .now) (putMid (a .at) (length out - a .at) out ys) (i .before .before .if1 .left)
-    ∙ landed-mid (a .at) (a .n) ps out ys (length-map cs (patternAt (a .t)) ∙ length-codes (a .n) (a .s .now)) (call .ensures)
-    ∙ ap (λ (l : List ℕ). landed (a .at) l out) same
-    ∙ ap (λ (u : List ℕ). landed (a .at) (patternsAfter (a .t) (lastOf 0 (take (a .at) u)) cs) u) (sym here)
+    ∙ in-place (a .t) (a .at) (a .n) (a .s .now) ps out ys (chosen (a .t .width) (a .o32 .now) (a .o64 .now)) here same (call .ensures)
 
 pub put-values-spec : {M : Type 1} → statement M
 put-values-spec =
