@@ -1,17 +1,19 @@
 -- The laws of the lossless code, once over W and m with m + 2 ≤ W: every pattern is restored, and every code below 2 ^ W has exactly one pattern.
 -- With H = 2 ^ (W - 1) and F = 2 ^ (m + 1) as plain numbers, the exponent step is three linear pieces, and so is its inverse.
 use mathlib.Core.Path.{_≡_, sym, ap, _∙_}
+use mathlib.Core.Bool.{Bool, true, false, _&&_}
 use mathlib.Core.Logic.{_⊎_, inl, inr}
 use Prim.Native.Nat.{ℕ, _+_, _-_, _*_, _/_, _%_, _^_, _≤_, _<_}
-use native.Mathlib.Nat.{mod-eq-of-lt, mod-lt, add-comm, div-lt-iff-lt-mul, mod-add-div', div-eq-of-lt, le-div-iff-mul-le, one-mul, zero-mul, add-zero, div-eq-of-lt-le, zero-div}
+use native.Mathlib.Nat.{mod-eq-of-lt, mod-lt, add-comm, add-mul, div-lt-iff-lt-mul, mod-add-div', div-eq-of-lt, le-div-iff-mul-le, one-mul, zero-mul, add-zero, div-eq-of-lt-le, zero-div}
 use native.Mathlib.Omega.{arith}
-use borrow.Author.Tests.{le-leb, lt-leb}
+use borrow.Author.Tests.{eqb-true, eqb-false, leb-true, leb-false, lt-ltb, le-ltb, le-leb, lt-leb}
 use lib.Arith.{digits-div, digits-mod}
+use lib.Dec.{ltb, leb, eqb}
 use lib.Pow.{pow-pos, pow-mono, pow-add}
 use Rattle.numbers.specs.Signed.{signedView, unfolded, bitsOf}
 use Rattle.numbers.specs.Lossless.{rotated, field, minus, lowered, stepped, losslessCode, plus, raised, unstepped, unrotated, losslessRestored}
 use Rattle.numbers.proofs.Law.Signed.{unfolded-folded, folded-unfolded, bits-of-view, view-of-bits, bits-below, folded-below}
-use Rattle.bins.proofs.Law.Number.{le-or-lt, mod-once, minus-plain, minus-wraps, wraps-minus, quotient-zero, quotient-some, twice-half}
+use Rattle.bins.proofs.Law.Number.{le-or-lt, mod-once, minus-plain, minus-wraps, quotient-zero, quotient-some, twice-half, fraction-only, led-by-one}
 
 module _ (W : ℕ) (some : 0 < W) where
   -- ---- the rotation
@@ -176,94 +178,131 @@ module _ (W m : ℕ) (room : m + 2 ≤ W) where
   some : 0 < W
   some = omega arith
 
-  -- ---- the steps without a branch: what is added or subtracted is a product with 0 or 1
+  -- ---- the exponent number in three cases: zero, up to the middle, above it
 
-  half-once : (n : ℕ) → n < 2 ^ W → 2 ^ (W - 1) ≤ n → n / 2 ^ (W - 1) ≡ 1
-  half-once n l g = div-eq-of-lt-le (2 ^ (W - 1)) (omega arith) (omega (arith, H-twice))
+  -- the middle exponent is 2 ^ (W - 1) in units of the field, and with the next one the numbers above it begin
+  next-units : (2 ^ (W - 2 - m) + 1) * 2 ^ (m + 1) ≡ 2 ^ (W - 1) + 2 ^ (m + 1)
+  next-units =
+      add-mul (2 ^ (W - 2 - m)) 1 (2 ^ (m + 1))
+      ∙ ap (λ (x : ℕ). x + 1 * 2 ^ (m + 1)) (sym (pow-add 2 (W - 2 - m) (m + 1)) ∙ ap (λ (n : ℕ). 2 ^ n) (let q : W - 2 - m + (m + 1) ≡ W - 1 = omega arith in q))
+      ∙ ap (λ (x : ℕ). 2 ^ (W - 1) + x) (one-mul (2 ^ (m + 1)))
 
-  -- half of 2^W taken off a number of the lower half, or nothing
-  half-off : (less x y : ℕ) → less < 2 ^ W → x < 2 ^ W → y < 2 ^ (W - 1) → (x + (1 - less / 2 ^ (W - 1)) * 2 ^ (W - 1)) % 2 ^ W ≡ y
-      → x ≡ y + (1 - less / 2 ^ (W - 1)) * 2 ^ (W - 1)
-  half-off less x y l k h e = go (le-or-lt (2 ^ (W - 1)) less)
+  field-some : (r : ℕ) → 2 ^ (m + 1) ≤ r → 1 ≤ field m r
+  unfolding field
+  field-some r h = le-div-iff-mul-le (pow-pos (m + 1)) .1 (omega (arith, one-mul (2 ^ (m + 1))))
+
+  field-up-to : (r : ℕ) → r < 2 ^ (W - 1) + 2 ^ (m + 1) → field m r ≤ 2 ^ (W - 2 - m)
+  unfolding field
+  field-up-to r h =
+      let l : r / 2 ^ (m + 1) < 2 ^ (W - 2 - m) + 1 = div-lt-iff-lt-mul (pow-pos (m + 1)) .1 (omega (arith, next-units)) in
+      omega arith
+
+  field-above : (r : ℕ) → 2 ^ (W - 1) + 2 ^ (m + 1) ≤ r → 2 ^ (W - 2 - m) < field m r
+  unfolding field
+  field-above r h =
+      let l : 2 ^ (W - 2 - m) + 1 ≤ r / 2 ^ (m + 1) = le-div-iff-mul-le (pow-pos (m + 1)) .1 (omega (arith, next-units)) in
+      omega arith
+
+  abbrev upToMiddle : ℕ → Bool
+  upToMiddle r = leb 1 (field m r) && leb (field m r) (2 ^ (W - 2 - m))
+
+  low-zero : (r : ℕ) → r < 2 ^ (m + 1) → upToMiddle r ≡ false
+  unfolding field
+  low-zero r z = rw (div-eq-of-lt z)
+
+  low-some : (r : ℕ) → 2 ^ (m + 1) ≤ r → r < 2 ^ (W - 1) + 2 ^ (m + 1) → upToMiddle r ≡ true
+  low-some r a g = rw (le-leb 1 (field m r) (field-some r a), le-leb (field m r) (2 ^ (W - 2 - m)) (field-up-to r g))
+
+  low-above : (r : ℕ) → 2 ^ (W - 1) + 2 ^ (m + 1) ≤ r → upToMiddle r ≡ false
+  low-above r g = rw (le-leb 1 (field m r) (field-some r (omega arith)), lt-leb (field m r) (2 ^ (W - 2 - m)) (field-above r g))
+
+  -- the code tests whole patterns, in which the exponent stands highest: that tells the cases apart
+  pub zero-test : (r : ℕ) → ltb r (2 ^ (m + 1)) ≡ eqb (field m r) 0
+  unfolding field
+  zero-test r = go (le-or-lt (2 ^ (m + 1)) r)
     where
-      go : (2 ^ (W - 1) ≤ less) ⊎ (less < 2 ^ (W - 1)) → x ≡ y + (1 - less / 2 ^ (W - 1)) * 2 ^ (W - 1)
-      go (inl g) =
-          rw (half-once less l g, zero-mul (2 ^ (W - 1)), add-zero y)
-          (sym (mod-eq-of-lt k) ∙ rw (half-once less l g, zero-mul (2 ^ (W - 1)), add-zero x) at e)
-      go (inr g) =
-          rw (div-eq-of-lt g, one-mul (2 ^ (W - 1)))
-          (wraps-minus (2 ^ W) y (2 ^ (W - 1)) x k (omega (arith, H-twice)) (rw (div-eq-of-lt g, one-mul (2 ^ (W - 1))) at e)
-          ∙ minus-wraps (2 ^ W) y (2 ^ (W - 1)) h (omega (arith, H-twice))
-          ∙ (let q : y + (2 ^ W - 2 ^ (W - 1)) ≡ y + 2 ^ (W - 1) = omega (arith, H-twice) in q))
+      go : (2 ^ (m + 1) ≤ r) ⊎ (r < 2 ^ (m + 1)) → ltb r (2 ^ (m + 1)) ≡ eqb (r / 2 ^ (m + 1)) 0
+      go (inl a) = le-ltb r (2 ^ (m + 1)) a ∙ sym (quotient-some r (2 ^ (m + 1)) (pow-pos (m + 1)) a)
+      go (inr z) = lt-ltb r (2 ^ (m + 1)) z ∙ sym (quotient-zero r (2 ^ (m + 1)) z)
 
-  -- `less` is r less a unit; where it is in the lower half, `d` is that too and x is in the upper half, and where not, `d` is r and x in the lower
-  pub stepped-units : (r less d x : ℕ) → less < 2 ^ W → (less + 2 ^ (m + 1)) % 2 ^ W ≡ r
-      → d < 2 ^ W → (d + (1 - less / 2 ^ (W - 1)) * 2 ^ (m + 1)) % 2 ^ W ≡ r
-      → x < 2 ^ W → (x + (1 - less / 2 ^ (W - 1)) * 2 ^ (W - 1)) % 2 ^ W ≡ d % 2 ^ (W - 1)
-      → x ≡ stepped W m r
-  stepped-units r less d x l e k f b off =
-      half-off less x (d % 2 ^ (W - 1)) l b (mod-lt d (pow-pos (W - 1))) off ∙ go (le-or-lt (2 ^ (W - 1)) less) (le-or-lt (2 ^ W) (less + 2 ^ (m + 1)))
+  pub low-test : (r : ℕ) → leb (2 ^ (m + 1)) r && ltb r (2 ^ (W - 1) + 2 ^ (m + 1)) ≡ upToMiddle r
+  low-test r = go (le-or-lt (2 ^ (m + 1)) r) (le-or-lt (2 ^ (W - 1) + 2 ^ (m + 1)) r)
     where
-      keeps-unit : 2 ^ (W - 1) ≤ less → d ≡ r
-      keeps-unit g = sym (mod-eq-of-lt k) ∙ rw (half-once less l g, zero-mul (2 ^ (m + 1)), add-zero d) at f
+      go : (2 ^ (m + 1) ≤ r) ⊎ (r < 2 ^ (m + 1)) → (2 ^ (W - 1) + 2 ^ (m + 1) ≤ r) ⊎ (r < 2 ^ (W - 1) + 2 ^ (m + 1))
+          → leb (2 ^ (m + 1)) r && ltb r (2 ^ (W - 1) + 2 ^ (m + 1)) ≡ upToMiddle r
+      go (inr z) g = ap (λ (b : Bool). b && ltb r (2 ^ (W - 1) + 2 ^ (m + 1))) (lt-leb (2 ^ (m + 1)) r z) ∙ sym (low-zero r z)
+      go (inl a) (inl g) = rw (le-leb (2 ^ (m + 1)) r a) (le-ltb r (2 ^ (W - 1) + 2 ^ (m + 1)) g ∙ sym (low-above r g))
+      go (inl a) (inr g) = rw (le-leb (2 ^ (m + 1)) r a) (lt-ltb r (2 ^ (W - 1) + 2 ^ (m + 1)) g ∙ sym (low-some r a g))
 
-      loses-unit : less < 2 ^ (W - 1) → d ≡ less
-      loses-unit g =
-          wraps-minus (2 ^ W) r (2 ^ (m + 1)) d k (omega (arith, F≤H, H-twice)) (rw (div-eq-of-lt g, one-mul (2 ^ (m + 1))) at f)
-          ∙ sym (wraps-minus (2 ^ W) r (2 ^ (m + 1)) less l (omega (arith, F≤H, H-twice)) e)
+  -- what the step takes off in each case
+  pub taken-zero : (r : ℕ) → r < 2 ^ W → eqb (field m r) 0 ≡ true → minus W r 0 ≡ stepped W m r
+  unfolding minus field
+  taken-zero r h e =
+      minus-plain (2 ^ W) r 0 (omega arith) h ∙ (let q : r - 0 ≡ r = omega arith in q)
+      ∙ sym (stepped-zero r (fraction-only (m + 1) r (eqb-true (r / 2 ^ (m + 1)) 0 e)))
 
-      go : (2 ^ (W - 1) ≤ less) ⊎ (less < 2 ^ (W - 1)) → (2 ^ W ≤ less + 2 ^ (m + 1)) ⊎ (less + 2 ^ (m + 1) < 2 ^ W)
-          → d % 2 ^ (W - 1) + (1 - less / 2 ^ (W - 1)) * 2 ^ (W - 1) ≡ stepped W m r
-      go (inl g) (inl x) =
-          let q : r ≡ less + 2 ^ (m + 1) - 2 ^ W = sym e ∙ mod-once (less + 2 ^ (m + 1)) (2 ^ W) x (omega (arith, F≤H, H-twice)) in
-          rw (half-once less l g, zero-mul (2 ^ (W - 1)), add-zero (d % 2 ^ (W - 1)), keeps-unit g)
-          (mod-eq-of-lt (omega (arith, F≤H)) ∙ sym (stepped-zero r (omega arith)))
-      go (inl g) (inr x) =
-          let q : r ≡ less + 2 ^ (m + 1) = sym e ∙ mod-eq-of-lt x in
-          rw (half-once less l g, zero-mul (2 ^ (W - 1)), add-zero (d % 2 ^ (W - 1)), keeps-unit g)
-          (mod-once r (2 ^ (W - 1)) (omega arith) (omega (arith, H-twice)) ∙ sym (stepped-high r (omega arith) (omega arith)))
-      go (inr g) x =
-          let q : r ≡ less + 2 ^ (m + 1) = sym e ∙ mod-eq-of-lt (omega (arith, F≤H, H-twice)) in
-          rw (div-eq-of-lt g, one-mul (2 ^ (W - 1)), loses-unit g, mod-eq-of-lt g)
-          ((let y : less + 2 ^ (W - 1) ≡ r + 2 ^ (W - 1) - 2 ^ (m + 1) = omega arith in y) ∙ sym (stepped-low r (omega arith) (omega arith)))
+  pub taken-low : (r : ℕ) → upToMiddle r ≡ true → minus W r (2 ^ (W - 1) + 2 ^ (m + 1)) ≡ stepped W m r
+  unfolding minus
+  taken-low r e = go (le-or-lt (2 ^ (m + 1)) r) (le-or-lt (2 ^ (W - 1) + 2 ^ (m + 1)) r)
+    where
+      go : (2 ^ (m + 1) ≤ r) ⊎ (r < 2 ^ (m + 1)) → (2 ^ (W - 1) + 2 ^ (m + 1) ≤ r) ⊎ (r < 2 ^ (W - 1) + 2 ^ (m + 1))
+          → minus W r (2 ^ (W - 1) + 2 ^ (m + 1)) ≡ stepped W m r
+      go (inr z) g = let no : true ≡ false = sym e ∙ low-zero r z in cc
+      go (inl a) (inl g) = let no : true ≡ false = sym e ∙ low-above r g in cc
+      go (inl a) (inr g) =
+          minus-wraps (2 ^ W) r (2 ^ (W - 1) + 2 ^ (m + 1)) g (omega (arith, F≤H, H-twice))
+          ∙ (let q : r + (2 ^ W - (2 ^ (W - 1) + 2 ^ (m + 1))) ≡ r + 2 ^ (W - 1) - 2 ^ (m + 1) = omega (arith, F≤H, H-twice) in q)
+          ∙ sym (stepped-low r a g)
 
-  -- 1 unless the exponent field of r is zero
-  abbrev pub someUnit : ℕ → ℕ
-  someUnit r = (r / 2 ^ (m + 1) + (2 ^ (W - 1 - m) - 1)) / 2 ^ (W - 1 - m)
+  pub taken-high : (r : ℕ) → r < 2 ^ W → upToMiddle r ≡ false → eqb (field m r) 0 ≡ false → minus W r (2 ^ (W - 1)) ≡ stepped W m r
+  unfolding field
+  taken-high r h e f = go (le-or-lt (2 ^ (W - 1) + 2 ^ (m + 1)) r)
+    where
+      go : (2 ^ (W - 1) + 2 ^ (m + 1) ≤ r) ⊎ (r < 2 ^ (W - 1) + 2 ^ (m + 1)) → minus W r (2 ^ (W - 1)) ≡ stepped W m r
+      go (inl g) = minus-half r (omega arith) h ∙ sym (stepped-high r g h)
+      go (inr g) = let no : true ≡ false = sym (low-some r (led-by-one (m + 1) r (eqb-false (r / 2 ^ (m + 1)) 0 f)) g) ∙ e in cc
 
-  field-below : (r : ℕ) → r < 2 ^ W → r / 2 ^ (m + 1) < 2 ^ (W - 1 - m)
-  field-below r h =
-      div-lt-iff-lt-mul (pow-pos (m + 1)) .1
-      (let e : 2 ^ W ≡ 2 ^ (W - 1 - m) * 2 ^ (m + 1) = ap (λ (n : ℕ). 2 ^ n) (let q : W ≡ W - 1 - m + (m + 1) = omega arith in q) ∙ pow-add 2 (W - 1 - m) (m + 1) in
-      omega arith)
+  -- below zero come just the exponents up to the middle
+  pub low-below-zero : (r : ℕ) → r < 2 ^ W → upToMiddle r ≡ leb (2 ^ (W - 1)) (stepped W m r)
+  low-below-zero r h = go (le-or-lt (2 ^ (m + 1)) r) (le-or-lt (2 ^ (W - 1) + 2 ^ (m + 1)) r)
+    where
+      go : (2 ^ (m + 1) ≤ r) ⊎ (r < 2 ^ (m + 1)) → (2 ^ (W - 1) + 2 ^ (m + 1) ≤ r) ⊎ (r < 2 ^ (W - 1) + 2 ^ (m + 1))
+          → upToMiddle r ≡ leb (2 ^ (W - 1)) (stepped W m r)
+      go (inr z) g = low-zero r z ∙ sym (rw (stepped-zero r z) (lt-leb (2 ^ (W - 1)) r (omega (arith, F≤H))))
+      go (inl a) (inl g) = low-above r g ∙ sym (rw (stepped-high r g h) (lt-leb (2 ^ (W - 1)) (r - 2 ^ (W - 1)) (omega (arith, H-twice))))
+      go (inl a) (inr g) = low-some r a g ∙ sym (rw (stepped-low r a g) (le-leb (2 ^ (W - 1)) (r + 2 ^ (W - 1) - 2 ^ (m + 1)) (omega arith)))
 
-  some-zero : (r : ℕ) → r < 2 ^ (m + 1) → someUnit r ≡ 0
-  some-zero r h = rw (div-eq-of-lt h) (div-eq-of-lt (omega (arith, pow-pos (W - 1 - m))))
+  -- a number with its highest bit taken off, and put back where it was
+  pub told-below : (s : ℕ) → s < 2 ^ W → leb (2 ^ (W - 1)) s ≡ true → s % 2 ^ (W - 1) + 2 ^ (W - 1) ≡ s
+  told-below s h e =
+      let g : 2 ^ (W - 1) ≤ s = leb-true (2 ^ (W - 1)) s e in
+      rw (mod-once s (2 ^ (W - 1)) g (omega (arith, H-twice))) (omega arith)
 
-  some-one : (r : ℕ) → 2 ^ (m + 1) ≤ r → r < 2 ^ W → someUnit r ≡ 1
-  some-one r h l =
-      let e : 1 ≤ r / 2 ^ (m + 1) = le-div-iff-mul-le (pow-pos (m + 1)) .1 (let q : 1 * 2 ^ (m + 1) ≡ 2 ^ (m + 1) = one-mul (2 ^ (m + 1)) in omega arith) in
-      div-eq-of-lt-le (2 ^ (W - 1 - m)) (omega arith) (omega (arith, field-below r l))
+  pub told-above : (s : ℕ) → leb (2 ^ (W - 1)) s ≡ false → s % 2 ^ (W - 1) ≡ s
+  told-above s e = mod-eq-of-lt (leb-false (2 ^ (W - 1)) s e)
 
+  -- what the inverse gives back: at zero nothing, and else the half, with a unit more below zero
   plus-zero : (s : ℕ) → s < 2 ^ W → plus W s 0 ≡ s
   unfolding plus
   plus-zero s h = ap (λ (x : ℕ). x % 2 ^ W) (add-zero s) ∙ mod-eq-of-lt h
 
-  pub unstepped-units : (s : ℕ) → s < 2 ^ W → plus W (plus W s (s / 2 ^ (W - 1) * 2 ^ (m + 1))) (someUnit s * 2 ^ (W - 1)) ≡ unstepped W m s
-  unfolding unstepped raised field
-  unstepped-units s h = go (le-or-lt (2 ^ (m + 1)) s) (le-or-lt (2 ^ (W - 1)) s)
-    where
-      no-half : s < 2 ^ (W - 1) → s / 2 ^ (W - 1) * 2 ^ (m + 1) ≡ 0
-      no-half g = ap (λ (q : ℕ). q * 2 ^ (m + 1)) (div-eq-of-lt g) ∙ zero-mul (2 ^ (m + 1))
+  pub given-zero : (s : ℕ) → s < 2 ^ W → eqb (field m s) 0 ≡ true → plus W s 0 ≡ unstepped W m s
+  unfolding field
+  given-zero s h e = plus-zero s h ∙ sym (unstepped-zero s (fraction-only (m + 1) s (eqb-true (s / 2 ^ (m + 1)) 0 e)))
 
-      go : (2 ^ (m + 1) ≤ s) ⊎ (s < 2 ^ (m + 1)) → (2 ^ (W - 1) ≤ s) ⊎ (s < 2 ^ (W - 1))
-          → plus W (plus W s (s / 2 ^ (W - 1) * 2 ^ (m + 1))) (someUnit s * 2 ^ (W - 1)) ≡ unstepped W m s
-      go (inr z) g =
-          rw (no-half (omega (arith, F≤H)), plus-zero s h, some-zero s z, zero-mul (2 ^ (W - 1)), plus-zero s h) (sym (unstepped-zero s z))
-      go (inl a) (inl g) =
-          rw (half-once s h g, some-one s a h, one-mul (2 ^ (m + 1)), one-mul (2 ^ (W - 1)), quotient-some s (2 ^ (m + 1)) (pow-pos (m + 1)) a, le-leb (2 ^ (W - 1)) s g)
-      go (inl a) (inr g) =
-          rw (no-half g, plus-zero s h, some-one s a h, one-mul (2 ^ (W - 1)), quotient-some s (2 ^ (m + 1)) (pow-pos (m + 1)) a, lt-leb (2 ^ (W - 1)) s g)
+  pub given-some : (s : ℕ) → s < 2 ^ W → eqb (field m s) 0 ≡ false → plus W s (2 ^ (W - 1) + s / 2 ^ (W - 1) * 2 ^ (m + 1)) ≡ unstepped W m s
+  unfolding plus field
+  given-some s h e = go (le-or-lt (2 ^ (W - 1)) s)
+    where
+      go : (2 ^ (W - 1) ≤ s) ⊎ (s < 2 ^ (W - 1)) → plus W s (2 ^ (W - 1) + s / 2 ^ (W - 1) * 2 ^ (m + 1)) ≡ unstepped W m s
+      go (inl g) =
+          rw (let q : s / 2 ^ (W - 1) ≡ 1 = div-eq-of-lt-le (2 ^ (W - 1)) (omega arith) (omega (arith, H-twice)) in q, one-mul (2 ^ (m + 1)))
+          (mod-once (s + (2 ^ (W - 1) + 2 ^ (m + 1))) (2 ^ W) (omega (arith, H-twice)) (omega (arith, F≤H, H-twice))
+          ∙ (let q : s + (2 ^ (W - 1) + 2 ^ (m + 1)) - 2 ^ W ≡ s + 2 ^ (m + 1) - 2 ^ (W - 1) = omega (arith, H-twice) in q)
+          ∙ sym (unstepped-low s g h))
+      go (inr g) =
+          rw (div-eq-of-lt g, zero-mul (2 ^ (m + 1)), add-zero (2 ^ (W - 1)))
+          (mod-eq-of-lt (omega (arith, H-twice)) ∙ sym (unstepped-high s (led-by-one (m + 1) s (eqb-false (s / 2 ^ (m + 1)) 0 e)) g))
 
   pub code-below : (p : ℕ) → p < 2 ^ W → losslessCode W m p < 2 ^ W
   unfolding losslessCode

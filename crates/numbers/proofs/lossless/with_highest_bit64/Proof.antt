@@ -1,0 +1,19 @@
+-- `numbers::lossless::with_highest_bit64` meets its contract.
+use mathlib.Core.Path.{sym, _∙_}
+use lib.Dec.{lit≤}
+use Rattle.numbers.proofs.Law.Lossless.{told-below, told-above}
+use borrow.Author.Needs.{needs}
+use Rattle.numbers.proofs.lossless.with_highest_bit64.Statement.{statement}
+use Rattle.numbers.proofs.lossless.with_highest_bit64.Tie as tie
+
+add-result : tie.Need-add-result
+add-result c = search needs
+
+returns : tie.Need-returns
+returns c = told-below 64 52 (lit≤ tt) (c .before .args .s) (c .before .fits .s .fits) (sym (c .before .pre) ∙ c .if1 .taken)
+
+returns-2 : tie.Need-returns-2
+returns-2 c = told-above 64 52 (lit≤ tt) (c .before .args .s) (sym (c .before .pre) ∙ c .if1 .left)
+
+pub with-highest-bit64-spec : {M : Type 1} → statement M
+with-highest-bit64-spec = tie.close (tie.spec add-result returns returns-2)
