@@ -136,25 +136,23 @@ pub fn code64(p: u64) -> u64
     signed::folded64(signed::view64(stepped64(rotated64(p))))
 }
 
-// What is given back in each case: above zero are the exponents that were above the middle, and below zero those that were up to it.
+// What is given back in each case: at zero nothing, and 0 stays 0; above zero 128 units, and 1..127 become 129..255; below zero one unit more, and
+// -128..-1 become 1..128. (In double 1024 units, and 1..1023 become 1025..2047; one more, and -1024..-1 become 1..1024.) Whether a case is given is a
+// number here, 1 or 0: with tests in its place the compiler needs more instructions for each value.
 fn given_back32(s: u32) -> u32
     ensures { λ a. ⌜ plus 32 s a ≡ unstepped 32 23 s ⌝ }
 {
-    if zero32(s) {
-        return 0; // nothing: 0 stays 0
-    }
+    let not_zero = (s / UNIT32 + 255) / 256;
     let below_zero = s / MIDDLE32;
-    MIDDLE32 + below_zero * UNIT32 // 128 units: 1..127 become 129..255; below zero 129: -128..-1 become 1..128
+    not_zero * MIDDLE32 + below_zero * UNIT32
 }
 
 fn given_back64(s: u64) -> u64
     ensures { λ a. ⌜ plus 64 s a ≡ unstepped 64 52 s ⌝ }
 {
-    if zero64(s) {
-        return 0; // nothing: 0 stays 0
-    }
+    let not_zero = (s / UNIT64 + 2047) / 2048;
     let below_zero = s / MIDDLE64;
-    MIDDLE64 + below_zero * UNIT64 // 1024 units: 1..1023 become 1025..2047; below zero 1025: -1024..-1 become 1..1024
+    not_zero * MIDDLE64 + below_zero * UNIT64
 }
 
 fn unstepped32(s: u32) -> u32

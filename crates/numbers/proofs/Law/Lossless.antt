@@ -281,28 +281,50 @@ module _ (W m : ℕ) (room : m + 2 ≤ W) where
   pub told-above : (s : ℕ) → leb (2 ^ (W - 1)) s ≡ false → s % 2 ^ (W - 1) ≡ s
   told-above s e = mod-eq-of-lt (leb-false (2 ^ (W - 1)) s e)
 
-  -- what the inverse gives back: at zero nothing, and else the half, with a unit more below zero
+  -- what the inverse gives back in each case is a sum of two products with 0 or 1: the half unless it is zero, and a unit below zero
+
+  half-once : (n : ℕ) → n < 2 ^ W → 2 ^ (W - 1) ≤ n → n / 2 ^ (W - 1) ≡ 1
+  half-once n l g = div-eq-of-lt-le (2 ^ (W - 1)) (omega arith) (omega (arith, H-twice))
+
+  -- 1 unless the exponent field of r is zero
+  abbrev pub someUnit : ℕ → ℕ
+  someUnit r = (r / 2 ^ (m + 1) + (2 ^ (W - 1 - m) - 1)) / 2 ^ (W - 1 - m)
+
+  field-below : (r : ℕ) → r < 2 ^ W → r / 2 ^ (m + 1) < 2 ^ (W - 1 - m)
+  field-below r h =
+      div-lt-iff-lt-mul (pow-pos (m + 1)) .1
+      (let e : 2 ^ W ≡ 2 ^ (W - 1 - m) * 2 ^ (m + 1) = ap (λ (n : ℕ). 2 ^ n) (let q : W ≡ W - 1 - m + (m + 1) = omega arith in q) ∙ pow-add 2 (W - 1 - m) (m + 1) in
+      omega arith)
+
+  some-zero : (r : ℕ) → r < 2 ^ (m + 1) → someUnit r ≡ 0
+  some-zero r h = rw (div-eq-of-lt h) (div-eq-of-lt (omega (arith, pow-pos (W - 1 - m))))
+
+  some-one : (r : ℕ) → 2 ^ (m + 1) ≤ r → r < 2 ^ W → someUnit r ≡ 1
+  some-one r h l =
+      let e : 1 ≤ r / 2 ^ (m + 1) = le-div-iff-mul-le (pow-pos (m + 1)) .1 (let q : 1 * 2 ^ (m + 1) ≡ 2 ^ (m + 1) = one-mul (2 ^ (m + 1)) in omega arith) in
+      div-eq-of-lt-le (2 ^ (W - 1 - m)) (omega arith) (omega (arith, field-below r l))
+
   plus-zero : (s : ℕ) → s < 2 ^ W → plus W s 0 ≡ s
   unfolding plus
   plus-zero s h = ap (λ (x : ℕ). x % 2 ^ W) (add-zero s) ∙ mod-eq-of-lt h
 
-  pub given-zero : (s : ℕ) → s < 2 ^ W → eqb (field m s) 0 ≡ true → plus W s 0 ≡ unstepped W m s
-  unfolding field
-  given-zero s h e = plus-zero s h ∙ sym (unstepped-zero s (fraction-only (m + 1) s (eqb-true (s / 2 ^ (m + 1)) 0 e)))
-
-  pub given-some : (s : ℕ) → s < 2 ^ W → eqb (field m s) 0 ≡ false → plus W s (2 ^ (W - 1) + s / 2 ^ (W - 1) * 2 ^ (m + 1)) ≡ unstepped W m s
-  unfolding plus field
-  given-some s h e = go (le-or-lt (2 ^ (W - 1)) s)
+  pub given-back : (s : ℕ) → s < 2 ^ W → plus W s (someUnit s * 2 ^ (W - 1) + s / 2 ^ (W - 1) * 2 ^ (m + 1)) ≡ unstepped W m s
+  unfolding plus
+  given-back s h = go (le-or-lt (2 ^ (m + 1)) s) (le-or-lt (2 ^ (W - 1)) s)
     where
-      go : (2 ^ (W - 1) ≤ s) ⊎ (s < 2 ^ (W - 1)) → plus W s (2 ^ (W - 1) + s / 2 ^ (W - 1) * 2 ^ (m + 1)) ≡ unstepped W m s
-      go (inl g) =
-          rw (let q : s / 2 ^ (W - 1) ≡ 1 = div-eq-of-lt-le (2 ^ (W - 1)) (omega arith) (omega (arith, H-twice)) in q, one-mul (2 ^ (m + 1)))
+      go : (2 ^ (m + 1) ≤ s) ⊎ (s < 2 ^ (m + 1)) → (2 ^ (W - 1) ≤ s) ⊎ (s < 2 ^ (W - 1))
+          → plus W s (someUnit s * 2 ^ (W - 1) + s / 2 ^ (W - 1) * 2 ^ (m + 1)) ≡ unstepped W m s
+      go (inr z) g =
+          rw (some-zero s z, div-eq-of-lt (let l : s < 2 ^ (W - 1) = omega (arith, F≤H) in l), zero-mul (2 ^ (W - 1)), zero-mul (2 ^ (m + 1)))
+          (plus-zero s h ∙ sym (unstepped-zero s z))
+      go (inl a) (inl g) =
+          rw (some-one s a h, half-once s h g, one-mul (2 ^ (W - 1)), one-mul (2 ^ (m + 1)))
           (mod-once (s + (2 ^ (W - 1) + 2 ^ (m + 1))) (2 ^ W) (omega (arith, H-twice)) (omega (arith, F≤H, H-twice))
           ∙ (let q : s + (2 ^ (W - 1) + 2 ^ (m + 1)) - 2 ^ W ≡ s + 2 ^ (m + 1) - 2 ^ (W - 1) = omega (arith, H-twice) in q)
           ∙ sym (unstepped-low s g h))
-      go (inr g) =
-          rw (div-eq-of-lt g, zero-mul (2 ^ (m + 1)), add-zero (2 ^ (W - 1)))
-          (mod-eq-of-lt (omega (arith, H-twice)) ∙ sym (unstepped-high s (led-by-one (m + 1) s (eqb-false (s / 2 ^ (m + 1)) 0 e)) g))
+      go (inl a) (inr g) =
+          rw (some-one s a h, div-eq-of-lt g, one-mul (2 ^ (W - 1)), zero-mul (2 ^ (m + 1)), add-zero (2 ^ (W - 1)))
+          (mod-eq-of-lt (omega (arith, H-twice)) ∙ sym (unstepped-high s a g))
 
   pub code-below : (p : ℕ) → p < 2 ^ W → losslessCode W m p < 2 ^ W
   unfolding losslessCode

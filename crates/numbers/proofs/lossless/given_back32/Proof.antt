@@ -1,25 +1,24 @@
 -- `numbers::lossless::given_back32` meets its contract.
-use mathlib.Core.Path.{sym, _∙_}
 use lib.Dec.{lit≤}
-use Rattle.numbers.proofs.Law.Lossless.{given-zero, given-some}
+use Rattle.numbers.proofs.Law.Lossless.{given-back}
 use borrow.Author.Needs.{needs}
 use Rattle.numbers.proofs.lossless.given_back32.Statement.{statement}
 use Rattle.numbers.proofs.lossless.given_back32.Tie as tie
 
-zero32-requires : tie.Need-zero32-requires
-zero32-requires c κs = search needs
-
-returns : tie.Need-returns
-returns c = given-zero 32 23 (lit≤ tt) (c .before .before .args .s) (c .before .before .fits .s .fits) (sym (c .before .zero32 .ensures) ∙ c .if1 .taken)
+add-not-zero : tie.Need-add-not-zero
+add-not-zero c = search needs
 
 mul-result : tie.Need-mul-result
 mul-result c = search needs
 
+mul-result-2 : tie.Need-mul-result-2
+mul-result-2 c = search needs
+
 add-result : tie.Need-add-result
 add-result c = search needs
 
-returns-2 : tie.Need-returns-2
-returns-2 c = given-some 32 23 (lit≤ tt) (c .before .before .args .s) (c .before .before .fits .s .fits) (sym (c .before .zero32 .ensures) ∙ c .if1 .left)
+returns : tie.Need-returns
+returns c = given-back 32 23 (lit≤ tt) (c .args .s) (c .fits .s .fits)
 
 pub given-back32-spec : {M : Type 1} → statement M
-given-back32-spec = tie.close (tie.spec zero32-requires returns mul-result add-result returns-2)
+given-back32-spec = tie.close (tie.spec add-not-zero mul-result mul-result-2 add-result returns)
