@@ -8,7 +8,7 @@ use native.Mathlib.Nat.{mod-lt, le-refl}
 use native.Mathlib.Omega.{arith}
 use borrow.Author.Tests.{le-leb}
 use lib.Dec.{leb, eqb, lit<, lit≤}
-use lib.IntN.{ℤ}
+use lib.IntN.{ℤ, pos, negsuc}
 use lib.ListN.{length, take, getD, replicate}
 use lib.Pow.{pow-pos}
 use lib.Ieee.{binary32, binary64, inf, nan, ofBits}
@@ -18,7 +18,8 @@ use Rattle.numbers.specs.declared.bound.BoundAnswer.the-variants.{Expone
 use Rattle.numbers.specs.declared.tolerance.CodeAnswer.the-variants as code
 use Rattle.numbers.specs.declared.tolerance.PatternAnswer.the-variants as pattern
 use Rattle.numbers.specs.Answers.{codeAnswer, patternAnswer}
-use Rattle.numbers.specs.Lossless.{losslessCode, losslessRestored}
+use Rattle.numbers.specs.Signed.{signedView}
+use Rattle.numbers.specs.Lossless.{field, stepped, losslessCode, losslessRestored}
 use Rattle.numbers.specs.Difference.{differenceCode, differenceCodes, differenceRestored, runningSums, lastOf}
 use Rattle.bins.specs.Tolerance.{kOffset, lastBin, allowedK, binOf, sign, ordinal, magnitude, restoredOrdinal, toleranceCode, toleranceRestored, largestU}
 use Rattle.bins.specs.Answers.{binAnswer}
@@ -171,6 +172,17 @@ module _ (W m : ℕ) (format : Format W m) where
 
   pub lossless-pattern-has-W-bits : (c : ℕ) → c < 2 ^ W → losslessRestored W m c < 2 ^ W
   lossless-pattern-has-W-bits = Lossless.restored-below W m room
+
+  -- "In effect exponent 0 stays 0, and in single precision 1..128 become -128..-1 and 129..255 become 1..127; in double, 1..1024 become -1024..-1 and
+  -- 1025..2047 become 1..1023": the exponent e of a rotated pattern becomes x. (negsuc n is -(n + 1).) What stands below the exponent stays.
+  pub exponents-in-effect : (r : ℕ) → r < 2 ^ W
+      → let middle = 2 ^ (W - 2 - m) in
+      let e = field m r in
+      let x = signedView (W - 1 - m) (field m (stepped W m r)) in
+      (e ≡ 0 → stepped W m r ≡ r) × (1 ≤ e → e ≤ middle → x ≡ negsuc (middle - e)) × (middle < e → x ≡ pos (e - middle))
+      × (stepped W m r % 2 ^ (m + 1) ≡ r % 2 ^ (m + 1))
+  exponents-in-effect r h =
+      (Lossless.zero-stays W m room r, Lossless.low-exponent W m room r, Lossless.high-exponent W m room r h, Lossless.rest-stays W m room r h)
 
   -- Demand 2: lossless packing restores every bit pattern.
   pub every-pattern-is-restored : (p : ℕ) → p < 2 ^ W → losslessRestored W m (losslessCode W m p) ≡ p

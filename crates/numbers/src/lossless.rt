@@ -59,7 +59,8 @@ fn up_to_middle64(r: u64) -> bool
     (UNIT64 <= r) & (r < MIDDLE64 + UNIT64)
 }
 
-// What is taken off in each case.
+// What is taken off in each case. The one up to the middle is asked for first: of the other two the compiler then sees that they differ in the highest
+// bit alone, which it is told below.
 fn taken_off32(r: u32) -> u32
     ensures { λ a. ⌜ minus 32 r a ≡ stepped 32 23 r ⌝ }
 {
@@ -108,6 +109,7 @@ fn with_highest_bit64(s: u64, set: bool) -> u64
     }
 }
 
+// The exponent step: one wrapping difference.
 fn stepped32(r: u32) -> u32
     ensures { λ s. ⌜ s ≡ stepped 32 23 r ⌝ }
 {
@@ -136,25 +138,25 @@ pub fn code64(p: u64) -> u64
     signed::folded64(signed::view64(stepped64(rotated64(p))))
 }
 
-// What is given back in each case: at zero nothing, and 0 stays 0; above zero 128 units, and 1..127 become 129..255; below zero one unit more, and
-// -128..-1 become 1..128. (In double 1024 units, and 1..1023 become 1025..2047; one more, and -1024..-1 become 1..1024.) Whether a case is given is a
-// number here, 1 or 0: with tests in its place the compiler needs more instructions for each value.
+// What is given back in each case: at zero, above it, and below it, where the exponents are that were up to the middle. Whether a case is given is a
+// number here, 1 or 0: with tests in its place the compiler needs more instructions for a value.
 fn given_back32(s: u32) -> u32
     ensures { λ a. ⌜ plus 32 s a ≡ unstepped 32 23 s ⌝ }
 {
-    let not_zero = (s / UNIT32 + 255) / 256;
-    let below_zero = s / MIDDLE32;
-    not_zero * MIDDLE32 + below_zero * UNIT32
+    let not_zero = (s / UNIT32 + 255) / 256; // 1, but 0 at zero: 0 stays 0
+    let below_zero = s / MIDDLE32; // 1 below zero, else 0
+    not_zero * MIDDLE32 + below_zero * UNIT32 // 128 units: 1..127 become 129..255; below zero one more: -128..-1 become 1..128
 }
 
 fn given_back64(s: u64) -> u64
     ensures { λ a. ⌜ plus 64 s a ≡ unstepped 64 52 s ⌝ }
 {
-    let not_zero = (s / UNIT64 + 2047) / 2048;
-    let below_zero = s / MIDDLE64;
-    not_zero * MIDDLE64 + below_zero * UNIT64
+    let not_zero = (s / UNIT64 + 2047) / 2048; // 1, but 0 at zero: 0 stays 0
+    let below_zero = s / MIDDLE64; // 1 below zero, else 0
+    not_zero * MIDDLE64 + below_zero * UNIT64 // 1024 units: 1..1023 become 1025..2047; below zero one more: -1024..-1 become 1..1024
 }
 
+// The exponent step undone: one wrapping sum.
 fn unstepped32(s: u32) -> u32
     ensures { λ r. ⌜ r ≡ unstepped 32 23 s ⌝ }
 {

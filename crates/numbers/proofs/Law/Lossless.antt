@@ -3,12 +3,13 @@
 use mathlib.Core.Path.{_≡_, sym, ap, _∙_}
 use mathlib.Core.Bool.{Bool, true, false, _&&_}
 use mathlib.Core.Logic.{_⊎_, inl, inr}
-use Prim.Native.Nat.{ℕ, _+_, _-_, _*_, _/_, _%_, _^_, _≤_, _<_}
-use native.Mathlib.Nat.{mod-eq-of-lt, mod-lt, add-comm, add-mul, div-lt-iff-lt-mul, mod-add-div', div-eq-of-lt, le-div-iff-mul-le, one-mul, zero-mul, add-zero, div-eq-of-lt-le, zero-div}
+use Prim.Native.Nat.{ℕ, suc, _+_, _-_, _*_, _/_, _%_, _^_, _≤_, _<_}
+use native.Mathlib.Nat.{mod-eq-of-lt, mod-lt, add-comm, add-mul, add-div-right, add-mul-div-right, add-mod-right, add-mul-mod-self-right, div-lt-iff-lt-mul, mod-add-div', div-eq-of-lt, le-div-iff-mul-le, one-mul, zero-mul, add-zero, div-eq-of-lt-le, zero-div}
 use native.Mathlib.Omega.{arith}
 use borrow.Author.Tests.{eqb-true, eqb-false, leb-true, leb-false, lt-ltb, le-ltb, le-leb, lt-leb}
 use lib.Arith.{digits-div, digits-mod}
 use lib.Dec.{ltb, leb, eqb}
+use lib.IntN.{pos, negsuc}
 use lib.Pow.{pow-pos, pow-mono, pow-add}
 use Rattle.numbers.specs.Signed.{signedView, unfolded, bitsOf}
 use Rattle.numbers.specs.Lossless.{rotated, field, minus, lowered, stepped, losslessCode, plus, raised, unstepped, unrotated, losslessRestored}
@@ -181,11 +182,11 @@ module _ (W m : ℕ) (room : m + 2 ≤ W) where
   -- ---- the exponent number in three cases: zero, up to the middle, above it
 
   -- the middle exponent is 2 ^ (W - 1) in units of the field, and with the next one the numbers above it begin
+  middle-units : 2 ^ (W - 2 - m) * 2 ^ (m + 1) ≡ 2 ^ (W - 1)
+  middle-units = sym (pow-add 2 (W - 2 - m) (m + 1)) ∙ ap (λ (n : ℕ). 2 ^ n) (let q : W - 2 - m + (m + 1) ≡ W - 1 = omega arith in q)
+
   next-units : (2 ^ (W - 2 - m) + 1) * 2 ^ (m + 1) ≡ 2 ^ (W - 1) + 2 ^ (m + 1)
-  next-units =
-      add-mul (2 ^ (W - 2 - m)) 1 (2 ^ (m + 1))
-      ∙ ap (λ (x : ℕ). x + 1 * 2 ^ (m + 1)) (sym (pow-add 2 (W - 2 - m) (m + 1)) ∙ ap (λ (n : ℕ). 2 ^ n) (let q : W - 2 - m + (m + 1) ≡ W - 1 = omega arith in q))
-      ∙ ap (λ (x : ℕ). 2 ^ (W - 1) + x) (one-mul (2 ^ (m + 1)))
+  next-units = add-mul (2 ^ (W - 2 - m)) 1 (2 ^ (m + 1)) ∙ (let q : 2 ^ (W - 2 - m) * 2 ^ (m + 1) + 1 * 2 ^ (m + 1) ≡ 2 ^ (W - 1) + 2 ^ (m + 1) = omega (arith, middle-units, one-mul (2 ^ (m + 1))) in q)
 
   field-some : (r : ℕ) → 2 ^ (m + 1) ≤ r → 1 ≤ field m r
   unfolding field
@@ -202,6 +203,22 @@ module _ (W m : ℕ) (room : m + 2 ≤ W) where
   field-above r h =
       let l : 2 ^ (W - 2 - m) + 1 ≤ r / 2 ^ (m + 1) = le-div-iff-mul-le (pow-pos (m + 1)) .1 (omega (arith, next-units)) in
       omega arith
+
+  whole-some : (r : ℕ) → 1 ≤ field m r → 2 ^ (m + 1) ≤ r
+  unfolding field
+  whole-some r h = led-by-one (m + 1) r (λ e. omega arith)
+
+  whole-up-to : (r : ℕ) → field m r ≤ 2 ^ (W - 2 - m) → r < 2 ^ (W - 1) + 2 ^ (m + 1)
+  unfolding field
+  whole-up-to r h =
+      let l : r < (2 ^ (W - 2 - m) + 1) * 2 ^ (m + 1) = div-lt-iff-lt-mul (pow-pos (m + 1)) .0 (let q : r / 2 ^ (m + 1) < 2 ^ (W - 2 - m) + 1 = omega arith in q) in
+      omega (arith, next-units)
+
+  whole-above : (r : ℕ) → 2 ^ (W - 2 - m) < field m r → 2 ^ (W - 1) + 2 ^ (m + 1) ≤ r
+  unfolding field
+  whole-above r h =
+      let l : (2 ^ (W - 2 - m) + 1) * 2 ^ (m + 1) ≤ r = le-div-iff-mul-le (pow-pos (m + 1)) .0 (let q : 2 ^ (W - 2 - m) + 1 ≤ r / 2 ^ (m + 1) = omega arith in q) in
+      omega (arith, next-units)
 
   abbrev upToMiddle : ℕ → Bool
   upToMiddle r = leb 1 (field m r) && leb (field m r) (2 ^ (W - 2 - m))
@@ -325,6 +342,68 @@ module _ (W m : ℕ) (room : m + 2 ≤ W) where
       go (inl a) (inr g) =
           rw (some-one s a h, div-eq-of-lt g, one-mul (2 ^ (W - 1)), zero-mul (2 ^ (m + 1)), add-zero (2 ^ (W - 1)))
           (mod-eq-of-lt (omega (arith, H-twice)) ∙ sym (unstepped-high s a g))
+
+  -- ---- what the step does to the exponent number, read in two's complement; what stands below it stays
+
+  low-sum : (r : ℕ) → 2 ^ (m + 1) ≤ r → r < 2 ^ (W - 1) + 2 ^ (m + 1) → stepped W m r + 2 ^ (m + 1) ≡ r + 2 ^ (W - 2 - m) * 2 ^ (m + 1)
+  low-sum r a g = rw (stepped-low r a g) (omega (arith, middle-units))
+
+  high-sum : (r : ℕ) → 2 ^ (W - 1) + 2 ^ (m + 1) ≤ r → r < 2 ^ W → stepped W m r + 2 ^ (W - 2 - m) * 2 ^ (m + 1) ≡ r
+  high-sum r g h = rw (stepped-high r g h) (omega (arith, middle-units))
+
+  low-field : (r : ℕ) → 2 ^ (m + 1) ≤ r → r < 2 ^ (W - 1) + 2 ^ (m + 1) → field m (stepped W m r) + 1 ≡ field m r + 2 ^ (W - 2 - m)
+  unfolding field
+  low-field r a g =
+      sym (add-div-right (stepped W m r) (pow-pos (m + 1)))
+      ∙ ap (λ (x : ℕ). x / 2 ^ (m + 1)) (low-sum r a g)
+      ∙ add-mul-div-right r (2 ^ (W - 2 - m)) (pow-pos (m + 1))
+
+  high-field : (r : ℕ) → 2 ^ (W - 1) + 2 ^ (m + 1) ≤ r → r < 2 ^ W → field m (stepped W m r) + 2 ^ (W - 2 - m) ≡ field m r
+  unfolding field
+  high-field r g h =
+      sym (add-mul-div-right (stepped W m r) (2 ^ (W - 2 - m)) (pow-pos (m + 1))) ∙ ap (λ (x : ℕ). x / 2 ^ (m + 1)) (high-sum r g h)
+
+  -- the exponent field has W - 1 - m bits
+  middle-bits : 2 ^ (W - 1 - m - 1) ≡ 2 ^ (W - 2 - m)
+  middle-bits = ap (λ (n : ℕ). 2 ^ n) (let q : W - 1 - m - 1 ≡ W - 2 - m = omega arith in q)
+
+  twice-middle : 2 ^ (W - 1 - m) ≡ 2 ^ (W - 2 - m) + 2 ^ (W - 2 - m)
+  twice-middle = twice-half (W - 1 - m) (omega arith) ∙ ap (λ (x : ℕ). x + x) middle-bits
+
+  pub zero-stays : (r : ℕ) → field m r ≡ 0 → stepped W m r ≡ r
+  unfolding field
+  zero-stays r e = stepped-zero r (fraction-only (m + 1) r e)
+
+  pub low-exponent : (r : ℕ) → 1 ≤ field m r → field m r ≤ 2 ^ (W - 2 - m)
+      → signedView (W - 1 - m) (field m (stepped W m r)) ≡ negsuc (2 ^ (W - 2 - m) - field m r)
+  unfolding signedView
+  low-exponent r a g =
+      let x = field m (stepped W m r) in
+      let is : x + 1 ≡ field m r + 2 ^ (W - 2 - m) = low-field r (whole-some r a) (whole-up-to r g) in
+      rw (middle-bits, le-ltb x (2 ^ (W - 2 - m)) (omega arith))
+      (ap negsuc (let q : 2 ^ (W - 1 - m) - suc x ≡ 2 ^ (W - 2 - m) - field m r = omega (arith, twice-middle) in q))
+
+  pub high-exponent : (r : ℕ) → r < 2 ^ W → 2 ^ (W - 2 - m) < field m r
+      → signedView (W - 1 - m) (field m (stepped W m r)) ≡ pos (field m r - 2 ^ (W - 2 - m))
+  unfolding signedView field
+  high-exponent r h g =
+      let x = field m (stepped W m r) in
+      let is : x + 2 ^ (W - 2 - m) ≡ field m r = high-field r (whole-above r g) h in
+      rw (middle-bits, lt-ltb x (2 ^ (W - 2 - m)) (omega (arith, field-below r h, twice-middle)))
+      (ap pos (let q : x ≡ field m r - 2 ^ (W - 2 - m) = omega arith in q))
+
+  pub rest-stays : (r : ℕ) → r < 2 ^ W → stepped W m r % 2 ^ (m + 1) ≡ r % 2 ^ (m + 1)
+  rest-stays r h = go (le-or-lt (2 ^ (m + 1)) r) (le-or-lt (2 ^ (W - 1) + 2 ^ (m + 1)) r)
+    where
+      go : (2 ^ (m + 1) ≤ r) ⊎ (r < 2 ^ (m + 1)) → (2 ^ (W - 1) + 2 ^ (m + 1) ≤ r) ⊎ (r < 2 ^ (W - 1) + 2 ^ (m + 1))
+          → stepped W m r % 2 ^ (m + 1) ≡ r % 2 ^ (m + 1)
+      go (inr z) g = ap (λ (x : ℕ). x % 2 ^ (m + 1)) (stepped-zero r z)
+      go (inl a) (inl g) =
+          sym (add-mul-mod-self-right (stepped W m r) (2 ^ (W - 2 - m)) (2 ^ (m + 1))) ∙ ap (λ (x : ℕ). x % 2 ^ (m + 1)) (high-sum r g h)
+      go (inl a) (inr g) =
+          sym (add-mod-right (stepped W m r) (2 ^ (m + 1)))
+          ∙ ap (λ (x : ℕ). x % 2 ^ (m + 1)) (low-sum r a g)
+          ∙ add-mul-mod-self-right r (2 ^ (W - 2 - m)) (2 ^ (m + 1))
 
   pub code-below : (p : ℕ) → p < 2 ^ W → losslessCode W m p < 2 ^ W
   unfolding losslessCode
