@@ -89,6 +89,16 @@ def thirty_three(width):
     return [dry(width, 1) if i == 16 else water(width, i) for i in range(33)]
 
 
+def exponents(width):
+    """Where a case of the exponent step begins or ends: around zero, around the middle exponent, and at the last ones.
+    Of each exponent the smallest number, the next and the largest, with both signs."""
+    unit, infinity, sign = parts_of(width)
+    last = infinity // unit
+    middle = (last + 1) // 2
+    edges = [0, 1, 2, middle - 1, middle, middle + 1, last - 1, last]
+    return [exponent * unit + fraction + each for exponent in edges for fraction in (0, 1, unit - 1) for each in (sign, 0)]
+
+
 def resting(width):
     """A walk that rests for 70 values at a time, so that groups of no bits repeat what stands before them, across the
     start of the second chunk too; it goes through 0 and 2^width - 1, where a difference wraps, and past dry cells."""
@@ -190,6 +200,8 @@ def written(library):
             yield f"{name}-{what}-by-{levels[0]}", packed(library, width, mode, k, levels[0], values)
     for width in (32, 64):
         yield f"{width}-differences-resting-by-11", packed(library, width, 2, 0, 11, resting(width))
+    for width, level in ((32, 8), (64, 10)):
+        yield f"{width}-lossless-exponents-by-{level}", packed(library, width, 0, 0, level, exponents(width))
     for n in (40, 993, 1048576):
         yield f"32-lossless-{n}-by-8", packed(library, 32, 0, 0, 8, [0] * n)
     for width, mode, k, level in LIMITS:
