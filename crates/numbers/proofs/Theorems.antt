@@ -174,15 +174,20 @@ module _ (W m : ℕ) (format : Format W m) where
   lossless-pattern-has-W-bits = Lossless.restored-below W m room
 
   -- "In effect exponent 0 stays 0, and in single precision 1..128 become -128..-1 and 129..255 become 1..127; in double, 1..1024 become -1024..-1 and
-  -- 1025..2047 become 1..1023": the exponent e of a rotated pattern becomes x. (negsuc n is -(n + 1).) What stands below the exponent stays.
+  -- 1025..2047 become 1..1023": what the exponent e of a rotated pattern becomes. (negsuc n is -(n + 1).) What stands below the exponent stays.
   pub exponents-in-effect : (r : ℕ) → r < 2 ^ W
       → let middle = 2 ^ (W - 2 - m) in
       let e = field m r in
-      let x = signedView (W - 1 - m) (field m (stepped W m r)) in
-      (e ≡ 0 → stepped W m r ≡ r) × (1 ≤ e → e ≤ middle → x ≡ negsuc (middle - e)) × (middle < e → x ≡ pos (e - middle))
-      × (stepped W m r % 2 ^ (m + 1) ≡ r % 2 ^ (m + 1))
-  exponents-in-effect r h =
-      (Lossless.zero-stays W m room r, Lossless.low-exponent W m room r, Lossless.high-exponent W m room r h, Lossless.rest-stays W m room r h)
+      let becomes = signedView (W - 1 - m) (field m (stepped W m r)) in
+      (stepped W m r < 2 ^ W) × (e ≡ 0 → stepped W m r ≡ r) × (1 ≤ e → e ≤ middle → becomes ≡ negsuc (middle - e))
+      × (middle < e → becomes ≡ pos (e - middle)) × (stepped W m r % 2 ^ (m + 1) ≡ r % 2 ^ (m + 1))
+  exponents-in-effect r h = (
+    Lossless.stepped-below W m room r h,
+    Lossless.zero-stays W m room r,
+    Lossless.low-exponent W m room r,
+    Lossless.high-exponent W m room r h,
+    Lossless.rest-stays W m room r h,
+  )
 
   -- Demand 2: lossless packing restores every bit pattern.
   pub every-pattern-is-restored : (p : ℕ) → p < 2 ^ W → losslessRestored W m (losslessCode W m p) ≡ p

@@ -1,6 +1,6 @@
 -- The laws of the lossless code, once over W and m with m + 2 ≤ W: every pattern is restored, and every code below 2 ^ W has exactly one pattern.
 -- With H = 2 ^ (W - 1) and F = 2 ^ (m + 1) as plain numbers, the exponent step is three linear pieces, and so is its inverse.
-use mathlib.Core.Path.{_≡_, sym, ap, _∙_}
+use mathlib.Core.Path.{_≡_, refl, sym, ap, _∙_}
 use mathlib.Core.Bool.{Bool, true, false, _&&_}
 use mathlib.Core.Logic.{_⊎_, inl, inr}
 use Prim.Native.Nat.{ℕ, suc, _+_, _-_, _*_, _/_, _%_, _^_, _≤_, _<_}
@@ -15,6 +15,10 @@ use Rattle.numbers.specs.Signed.{signedView, unfolded, bitsOf}
 use Rattle.numbers.specs.Lossless.{rotated, field, minus, lowered, stepped, losslessCode, plus, raised, unstepped, unrotated, losslessRestored}
 use Rattle.numbers.proofs.Law.Signed.{unfolded-folded, folded-unfolded, bits-of-view, view-of-bits, bits-below, folded-below}
 use Rattle.bins.proofs.Law.Number.{le-or-lt, mod-once, minus-plain, minus-wraps, quotient-zero, quotient-some, twice-half, fraction-only, led-by-one}
+
+both : (a b : Bool) → a && b ≡ true → (a ≡ true) × (b ≡ true)
+both true b e = (refl, e)
+both false b e = (e, (cc))
 
 module _ (W : ℕ) (some : 0 < W) where
   -- ---- the rotation
@@ -188,6 +192,10 @@ module _ (W m : ℕ) (room : m + 2 ≤ W) where
   next-units : (2 ^ (W - 2 - m) + 1) * 2 ^ (m + 1) ≡ 2 ^ (W - 1) + 2 ^ (m + 1)
   next-units = add-mul (2 ^ (W - 2 - m)) 1 (2 ^ (m + 1)) ∙ (let q : 2 ^ (W - 2 - m) * 2 ^ (m + 1) + 1 * 2 ^ (m + 1) ≡ 2 ^ (W - 1) + 2 ^ (m + 1) = omega (arith, middle-units, one-mul (2 ^ (m + 1))) in q)
 
+  field-zero : (r : ℕ) → r < 2 ^ (m + 1) → field m r ≡ 0
+  unfolding field
+  field-zero r h = div-eq-of-lt h
+
   field-some : (r : ℕ) → 2 ^ (m + 1) ≤ r → 1 ≤ field m r
   unfolding field
   field-some r h = le-div-iff-mul-le (pow-pos (m + 1)) .1 (omega (arith, one-mul (2 ^ (m + 1))))
@@ -251,33 +259,40 @@ module _ (W m : ℕ) (room : m + 2 ≤ W) where
       go (inl a) (inl g) = rw (le-leb (2 ^ (m + 1)) r a) (le-ltb r (2 ^ (W - 1) + 2 ^ (m + 1)) g ∙ sym (low-above r g))
       go (inl a) (inr g) = rw (le-leb (2 ^ (m + 1)) r a) (lt-ltb r (2 ^ (W - 1) + 2 ^ (m + 1)) g ∙ sym (low-some r a g))
 
-  -- what the step takes off in each case
-  pub taken-zero : (r : ℕ) → r < 2 ^ W → eqb (field m r) 0 ≡ true → minus W r 0 ≡ stepped W m r
-  unfolding minus field
-  taken-zero r h e =
-      minus-plain (2 ^ W) r 0 (omega arith) h ∙ (let q : r - 0 ≡ r = omega arith in q)
-      ∙ sym (stepped-zero r (fraction-only (m + 1) r (eqb-true (r / 2 ^ (m + 1)) 0 e)))
+  pub low-parts : (r : ℕ) → upToMiddle r ≡ true → (1 ≤ field m r) × (field m r ≤ 2 ^ (W - 2 - m))
+  low-parts r e =
+      let parts = both (leb 1 (field m r)) (leb (field m r) (2 ^ (W - 2 - m))) e in
+      (leb-true 1 (field m r) (parts .0), leb-true (field m r) (2 ^ (W - 2 - m)) (parts .1))
 
-  pub taken-low : (r : ℕ) → upToMiddle r ≡ true → minus W r (2 ^ (W - 1) + 2 ^ (m + 1)) ≡ stepped W m r
+  pub high-part : (r : ℕ) → upToMiddle r ≡ false → (field m r ≡ 0 → ⊥) → 2 ^ (W - 2 - m) < field m r
+  high-part r e some = go (le-or-lt (field m r) (2 ^ (W - 2 - m)))
+    where
+      one : 1 ≤ field m r
+      one = go-one (le-or-lt 1 (field m r))
+        where
+          go-one : (1 ≤ field m r) ⊎ (field m r < 1) → 1 ≤ field m r
+          go-one (inl h) = h
+          go-one (inr h) = absurd (some (omega arith))
+
+      go : (field m r ≤ 2 ^ (W - 2 - m)) ⊎ (2 ^ (W - 2 - m) < field m r) → 2 ^ (W - 2 - m) < field m r
+      go (inl h) = let no : true ≡ false = sym (rw (le-leb 1 (field m r) one, le-leb (field m r) (2 ^ (W - 2 - m)) h)) ∙ e in absurd (let z : _≡_ {A = ℕ} 0 1 = cc in omega arith)
+      go (inr h) = h
+
+  -- the step is one difference with the amount of the case
+  pub subtracted : (r a : ℕ) → r < 2 ^ W → (field m r ≡ 0 → a ≡ 0) → (1 ≤ field m r → field m r ≤ 2 ^ (W - 2 - m) → a ≡ (2 ^ (W - 2 - m) + 1) * 2 ^ (m + 1))
+      → (2 ^ (W - 2 - m) < field m r → a ≡ 2 ^ (W - 2 - m) * 2 ^ (m + 1)) → minus W r a ≡ stepped W m r
   unfolding minus
-  taken-low r e = go (le-or-lt (2 ^ (m + 1)) r) (le-or-lt (2 ^ (W - 1) + 2 ^ (m + 1)) r)
+  subtracted r a h zero low high = go (le-or-lt (2 ^ (m + 1)) r) (le-or-lt (2 ^ (W - 1) + 2 ^ (m + 1)) r)
     where
-      go : (2 ^ (m + 1) ≤ r) ⊎ (r < 2 ^ (m + 1)) → (2 ^ (W - 1) + 2 ^ (m + 1) ≤ r) ⊎ (r < 2 ^ (W - 1) + 2 ^ (m + 1))
-          → minus W r (2 ^ (W - 1) + 2 ^ (m + 1)) ≡ stepped W m r
-      go (inr z) g = let no : true ≡ false = sym e ∙ low-zero r z in cc
-      go (inl a) (inl g) = let no : true ≡ false = sym e ∙ low-above r g in cc
-      go (inl a) (inr g) =
-          minus-wraps (2 ^ W) r (2 ^ (W - 1) + 2 ^ (m + 1)) g (omega (arith, F≤H, H-twice))
+      go : (2 ^ (m + 1) ≤ r) ⊎ (r < 2 ^ (m + 1)) → (2 ^ (W - 1) + 2 ^ (m + 1) ≤ r) ⊎ (r < 2 ^ (W - 1) + 2 ^ (m + 1)) → minus W r a ≡ stepped W m r
+      go (inr z) g =
+          ap (minus W r) (zero (field-zero r z)) ∙ minus-plain (2 ^ W) r 0 (omega arith) h ∙ (let q : r - 0 ≡ r = omega arith in q) ∙ sym (stepped-zero r z)
+      go (inl x) (inl g) = ap (minus W r) (high (field-above r g) ∙ middle-units) ∙ minus-half r (omega arith) h ∙ sym (stepped-high r g h)
+      go (inl x) (inr g) =
+          ap (minus W r) (low (field-some r x) (field-up-to r g) ∙ next-units)
+          ∙ minus-wraps (2 ^ W) r (2 ^ (W - 1) + 2 ^ (m + 1)) g (omega (arith, F≤H, H-twice))
           ∙ (let q : r + (2 ^ W - (2 ^ (W - 1) + 2 ^ (m + 1))) ≡ r + 2 ^ (W - 1) - 2 ^ (m + 1) = omega (arith, F≤H, H-twice) in q)
-          ∙ sym (stepped-low r a g)
-
-  pub taken-high : (r : ℕ) → r < 2 ^ W → upToMiddle r ≡ false → eqb (field m r) 0 ≡ false → minus W r (2 ^ (W - 1)) ≡ stepped W m r
-  unfolding field
-  taken-high r h e f = go (le-or-lt (2 ^ (W - 1) + 2 ^ (m + 1)) r)
-    where
-      go : (2 ^ (W - 1) + 2 ^ (m + 1) ≤ r) ⊎ (r < 2 ^ (W - 1) + 2 ^ (m + 1)) → minus W r (2 ^ (W - 1)) ≡ stepped W m r
-      go (inl g) = minus-half r (omega arith) h ∙ sym (stepped-high r g h)
-      go (inr g) = let no : true ≡ false = sym (low-some r (led-by-one (m + 1) r (eqb-false (r / 2 ^ (m + 1)) 0 f)) g) ∙ e in cc
+          ∙ sym (stepped-low r x g)
 
   -- below zero come just the exponents up to the middle
   pub low-below-zero : (r : ℕ) → r < 2 ^ W → upToMiddle r ≡ leb (2 ^ (W - 1)) (stepped W m r)
@@ -298,7 +313,7 @@ module _ (W m : ℕ) (room : m + 2 ≤ W) where
   pub told-above : (s : ℕ) → leb (2 ^ (W - 1)) s ≡ false → s % 2 ^ (W - 1) ≡ s
   told-above s e = mod-eq-of-lt (leb-false (2 ^ (W - 1)) s e)
 
-  -- what the inverse gives back in each case is a sum of two products with 0 or 1: the half unless it is zero, and a unit below zero
+  -- the amount that the inverse adds, as a sum of two products with 0 or 1: the half unless the exponent is zero, and a unit below zero
 
   half-once : (n : ℕ) → n < 2 ^ W → 2 ^ (W - 1) ≤ n → n / 2 ^ (W - 1) ≡ 1
   half-once n l g = div-eq-of-lt-le (2 ^ (W - 1)) (omega arith) (omega (arith, H-twice))
@@ -325,23 +340,48 @@ module _ (W m : ℕ) (room : m + 2 ≤ W) where
   unfolding plus
   plus-zero s h = ap (λ (x : ℕ). x % 2 ^ W) (add-zero s) ∙ mod-eq-of-lt h
 
-  pub given-back : (s : ℕ) → s < 2 ^ W → plus W s (someUnit s * 2 ^ (W - 1) + s / 2 ^ (W - 1) * 2 ^ (m + 1)) ≡ unstepped W m s
+  below-middle : (s : ℕ) → field m s < 2 ^ (W - 2 - m) → s < 2 ^ (W - 1)
+  unfolding field
+  below-middle s h = omega (arith, div-lt-iff-lt-mul (pow-pos (m + 1)) .0 h, middle-units)
+
+  from-middle : (s : ℕ) → 2 ^ (W - 2 - m) ≤ field m s → 2 ^ (W - 1) ≤ s
+  unfolding field
+  from-middle s h = omega (arith, le-div-iff-mul-le (pow-pos (m + 1)) .0 h, middle-units)
+
+  abbrev byNumbers : ℕ → ℕ
+  byNumbers s = someUnit s * 2 ^ (W - 1) + s / 2 ^ (W - 1) * 2 ^ (m + 1)
+
+  pub added-zero : (s : ℕ) → field m s ≡ 0 → byNumbers s ≡ 0
+  unfolding field
+  added-zero s e =
+      let z : s < 2 ^ (m + 1) = fraction-only (m + 1) s e in
+      rw (some-zero s z, div-eq-of-lt (let l : s < 2 ^ (W - 1) = omega (arith, F≤H) in l), zero-mul (2 ^ (W - 1)), zero-mul (2 ^ (m + 1)))
+
+  pub added-above : (s : ℕ) → s < 2 ^ W → 1 ≤ field m s → field m s < 2 ^ (W - 2 - m) → byNumbers s ≡ 2 ^ (W - 2 - m) * 2 ^ (m + 1)
+  added-above s h x g =
+      rw (some-one s (whole-some s x) h, div-eq-of-lt (below-middle s g), one-mul (2 ^ (W - 1)), zero-mul (2 ^ (m + 1)), add-zero (2 ^ (W - 1))) (sym middle-units)
+
+  pub added-below : (s : ℕ) → s < 2 ^ W → 2 ^ (W - 2 - m) ≤ field m s → byNumbers s ≡ (2 ^ (W - 2 - m) + 1) * 2 ^ (m + 1)
+  added-below s h g =
+      rw (some-one s (whole-some s (omega (arith, pow-pos (W - 2 - m)))) h, half-once s h (from-middle s g), one-mul (2 ^ (W - 1)), one-mul (2 ^ (m + 1))) (sym next-units)
+
+  -- the inverse is one sum with the amount of the case
+  pub added : (s a : ℕ) → s < 2 ^ W → (field m s ≡ 0 → a ≡ 0) → (1 ≤ field m s → field m s < 2 ^ (W - 2 - m) → a ≡ 2 ^ (W - 2 - m) * 2 ^ (m + 1))
+      → (2 ^ (W - 2 - m) ≤ field m s → a ≡ (2 ^ (W - 2 - m) + 1) * 2 ^ (m + 1)) → plus W s a ≡ unstepped W m s
   unfolding plus
-  given-back s h = go (le-or-lt (2 ^ (m + 1)) s) (le-or-lt (2 ^ (W - 1)) s)
+  added s a h zero above below = go (le-or-lt (2 ^ (m + 1)) s) (le-or-lt (2 ^ (W - 2 - m)) (field m s))
     where
-      go : (2 ^ (m + 1) ≤ s) ⊎ (s < 2 ^ (m + 1)) → (2 ^ (W - 1) ≤ s) ⊎ (s < 2 ^ (W - 1))
-          → plus W s (someUnit s * 2 ^ (W - 1) + s / 2 ^ (W - 1) * 2 ^ (m + 1)) ≡ unstepped W m s
-      go (inr z) g =
-          rw (some-zero s z, div-eq-of-lt (let l : s < 2 ^ (W - 1) = omega (arith, F≤H) in l), zero-mul (2 ^ (W - 1)), zero-mul (2 ^ (m + 1)))
-          (plus-zero s h ∙ sym (unstepped-zero s z))
-      go (inl a) (inl g) =
-          rw (some-one s a h, half-once s h g, one-mul (2 ^ (W - 1)), one-mul (2 ^ (m + 1)))
-          (mod-once (s + (2 ^ (W - 1) + 2 ^ (m + 1))) (2 ^ W) (omega (arith, H-twice)) (omega (arith, F≤H, H-twice))
+      go : (2 ^ (m + 1) ≤ s) ⊎ (s < 2 ^ (m + 1)) → (2 ^ (W - 2 - m) ≤ field m s) ⊎ (field m s < 2 ^ (W - 2 - m)) → plus W s a ≡ unstepped W m s
+      go (inr z) g = ap (plus W s) (zero (field-zero s z)) ∙ plus-zero s h ∙ sym (unstepped-zero s z)
+      go (inl x) (inl g) =
+          ap (plus W s) (below g ∙ next-units)
+          ∙ mod-once (s + (2 ^ (W - 1) + 2 ^ (m + 1))) (2 ^ W) (omega (arith, from-middle s g, H-twice)) (omega (arith, F≤H, H-twice))
           ∙ (let q : s + (2 ^ (W - 1) + 2 ^ (m + 1)) - 2 ^ W ≡ s + 2 ^ (m + 1) - 2 ^ (W - 1) = omega (arith, H-twice) in q)
-          ∙ sym (unstepped-low s g h))
-      go (inl a) (inr g) =
-          rw (some-one s a h, div-eq-of-lt g, one-mul (2 ^ (W - 1)), zero-mul (2 ^ (m + 1)), add-zero (2 ^ (W - 1)))
-          (mod-eq-of-lt (omega (arith, H-twice)) ∙ sym (unstepped-high s a g))
+          ∙ sym (unstepped-low s (from-middle s g) h)
+      go (inl x) (inr g) =
+          ap (plus W s) (above (field-some s x) g ∙ middle-units)
+          ∙ mod-eq-of-lt (let l : s + 2 ^ (W - 1) < 2 ^ W = omega (arith, below-middle s g, H-twice) in l)
+          ∙ sym (unstepped-high s x (below-middle s g))
 
   -- ---- what the step does to the exponent number, read in two's complement; what stands below it stays
 
