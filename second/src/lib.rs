@@ -1,5 +1,5 @@
 //! The second program: packed float fields written again, from the scope
-//! document and change requests alone, to judge another
+//! document and change requests alone, to judge another
 //! implementation.
 //!
 //! * [`numbers`]: the lossless, tolerance and difference codes, and bound.

@@ -5,15 +5,61 @@ use second::numbers::{self, Tolerance, Width, WIDTH_64};
 use second::Refusal;
 
 pub fn lossless_code(width: Width, pattern: u64) -> u64 {
-    let two = (width.greatest_field().div_ceil(2)) << width.fraction_bits();
+    let two = middle_exponent(width) << width.fraction_bits();
     if planted(Fault::one_subtraction) && pattern == two {
         return 0;
+    }
+    if planted(Fault::middle_counted_as_above) && has_middle_exponent(width, pattern) {
+        return code_less(width, pattern, half(width));
+    }
+    if planted(Fault::zero_moved) && exponent(width, pattern) == 0 {
+        return code_less(width, pattern, half(width) + unit_of_field(width));
     }
     numbers::lossless_code(width, pattern)
 }
 
 pub fn lossless_restored(width: Width, code: u64) -> u64 {
-    numbers::lossless_pattern(width, code)
+    let pattern = numbers::lossless_pattern(width, code);
+    if planted(Fault::middle_restored_as_above) && has_middle_exponent(width, pattern) {
+        return restored_plus(width, code, half(width));
+    }
+    pattern
+}
+
+/// The code of a pattern from which, once rotated, just this number is taken
+/// off. The last step, signed and folded, is that of a difference.
+fn code_less(width: Width, pattern: u64, number: u64) -> u64 {
+    let rotated = 2 * width.ordinal(pattern) + width.sign(pattern);
+    numbers::difference_code(width, number, rotated)
+}
+
+/// The pattern of a code that is given back just this number.
+fn restored_plus(width: Width, code: u64, number: u64) -> u64 {
+    let rotated = numbers::difference_pattern(width, number, code);
+    rotated / 2 + rotated % 2 * half(width)
+}
+
+/// 2^(W-1).
+fn half(width: Width) -> u64 {
+    1 << (width.bits() - 1)
+}
+
+/// One unit of the exponent field after the rotation: 2^24 or 2^53.
+fn unit_of_field(width: Width) -> u64 {
+    1 << (width.fraction_bits() + 1)
+}
+
+fn exponent(width: Width, pattern: u64) -> u64 {
+    width.ordinal(pattern) >> width.fraction_bits()
+}
+
+/// The exponent of 2.0: 128 or 1024.
+fn middle_exponent(width: Width) -> u64 {
+    width.greatest_field().div_ceil(2)
+}
+
+fn has_middle_exponent(width: Width, pattern: u64) -> bool {
+    exponent(width, pattern) == middle_exponent(width)
 }
 
 pub fn tolerance_code(t: Tolerance, pattern: u64) -> u64 {

@@ -24,6 +24,12 @@ faults! {
     nan_quantized,
     /// The second subtraction forgotten for exponent 128: 2.0 is zero.
     one_subtraction,
+    /// The middle exponent, 128 or 1024, is coded as those above it are.
+    middle_counted_as_above,
+    /// Exponent 0 is coded as those up to the middle are.
+    zero_moved,
+    /// The middle exponent is restored as those above it are.
+    middle_restored_as_above,
     /// -0 is restored as 0.
     minus_zero_lost,
     /// u = 2^m is refused.

@@ -3,7 +3,7 @@
 use crate::faults::{planted, Fault};
 use crate::reading::numbers_of;
 use crate::{codes, differences, tolerance, Word};
-use second::numbers::Tolerance;
+use second::numbers::{self, Tolerance};
 use second::stream::{self, HIGHEST_LEVEL};
 use second::{Answer, Refusal};
 
@@ -36,7 +36,7 @@ fn as_coded<P: Word>(mode: u32, k: i32, values: &[P]) -> Vec<P> {
     let coded = |value: &P| match tolerance {
         None => {
             let code = codes::lossless_code(P::WIDTH, value.number());
-            P::of_number(codes::lossless_restored(P::WIDTH, code))
+            P::of_number(numbers::lossless_pattern(P::WIDTH, code))
         }
         Some(t) => {
             let code = codes::tolerance_code(t, value.number());

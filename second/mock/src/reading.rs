@@ -5,7 +5,7 @@
 
 use crate::faults::{planted, Fault};
 use crate::{codes, differences, naming, Word};
-use second::numbers::{bit_length, Tolerance, Width};
+use second::numbers::{self, bit_length, Tolerance, Width};
 use second::stream::{self, Probed, HIGHEST_LEVEL};
 use second::{Answer, Refusal};
 use std::ops::Range;
@@ -203,6 +203,7 @@ fn touch_values<P: Word>(stream: &[u8], out: &mut [P], n: usize) {
 /// What a planted fault makes of a value restored from a stream.
 fn restored(stream: &[u8], pattern: u64) -> u64 {
     match (Width::numbered(number(stream, 3)), number(stream, 4)) {
+        (Some(width), 0) => codes::lossless_restored(width, numbers::lossless_code(width, pattern)),
         (Some(width), 1) => codes::restored_pattern(width, pattern),
         _ => pattern,
     }
