@@ -39,7 +39,7 @@
 #define GWZ_VERSION_MAJOR 0
 #define GWZ_VERSION_MINOR 9
 #define GWZ_VERSION_PATCH 0
-#define GWZ_VERSION "0.9.0"
+#define GWZ_VERSION "0.9.1"
 
 #ifndef GWZ_HELPER
 #define GWZ_HELPER static inline

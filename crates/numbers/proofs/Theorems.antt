@@ -19,7 +19,7 @@ use Rattle.numbers.specs.declared.tolerance.CodeAnswer.the-variants as c
 use Rattle.numbers.specs.declared.tolerance.PatternAnswer.the-variants as pattern
 use Rattle.numbers.specs.Answers.{codeAnswer, patternAnswer}
 use Rattle.numbers.specs.Signed.{signedView}
-use Rattle.numbers.specs.Lossless.{field, stepped, losslessCode, losslessRestored}
+use Rattle.numbers.specs.Lossless.{field, stepped, losslessCode, unstepped, losslessRestored}
 use Rattle.numbers.specs.Difference.{differenceCode, differenceCodes, differenceRestored, runningSums, lastOf}
 use Rattle.bins.specs.Tolerance.{kOffset, lastBin, allowedK, binOf, sign, ordinal, magnitude, restoredOrdinal, toleranceCode, toleranceRestored, largestU}
 use Rattle.bins.specs.Answers.{binAnswer}
@@ -174,7 +174,8 @@ module _ (W m : ℕ) (format : Format W m) where
   lossless-pattern-has-W-bits = Lossless.restored-below W m room
 
   -- "In effect exponent 0 stays 0, and in single precision 1..128 become -128..-1 and 129..255 become 1..127; in double, 1..1024 become -1024..-1 and
-  -- 1025..2047 become 1..1023": what the exponent e of a rotated pattern becomes. (negsuc n is -(n + 1).) What stands below the exponent stays.
+  -- 1025..2047 become 1..1023": what the exponent e of a rotated pattern becomes, in two's complement. (negsuc n is -(n + 1).)
+  -- What stands below the exponent stays.
   pub exponents-in-effect : (r : ℕ) → r < 2 ^ W
       → let middle = 2 ^ (W - 2 - m) in
       let e = field m r in
@@ -188,6 +189,14 @@ module _ (W m : ℕ) (format : Format W m) where
     Lossless.high-exponent W m room r h,
     Lossless.rest-stays W m room r h,
   )
+
+  -- and what the inverse makes of it: an exponent above zero comes from above the middle, and one below zero, which is e less 2 * middle, from up to it
+  pub exponents-back : (s : ℕ) → s < 2 ^ W
+      → let middle = 2 ^ (W - 2 - m) in
+      let e = field m s in
+      let was = field m (unstepped W m s) in
+      (e ≡ 0 → unstepped W m s ≡ s) × (1 ≤ e → e < middle → was ≡ e + middle) × (middle ≤ e → was ≡ e + 1 - middle)
+  exponents-back s h = (Lossless.zero-back W m room s, Lossless.above-back W m room s, Lossless.below-back W m room s h)
 
   -- Demand 2: lossless packing restores every bit pattern.
   pub every-pattern-is-restored : (p : ℕ) → p < 2 ^ W → losslessRestored W m (losslessCode W m p) ≡ p

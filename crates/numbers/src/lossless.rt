@@ -20,10 +20,10 @@ fn rotated64(p: u64) -> u64
     p % 0x8000_0000_0000_0000 * 2 + p / 0x8000_0000_0000_0000
 }
 
-// ---- the exponent step and its inverse, by the cases of the exponent number: zero, up to the middle, above it. Document 01: "In effect exponent 0
-// stays 0, and in single precision 1..128 become -128..-1 and 129..255 become 1..127; in double, 1..1024 become -1024..-1 and 1025..2047 become
-// 1..1023." Each case has its amount, subtracted in the step and added in the inverse, modulo 2^W. It is a whole number of units, so the fraction and
-// the sign, which stand below the exponent, stay as they are.
+// ---- the exponent step, by three cases of the exponent number: zero, up to the middle, above it; and its inverse, by zero, above zero, below zero.
+// Document 01: "In effect exponent 0 stays 0, and in single precision 1..128 become -128..-1 and 129..255 become 1..127; in double, 1..1024 become
+// -1024..-1 and 1025..2047 become 1..1023." So its two subtractions, of 128 units and then perhaps of one, come to 129 units up to the middle and to 128
+// above it, in double 1025 and 1024. They are taken modulo 2^W. The fraction and the sign stand below the units and stay as they are.
 
 // One unit of the exponent field, and the middle exponent, which is 128 units, in double 1024.
 const UNIT32: u32 = 0x0100_0000;
@@ -34,7 +34,7 @@ const UNIT64: u64 = 0x0020_0000_0000_0000;
 
 const MIDDLE64: u64 = 0x8000_0000_0000_0000;
 
-// The exponent is 0. It stands highest, so whole patterns are compared.
+// Whether the exponent is 0. It stands highest in a pattern, so comparing the whole with one unit decides it.
 fn exponent_zero32(r: u32) -> bool
     ensures { λ b. ⌜ b ≡ eqb (field 23 r) 0 ⌝ }
 {
@@ -47,8 +47,8 @@ fn exponent_zero64(r: u64) -> bool
     r < UNIT64
 }
 
-// The exponent is 1 to 128, in double 1 to 1024. The middle belongs here with every fraction, so that the end is one unit more: else 2.0 and zero would
-// share a code.
+// Whether it is 1 to 128, in double 1 to 1024. The middle itself counts, with every fraction and sign, so the bound is one unit above it: else 2.0 would share
+// the code of zero. (`&` makes both tests, without a jump.)
 fn exponent_up_to_middle32(r: u32) -> bool
     ensures { λ b. ⌜ b ≡ (leb 1 (field 23 r) && leb (field 23 r) 128) ⌝ }
 {
@@ -61,8 +61,8 @@ fn exponent_up_to_middle64(r: u64) -> bool
     (UNIT64 <= r) & (r < MIDDLE64 + UNIT64)
 }
 
-// What is subtracted in each case. The one up to the middle is asked for first for the compiler's sake: the other two amounts differ in the highest bit
-// alone, and that bit is told below.
+// What is subtracted in each case. Up to the middle comes first, for speed: the other two amounts differ in the highest bit alone, and since that bit of the
+// result is told below, the compiler need not tell the two apart.
 fn subtracted32(r: u32) -> u32
     ensures zero { λ a. ⌜ (field 23 r ≡ 0 → a ≡ 0) ⌝ }
     ensures up_to_middle { λ a. ⌜ (1 ≤ field 23 r → field 23 r ≤ 128 → a ≡ 129 * 2 ^ 24) ⌝ }
@@ -91,8 +91,8 @@ fn subtracted64(r: u64) -> u64
     MIDDLE64 // above the middle, 1024 units: 1025..2047 become 1..1023
 }
 
-// `s`, unchanged. This only tells the compiler its highest bit, which would else be looked for in the difference: it is set where the exponent was up to
-// the middle, since just those come below zero.
+// Returns s unchanged. It only lets the compiler know the highest bit of s without looking for it in the difference: the bit is set exactly where the exponent
+// was up to the middle, since only those come out below zero.
 fn told_highest_bit32(s: u32, set: bool) -> u32
     requires { ⌜ set ≡ leb (2 ^ 31) s ⌝ }
     ensures { λ t. ⌜ t ≡ s ⌝ }
@@ -115,7 +115,7 @@ fn told_highest_bit64(s: u64, set: bool) -> u64
     }
 }
 
-// The exponent step is one wrapping difference; the second line changes nothing.
+// The exponent step is one wrapping difference; the second line changes no value, it is there for speed.
 fn stepped32(r: u32) -> u32
     ensures { λ s. ⌜ s ≡ stepped 32 23 r ⌝ }
 {
@@ -130,30 +130,17 @@ fn stepped64(r: u64) -> u64
     told_highest_bit64(s, exponent_up_to_middle64(r))
 }
 
-// The lossless code of a binary32 pattern.
-pub fn code32(p: u32) -> u32
-    ensures { λ c. ⌜ c ≡ losslessCode 32 23 p ⌝ }
-{
-    signed::folded32(signed::view32(stepped32(rotated32(p))))
-}
-
-// The lossless code of a binary64 pattern.
-pub fn code64(p: u64) -> u64
-    ensures { λ c. ⌜ c ≡ losslessCode 64 52 p ⌝ }
-{
-    signed::folded64(signed::view64(stepped64(rotated64(p))))
-}
-
-// What is added in each case, as promised: at zero nothing, above zero 128 units, below zero 129; in double 1024 and 1025. Modulo 2^W the exponents below
-// zero, -128..-1, stand as 128..255. The body has numbers, 1 or 0, in the place of tests: so it takes the fewest instructions per value.
+// What is added in each case, as promised: at zero nothing, above zero 128 units, below zero 129; in double 1024 and 1025. The field counts modulo 256, so
+// -128..-1 stand in it as 128..255; in double modulo 2048, and -1024..-1 as 1024..2047. The body has numbers, 1 or 0, and no tests: that takes fewer
+// instructions per value.
 fn added32(s: u32) -> u32
     ensures zero { λ a. ⌜ (field 23 s ≡ 0 → a ≡ 0) ⌝ }
     ensures above_zero { λ a. ⌜ (1 ≤ field 23 s → field 23 s < 128 → a ≡ 128 * 2 ^ 24) ⌝ }
     ensures below_zero { λ a. ⌜ (128 ≤ field 23 s → a ≡ 129 * 2 ^ 24) ⌝ }
 {
-    let not_zero = (s / UNIT32 + 255) / 256; // the exponent / 256, rounded up: 0 of 0, else 1
+    let not_zero = (s / UNIT32 + 255) / 256; // the exponent / 256, rounded up: 0 for exponent 0, else 1
     let below_zero = s / MIDDLE32; // the highest bit: 1 below zero, else 0
-    not_zero * MIDDLE32 + below_zero * UNIT32 // 128 units: 1..127 become 129..255; below zero one more: -128..-1 become 1..128
+    not_zero * MIDDLE32 + below_zero * UNIT32 // 128 units: 1..127 become 129..255; below zero 129: -128..-1 become 1..128
 }
 
 fn added64(s: u64) -> u64
@@ -161,12 +148,12 @@ fn added64(s: u64) -> u64
     ensures above_zero { λ a. ⌜ (1 ≤ field 52 s → field 52 s < 1024 → a ≡ 1024 * 2 ^ 53) ⌝ }
     ensures below_zero { λ a. ⌜ (1024 ≤ field 52 s → a ≡ 1025 * 2 ^ 53) ⌝ }
 {
-    let not_zero = (s / UNIT64 + 2047) / 2048; // the exponent / 2048, rounded up: 0 of 0, else 1
+    let not_zero = (s / UNIT64 + 2047) / 2048; // the exponent / 2048, rounded up: 0 for exponent 0, else 1
     let below_zero = s / MIDDLE64; // the highest bit: 1 below zero, else 0
-    not_zero * MIDDLE64 + below_zero * UNIT64 // 1024 units: 1..1023 become 1025..2047; below zero one more: -1024..-1 become 1..1024
+    not_zero * MIDDLE64 + below_zero * UNIT64 // 1024 units: 1..1023 become 1025..2047; below zero 1025: -1024..-1 become 1..1024
 }
 
-// The inverse is one wrapping sum.
+// The inverse is one wrapping sum, of what the step subtracted: above zero are the exponents from above the middle, below zero those from up to it.
 fn unstepped32(s: u32) -> u32
     ensures { λ r. ⌜ r ≡ unstepped 32 23 s ⌝ }
 {
@@ -179,6 +166,8 @@ fn unstepped64(s: u64) -> u64
     num::wrapping_add_u64(s, added64(s))
 }
 
+// ---- the rotation undone, and the whole code, there and back
+
 fn unrotated32(r: u32) -> u32
     ensures { λ p. ⌜ p ≡ unrotated 32 r ⌝ }
 {
@@ -189,6 +178,20 @@ fn unrotated64(r: u64) -> u64
     ensures { λ p. ⌜ p ≡ unrotated 64 r ⌝ }
 {
     r / 2 + r % 2 * 0x8000_0000_0000_0000
+}
+
+// The lossless code of a binary32 pattern.
+pub fn code32(p: u32) -> u32
+    ensures { λ c. ⌜ c ≡ losslessCode 32 23 p ⌝ }
+{
+    signed::folded32(signed::view32(stepped32(rotated32(p))))
+}
+
+// The lossless code of a binary64 pattern.
+pub fn code64(p: u64) -> u64
+    ensures { λ c. ⌜ c ≡ losslessCode 64 52 p ⌝ }
+{
+    signed::folded64(signed::view64(stepped64(rotated64(p))))
 }
 
 // The binary32 pattern that has the lossless code `c`.

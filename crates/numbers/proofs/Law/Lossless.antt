@@ -265,14 +265,11 @@ module _ (W m : ℕ) (room : m + 2 ≤ W) where
       (leb-true 1 (field m r) (parts .0), leb-true (field m r) (2 ^ (W - 2 - m)) (parts .1))
 
   pub high-part : (r : ℕ) → upToMiddle r ≡ false → (field m r ≡ 0 → ⊥) → 2 ^ (W - 2 - m) < field m r
+  unfolding field
   high-part r e some = go (le-or-lt (field m r) (2 ^ (W - 2 - m)))
     where
       one : 1 ≤ field m r
-      one = go-one (le-or-lt 1 (field m r))
-        where
-          go-one : (1 ≤ field m r) ⊎ (field m r < 1) → 1 ≤ field m r
-          go-one (inl h) = h
-          go-one (inr h) = absurd (some (omega arith))
+      one = field-some r (led-by-one (m + 1) r some)
 
       go : (field m r ≤ 2 ^ (W - 2 - m)) ⊎ (2 ^ (W - 2 - m) < field m r) → 2 ^ (W - 2 - m) < field m r
       go (inl h) = let no : true ≡ false = sym (rw (le-leb 1 (field m r) one, le-leb (field m r) (2 ^ (W - 2 - m)) h)) ∙ e in absurd (let z : _≡_ {A = ℕ} 0 1 = cc in omega arith)
@@ -313,7 +310,7 @@ module _ (W m : ℕ) (room : m + 2 ≤ W) where
   pub told-above : (s : ℕ) → leb (2 ^ (W - 1)) s ≡ false → s % 2 ^ (W - 1) ≡ s
   told-above s e = mod-eq-of-lt (leb-false (2 ^ (W - 1)) s e)
 
-  -- the amount that the inverse adds, as a sum of two products with 0 or 1: the half unless the exponent is zero, and a unit below zero
+  -- ---- the amount that the inverse adds, as a sum of two products with 0 or 1
 
   half-once : (n : ℕ) → n < 2 ^ W → 2 ^ (W - 1) ≤ n → n / 2 ^ (W - 1) ≡ 1
   half-once n l g = div-eq-of-lt-le (2 ^ (W - 1)) (omega arith) (omega (arith, H-twice))
@@ -348,6 +345,7 @@ module _ (W m : ℕ) (room : m + 2 ≤ W) where
   unfolding field
   from-middle s h = omega (arith, le-div-iff-mul-le (pow-pos (m + 1)) .0 h, middle-units)
 
+  -- the half unless the exponent is zero, and a unit below zero
   abbrev byNumbers : ℕ → ℕ
   byNumbers s = someUnit s * 2 ^ (W - 1) + s / 2 ^ (W - 1) * 2 ^ (m + 1)
 
@@ -444,6 +442,28 @@ module _ (W m : ℕ) (room : m + 2 ≤ W) where
           sym (add-mod-right (stepped W m r) (2 ^ (m + 1)))
           ∙ ap (λ (x : ℕ). x % 2 ^ (m + 1)) (low-sum r a g)
           ∙ add-mul-mod-self-right r (2 ^ (W - 2 - m)) (2 ^ (m + 1))
+
+  pub zero-back : (s : ℕ) → field m s ≡ 0 → unstepped W m s ≡ s
+  unfolding field
+  zero-back s e = unstepped-zero s (fraction-only (m + 1) s e)
+
+  pub above-back : (s : ℕ) → 1 ≤ field m s → field m s < 2 ^ (W - 2 - m) → field m (unstepped W m s) ≡ field m s + 2 ^ (W - 2 - m)
+  unfolding field
+  above-back s x g =
+      ap (λ (r : ℕ). r / 2 ^ (m + 1)) (unstepped-high s (whole-some s x) (below-middle s g) ∙ ap (λ (h : ℕ). s + h) (sym middle-units))
+      ∙ add-mul-div-right s (2 ^ (W - 2 - m)) (pow-pos (m + 1))
+
+  pub below-back : (s : ℕ) → s < 2 ^ W → 2 ^ (W - 2 - m) ≤ field m s → field m (unstepped W m s) ≡ field m s + 1 - 2 ^ (W - 2 - m)
+  unfolding field
+  below-back s h g =
+      let low : 2 ^ (W - 1) ≤ s = from-middle s g in
+      let back : unstepped W m s + 2 ^ (W - 2 - m) * 2 ^ (m + 1) ≡ s + 2 ^ (m + 1) = rw (unstepped-low s low h) (omega (arith, middle-units)) in
+      let fields : unstepped W m s / 2 ^ (m + 1) + 2 ^ (W - 2 - m) ≡ s / 2 ^ (m + 1) + 1 =
+      sym (add-mul-div-right (unstepped W m s) (2 ^ (W - 2 - m)) (pow-pos (m + 1)))
+      ∙ ap (λ (r : ℕ). r / 2 ^ (m + 1)) back
+      ∙ add-div-right s (pow-pos (m + 1))
+      in
+      omega arith
 
   pub code-below : (p : ℕ) → p < 2 ^ W → losslessCode W m p < 2 ^ W
   unfolding losslessCode
