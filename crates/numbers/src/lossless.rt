@@ -1,7 +1,7 @@
 // Lossless code (mode 0). Each function is one step of document 01, its inverse, or a part of the exponent step, over specs/Lossless.antt.
 ghost use mathlib.Core.Path.{_≡_};
 ghost use mathlib.Core.Bool.{_&&_};
-ghost use Prim.Native.Nat.{_*_, _^_, _≤_, _<_};
+ghost use Prim.Native.Nat.{_+_, _*_, _^_, _≤_, _<_};
 ghost use lib.Dec.{leb, eqb};
 ghost use Rattle.numbers.specs.Lossless.{rotated, field, stepped, losslessCode, unstepped, unrotated, losslessRestored};
 use crate::signed;
@@ -20,10 +20,9 @@ fn rotated64(p: u64) -> u64
     p % 0x8000_0000_0000_0000 * 2 + p / 0x8000_0000_0000_0000
 }
 
-// ---- the exponent step, by three cases of the exponent number: zero, up to the middle, above it; and its inverse, by zero, above zero, below zero.
-// Document 01: "In effect exponent 0 stays 0, and in single precision 1..128 become -128..-1 and 129..255 become 1..127; in double, 1..1024 become
-// -1024..-1 and 1025..2047 become 1..1023." So its two subtractions, of 128 units and then perhaps of one, come to 129 units up to the middle and to 128
-// above it, in double 1025 and 1024. They are taken modulo 2^W. The fraction and the sign stand below the units and stay as they are.
+// ---- the exponent step and its inverse. Document 01: "In effect exponent 0 stays 0, and in single precision 1..128 become -128..-1 and 129..255 become 1..127;
+// in double, 1..1024 become -1024..-1 and 1025..2047 become 1..1023." So its two subtractions, of 128 units and then perhaps of one, come to one amount in each
+// of three cases of the exponent number: zero, up to the middle, above it. The fraction and the sign stand below the units and stay as they are.
 
 // One unit of the exponent field, and the middle exponent, which is 128 units, in double 1024.
 const UNIT32: u32 = 0x0100_0000;
@@ -34,35 +33,8 @@ const UNIT64: u64 = 0x0020_0000_0000_0000;
 
 const MIDDLE64: u64 = 0x8000_0000_0000_0000;
 
-// Whether the exponent is 0. It stands highest in a pattern, so comparing the whole with one unit decides it.
-fn exponent_zero32(r: u32) -> bool
-    ensures { λ b. ⌜ b ≡ eqb (field 23 r) 0 ⌝ }
-{
-    r < UNIT32
-}
-
-fn exponent_zero64(r: u64) -> bool
-    ensures { λ b. ⌜ b ≡ eqb (field 52 r) 0 ⌝ }
-{
-    r < UNIT64
-}
-
-// Whether it is 1 to 128, in double 1 to 1024. The middle itself counts, with every fraction and sign, so the bound is one unit above it: else 2.0 would share
-// the code of zero. (`&` makes both tests, without a jump.)
-fn exponent_up_to_middle32(r: u32) -> bool
-    ensures { λ b. ⌜ b ≡ (leb 1 (field 23 r) && leb (field 23 r) 128) ⌝ }
-{
-    (UNIT32 <= r) & (r < MIDDLE32 + UNIT32)
-}
-
-fn exponent_up_to_middle64(r: u64) -> bool
-    ensures { λ b. ⌜ b ≡ (leb 1 (field 52 r) && leb (field 52 r) 1024) ⌝ }
-{
-    (UNIT64 <= r) & (r < MIDDLE64 + UNIT64)
-}
-
 // What is subtracted in each case. Up to the middle comes first, for speed: the other two amounts differ in the highest bit alone, and since that bit of the
-// result is told below, the compiler need not tell the two apart.
+// result is told (`told_highest_bit32`), the compiler need not tell the two apart.
 fn subtracted32(r: u32) -> u32
     ensures zero { λ a. ⌜ (field 23 r ≡ 0 → a ≡ 0) ⌝ }
     ensures up_to_middle { λ a. ⌜ (1 ≤ field 23 r → field 23 r ≤ 128 → a ≡ 129 * 2 ^ 24) ⌝ }
@@ -91,6 +63,48 @@ fn subtracted64(r: u64) -> u64
     MIDDLE64 // above the middle, 1024 units: 1025..2047 become 1..1023
 }
 
+// Whether the exponent is 0. It stands highest in a pattern, so comparing the whole with one unit decides it.
+fn exponent_zero32(r: u32) -> bool
+    ensures { λ b. ⌜ b ≡ eqb (field 23 r) 0 ⌝ }
+{
+    r < UNIT32
+}
+
+fn exponent_zero64(r: u64) -> bool
+    ensures { λ b. ⌜ b ≡ eqb (field 52 r) 0 ⌝ }
+{
+    r < UNIT64
+}
+
+// Whether it is 1 to 128, in double 1 to 1024. The middle itself counts, with every fraction and sign, so the bound is one unit above it: else 2.0 would share
+// the code of zero. (`&` makes both tests, without a jump.)
+fn exponent_up_to_middle32(r: u32) -> bool
+    ensures { λ b. ⌜ b ≡ (leb 1 (field 23 r) && leb (field 23 r) 128) ⌝ }
+{
+    (UNIT32 <= r) & (r < MIDDLE32 + UNIT32)
+}
+
+fn exponent_up_to_middle64(r: u64) -> bool
+    ensures { λ b. ⌜ b ≡ (leb 1 (field 52 r) && leb (field 52 r) 1024) ⌝ }
+{
+    (UNIT64 <= r) & (r < MIDDLE64 + UNIT64)
+}
+
+// The exponent step is one wrapping difference; the second line changes no value, it is there for speed.
+fn stepped32(r: u32) -> u32
+    ensures { λ s. ⌜ s ≡ stepped 32 23 r ⌝ }
+{
+    let s = num::wrapping_sub_u32(r, subtracted32(r));
+    told_highest_bit32(s, exponent_up_to_middle32(r))
+}
+
+fn stepped64(r: u64) -> u64
+    ensures { λ s. ⌜ s ≡ stepped 64 52 r ⌝ }
+{
+    let s = num::wrapping_sub_u64(r, subtracted64(r));
+    told_highest_bit64(s, exponent_up_to_middle64(r))
+}
+
 // Returns s unchanged. It only lets the compiler know the highest bit of s without looking for it in the difference: the bit is set exactly where the exponent
 // was up to the middle, since only those come out below zero.
 fn told_highest_bit32(s: u32, set: bool) -> u32
@@ -115,55 +129,35 @@ fn told_highest_bit64(s: u64, set: bool) -> u64
     }
 }
 
-// The exponent step is one wrapping difference; the second line changes no value, it is there for speed.
-fn stepped32(r: u32) -> u32
-    ensures { λ s. ⌜ s ≡ stepped 32 23 r ⌝ }
+// What the inverse adds, in units: the same amounts. The exponents above zero come from above the middle, those below zero from up to it. The field counts modulo
+// 256, in double 2048, so that those below zero, -128..-1, stand in it as 128..255, from the middle on.
+fn added(exponent: u32, middle: u32) -> u32
+    requires { ⌜ middle ≤ 1024 ⌝ }
+    ensures zero { λ n. ⌜ (exponent ≡ 0 → n ≡ 0) ⌝ }
+    ensures above_zero { λ n. ⌜ (1 ≤ exponent → exponent < middle → n ≡ middle) ⌝ }
+    ensures below_zero { λ n. ⌜ (1 ≤ exponent → middle ≤ exponent → n ≡ middle + 1) ⌝ }
+    ensures most { λ n. ⌜ n ≤ middle + 1 ⌝ }
 {
-    let s = num::wrapping_sub_u32(r, subtracted32(r));
-    told_highest_bit32(s, exponent_up_to_middle32(r))
+    if exponent == 0 {
+        return 0; // nothing: 0 stays 0
+    }
+    if exponent < middle {
+        return middle; // above zero: 1..127 become 129..255, in double 1..1023 become 1025..2047
+    }
+    middle + 1 // below zero: -128..-1 become 1..128, in double -1024..-1 become 1..1024
 }
 
-fn stepped64(r: u64) -> u64
-    ensures { λ s. ⌜ s ≡ stepped 64 52 r ⌝ }
-{
-    let s = num::wrapping_sub_u64(r, subtracted64(r));
-    told_highest_bit64(s, exponent_up_to_middle64(r))
-}
-
-// What is added in each case, as promised: at zero nothing, above zero 128 units, below zero 129; in double 1024 and 1025. The field counts modulo 256, so
-// -128..-1 stand in it as 128..255; in double modulo 2048, and -1024..-1 as 1024..2047. The body has numbers, 1 or 0, and no tests: that takes fewer
-// instructions per value.
-fn added32(s: u32) -> u32
-    ensures zero { λ a. ⌜ (field 23 s ≡ 0 → a ≡ 0) ⌝ }
-    ensures above_zero { λ a. ⌜ (1 ≤ field 23 s → field 23 s < 128 → a ≡ 128 * 2 ^ 24) ⌝ }
-    ensures below_zero { λ a. ⌜ (128 ≤ field 23 s → a ≡ 129 * 2 ^ 24) ⌝ }
-{
-    let not_zero = (s / UNIT32 + 255) / 256; // the exponent / 256, rounded up: 0 for exponent 0, else 1
-    let below_zero = s / MIDDLE32; // the highest bit: 1 below zero, else 0
-    not_zero * MIDDLE32 + below_zero * UNIT32 // 128 units: 1..127 become 129..255; below zero 129: -128..-1 become 1..128
-}
-
-fn added64(s: u64) -> u64
-    ensures zero { λ a. ⌜ (field 52 s ≡ 0 → a ≡ 0) ⌝ }
-    ensures above_zero { λ a. ⌜ (1 ≤ field 52 s → field 52 s < 1024 → a ≡ 1024 * 2 ^ 53) ⌝ }
-    ensures below_zero { λ a. ⌜ (1024 ≤ field 52 s → a ≡ 1025 * 2 ^ 53) ⌝ }
-{
-    let not_zero = (s / UNIT64 + 2047) / 2048; // the exponent / 2048, rounded up: 0 for exponent 0, else 1
-    let below_zero = s / MIDDLE64; // the highest bit: 1 below zero, else 0
-    not_zero * MIDDLE64 + below_zero * UNIT64 // 1024 units: 1..1023 become 1025..2047; below zero 1025: -1024..-1 become 1..1024
-}
-
-// The inverse is one wrapping sum, of what the step subtracted: above zero are the exponents from above the middle, below zero those from up to it.
+// The inverse is one wrapping sum.
 fn unstepped32(s: u32) -> u32
     ensures { λ r. ⌜ r ≡ unstepped 32 23 s ⌝ }
 {
-    num::wrapping_add_u32(s, added32(s))
+    num::wrapping_add_u32(s, added(s / UNIT32, 128) * UNIT32)
 }
 
 fn unstepped64(s: u64) -> u64
     ensures { λ r. ⌜ r ≡ unstepped 64 52 s ⌝ }
 {
-    num::wrapping_add_u64(s, added64(s))
+    num::wrapping_add_u64(s, (added((s / UNIT64) as u32, 1024) as u64) * UNIT64)
 }
 
 // ---- the rotation undone, and the whole code, there and back

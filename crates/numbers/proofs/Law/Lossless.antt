@@ -4,7 +4,7 @@ use mathlib.Core.Path.{_≡_, refl, sym, ap, _∙_}
 use mathlib.Core.Bool.{Bool, true, false, _&&_}
 use mathlib.Core.Logic.{_⊎_, inl, inr}
 use Prim.Native.Nat.{ℕ, suc, _+_, _-_, _*_, _/_, _%_, _^_, _≤_, _<_}
-use native.Mathlib.Nat.{mod-eq-of-lt, mod-lt, add-comm, add-mul, add-div-right, add-mul-div-right, add-mod-right, add-mul-mod-self-right, div-lt-iff-lt-mul, mod-add-div', div-eq-of-lt, le-div-iff-mul-le, one-mul, zero-mul, add-zero, div-eq-of-lt-le, zero-div}
+use native.Mathlib.Nat.{mod-eq-of-lt, mod-lt, add-comm, add-mul, add-div-right, add-mul-div-right, add-mod-right, add-mul-mod-self-right, div-lt-iff-lt-mul, mod-add-div', div-eq-of-lt, le-div-iff-mul-le, one-mul, zero-mul, add-zero, zero-div}
 use native.Mathlib.Omega.{arith}
 use borrow.Author.Tests.{eqb-true, eqb-false, leb-true, leb-false, lt-ltb, le-ltb, le-leb, lt-leb}
 use lib.Arith.{digits-div, digits-mod}
@@ -310,28 +310,11 @@ module _ (W m : ℕ) (room : m + 2 ≤ W) where
   pub told-above : (s : ℕ) → leb (2 ^ (W - 1)) s ≡ false → s % 2 ^ (W - 1) ≡ s
   told-above s e = mod-eq-of-lt (leb-false (2 ^ (W - 1)) s e)
 
-  -- ---- the amount that the inverse adds, as a sum of two products with 0 or 1
-
-  half-once : (n : ℕ) → n < 2 ^ W → 2 ^ (W - 1) ≤ n → n / 2 ^ (W - 1) ≡ 1
-  half-once n l g = div-eq-of-lt-le (2 ^ (W - 1)) (omega arith) (omega (arith, H-twice))
-
-  -- 1 unless the exponent field of r is zero
-  abbrev pub someUnit : ℕ → ℕ
-  someUnit r = (r / 2 ^ (m + 1) + (2 ^ (W - 1 - m) - 1)) / 2 ^ (W - 1 - m)
-
   field-below : (r : ℕ) → r < 2 ^ W → r / 2 ^ (m + 1) < 2 ^ (W - 1 - m)
   field-below r h =
       div-lt-iff-lt-mul (pow-pos (m + 1)) .1
       (let e : 2 ^ W ≡ 2 ^ (W - 1 - m) * 2 ^ (m + 1) = ap (λ (n : ℕ). 2 ^ n) (let q : W ≡ W - 1 - m + (m + 1) = omega arith in q) ∙ pow-add 2 (W - 1 - m) (m + 1) in
       omega arith)
-
-  some-zero : (r : ℕ) → r < 2 ^ (m + 1) → someUnit r ≡ 0
-  some-zero r h = rw (div-eq-of-lt h) (div-eq-of-lt (omega (arith, pow-pos (W - 1 - m))))
-
-  some-one : (r : ℕ) → 2 ^ (m + 1) ≤ r → r < 2 ^ W → someUnit r ≡ 1
-  some-one r h l =
-      let e : 1 ≤ r / 2 ^ (m + 1) = le-div-iff-mul-le (pow-pos (m + 1)) .1 (let q : 1 * 2 ^ (m + 1) ≡ 2 ^ (m + 1) = one-mul (2 ^ (m + 1)) in omega arith) in
-      div-eq-of-lt-le (2 ^ (W - 1 - m)) (omega arith) (omega (arith, field-below r l))
 
   plus-zero : (s : ℕ) → s < 2 ^ W → plus W s 0 ≡ s
   unfolding plus
@@ -345,39 +328,21 @@ module _ (W m : ℕ) (room : m + 2 ≤ W) where
   unfolding field
   from-middle s h = omega (arith, le-div-iff-mul-le (pow-pos (m + 1)) .0 h, middle-units)
 
-  -- the half unless the exponent is zero, and a unit below zero
-  abbrev byNumbers : ℕ → ℕ
-  byNumbers s = someUnit s * 2 ^ (W - 1) + s / 2 ^ (W - 1) * 2 ^ (m + 1)
-
-  pub added-zero : (s : ℕ) → field m s ≡ 0 → byNumbers s ≡ 0
-  unfolding field
-  added-zero s e =
-      let z : s < 2 ^ (m + 1) = fraction-only (m + 1) s e in
-      rw (some-zero s z, div-eq-of-lt (let l : s < 2 ^ (W - 1) = omega (arith, F≤H) in l), zero-mul (2 ^ (W - 1)), zero-mul (2 ^ (m + 1)))
-
-  pub added-above : (s : ℕ) → s < 2 ^ W → 1 ≤ field m s → field m s < 2 ^ (W - 2 - m) → byNumbers s ≡ 2 ^ (W - 2 - m) * 2 ^ (m + 1)
-  added-above s h x g =
-      rw (some-one s (whole-some s x) h, div-eq-of-lt (below-middle s g), one-mul (2 ^ (W - 1)), zero-mul (2 ^ (m + 1)), add-zero (2 ^ (W - 1))) (sym middle-units)
-
-  pub added-below : (s : ℕ) → s < 2 ^ W → 2 ^ (W - 2 - m) ≤ field m s → byNumbers s ≡ (2 ^ (W - 2 - m) + 1) * 2 ^ (m + 1)
-  added-below s h g =
-      rw (some-one s (whole-some s (omega (arith, pow-pos (W - 2 - m)))) h, half-once s h (from-middle s g), one-mul (2 ^ (W - 1)), one-mul (2 ^ (m + 1))) (sym next-units)
-
   -- the inverse is one sum with the amount of the case
-  pub added : (s a : ℕ) → s < 2 ^ W → (field m s ≡ 0 → a ≡ 0) → (1 ≤ field m s → field m s < 2 ^ (W - 2 - m) → a ≡ 2 ^ (W - 2 - m) * 2 ^ (m + 1))
-      → (2 ^ (W - 2 - m) ≤ field m s → a ≡ (2 ^ (W - 2 - m) + 1) * 2 ^ (m + 1)) → plus W s a ≡ unstepped W m s
+  pub added : (s n : ℕ) → s < 2 ^ W → (field m s ≡ 0 → n ≡ 0) → (1 ≤ field m s → field m s < 2 ^ (W - 2 - m) → n ≡ 2 ^ (W - 2 - m))
+      → (1 ≤ field m s → 2 ^ (W - 2 - m) ≤ field m s → n ≡ 2 ^ (W - 2 - m) + 1) → plus W s (n * 2 ^ (m + 1)) ≡ unstepped W m s
   unfolding plus
-  added s a h zero above below = go (le-or-lt (2 ^ (m + 1)) s) (le-or-lt (2 ^ (W - 2 - m)) (field m s))
+  added s n h zero above below = go (le-or-lt (2 ^ (m + 1)) s) (le-or-lt (2 ^ (W - 2 - m)) (field m s))
     where
-      go : (2 ^ (m + 1) ≤ s) ⊎ (s < 2 ^ (m + 1)) → (2 ^ (W - 2 - m) ≤ field m s) ⊎ (field m s < 2 ^ (W - 2 - m)) → plus W s a ≡ unstepped W m s
-      go (inr z) g = ap (plus W s) (zero (field-zero s z)) ∙ plus-zero s h ∙ sym (unstepped-zero s z)
+      go : (2 ^ (m + 1) ≤ s) ⊎ (s < 2 ^ (m + 1)) → (2 ^ (W - 2 - m) ≤ field m s) ⊎ (field m s < 2 ^ (W - 2 - m)) → plus W s (n * 2 ^ (m + 1)) ≡ unstepped W m s
+      go (inr z) g = ap (λ (a : ℕ). plus W s a) (ap (λ (n : ℕ). n * 2 ^ (m + 1)) (zero (field-zero s z)) ∙ zero-mul (2 ^ (m + 1))) ∙ plus-zero s h ∙ sym (unstepped-zero s z)
       go (inl x) (inl g) =
-          ap (plus W s) (below g ∙ next-units)
+          ap (λ (a : ℕ). plus W s a) (ap (λ (n : ℕ). n * 2 ^ (m + 1)) (below (field-some s x) g) ∙ next-units)
           ∙ mod-once (s + (2 ^ (W - 1) + 2 ^ (m + 1))) (2 ^ W) (omega (arith, from-middle s g, H-twice)) (omega (arith, F≤H, H-twice))
           ∙ (let q : s + (2 ^ (W - 1) + 2 ^ (m + 1)) - 2 ^ W ≡ s + 2 ^ (m + 1) - 2 ^ (W - 1) = omega (arith, H-twice) in q)
           ∙ sym (unstepped-low s (from-middle s g) h)
       go (inl x) (inr g) =
-          ap (plus W s) (above (field-some s x) g ∙ middle-units)
+          ap (λ (a : ℕ). plus W s a) (ap (λ (n : ℕ). n * 2 ^ (m + 1)) (above (field-some s x) g) ∙ middle-units)
           ∙ mod-eq-of-lt (let l : s + 2 ^ (W - 1) < 2 ^ W = omega (arith, below-middle s g, H-twice) in l)
           ∙ sym (unstepped-high s x (below-middle s g))
 
