@@ -259,12 +259,12 @@ module _ (W m : ℕ) (room : m + 2 ≤ W) where
       go (inl a) (inl g) = rw (le-leb (2 ^ (m + 1)) r a) (le-ltb r (2 ^ (W - 1) + 2 ^ (m + 1)) g ∙ sym (low-above r g))
       go (inl a) (inr g) = rw (le-leb (2 ^ (m + 1)) r a) (lt-ltb r (2 ^ (W - 1) + 2 ^ (m + 1)) g ∙ sym (low-some r a g))
 
-  pub low-parts : (r : ℕ) → upToMiddle r ≡ true → (1 ≤ field m r) × (field m r ≤ 2 ^ (W - 2 - m))
+  low-parts : (r : ℕ) → upToMiddle r ≡ true → (1 ≤ field m r) × (field m r ≤ 2 ^ (W - 2 - m))
   low-parts r e =
       let parts = both (leb 1 (field m r)) (leb (field m r) (2 ^ (W - 2 - m))) e in
       (leb-true 1 (field m r) (parts .0), leb-true (field m r) (2 ^ (W - 2 - m)) (parts .1))
 
-  pub high-part : (r : ℕ) → upToMiddle r ≡ false → (field m r ≡ 0 → ⊥) → 2 ^ (W - 2 - m) < field m r
+  high-part : (r : ℕ) → upToMiddle r ≡ false → (field m r ≡ 0 → ⊥) → 2 ^ (W - 2 - m) < field m r
   unfolding field
   high-part r e some = go (le-or-lt (field m r) (2 ^ (W - 2 - m)))
     where
@@ -275,18 +275,38 @@ module _ (W m : ℕ) (room : m + 2 ≤ W) where
       go (inl h) = let no : true ≡ false = sym (rw (le-leb 1 (field m r) one, le-leb (field m r) (2 ^ (W - 2 - m)) h)) ∙ e in absurd (let z : _≡_ {A = ℕ} 0 1 = cc in omega arith)
       go (inr h) = h
 
-  -- the step is one difference with the amount of the case
-  pub subtracted : (r a : ℕ) → r < 2 ^ W → (field m r ≡ 0 → a ≡ 0) → (1 ≤ field m r → field m r ≤ 2 ^ (W - 2 - m) → a ≡ (2 ^ (W - 2 - m) + 1) * 2 ^ (m + 1))
-      → (2 ^ (W - 2 - m) < field m r → a ≡ 2 ^ (W - 2 - m) * 2 ^ (m + 1)) → minus W r a ≡ stepped W m r
+  -- the amount of each case
+  abbrev Amount : ℕ → ℕ → Type 0
+  Amount r a =
+      (field m r ≡ 0 → a ≡ 0)
+      × ((1 ≤ field m r → field m r ≤ 2 ^ (W - 2 - m) → a ≡ (2 ^ (W - 2 - m) + 1) * 2 ^ (m + 1)) × (2 ^ (W - 2 - m) < field m r → a ≡ 2 ^ (W - 2 - m) * 2 ^ (m + 1)))
+
+  pub amount-zero : (r : ℕ) → eqb (field m r) 0 ≡ true → Amount r 0
+  amount-zero r e =
+      let zero : field m r ≡ 0 = eqb-true (field m r) 0 e in
+      (λ z. refl, (λ a b. omega arith, λ g. omega arith))
+
+  pub amount-low : (r : ℕ) → upToMiddle r ≡ true → Amount r ((2 ^ (W - 2 - m) + 1) * 2 ^ (m + 1))
+  amount-low r e =
+      let low = low-parts r e in
+      (λ z. absurd (omega (arith, low .0)), (λ a b. refl, λ g. absurd (omega (arith, low .1))))
+
+  pub amount-high : (r : ℕ) → upToMiddle r ≡ false → eqb (field m r) 0 ≡ false → Amount r (2 ^ (W - 2 - m) * 2 ^ (m + 1))
+  amount-high r e f =
+      let high = high-part r e (eqb-false (field m r) 0 f) in
+      (λ z. absurd (omega (arith, high)), (λ a b. absurd (omega (arith, high)), λ g. refl))
+
+  -- the step is one difference with it
+  pub subtracted : (r a : ℕ) → r < 2 ^ W → Amount r a → minus W r a ≡ stepped W m r
   unfolding minus
-  subtracted r a h zero low high = go (le-or-lt (2 ^ (m + 1)) r) (le-or-lt (2 ^ (W - 1) + 2 ^ (m + 1)) r)
+  subtracted r a h amount = go (le-or-lt (2 ^ (m + 1)) r) (le-or-lt (2 ^ (W - 1) + 2 ^ (m + 1)) r)
     where
       go : (2 ^ (m + 1) ≤ r) ⊎ (r < 2 ^ (m + 1)) → (2 ^ (W - 1) + 2 ^ (m + 1) ≤ r) ⊎ (r < 2 ^ (W - 1) + 2 ^ (m + 1)) → minus W r a ≡ stepped W m r
       go (inr z) g =
-          ap (minus W r) (zero (field-zero r z)) ∙ minus-plain (2 ^ W) r 0 (omega arith) h ∙ (let q : r - 0 ≡ r = omega arith in q) ∙ sym (stepped-zero r z)
-      go (inl x) (inl g) = ap (minus W r) (high (field-above r g) ∙ middle-units) ∙ minus-half r (omega arith) h ∙ sym (stepped-high r g h)
+          ap (minus W r) (amount .0 (field-zero r z)) ∙ minus-plain (2 ^ W) r 0 (omega arith) h ∙ (let q : r - 0 ≡ r = omega arith in q) ∙ sym (stepped-zero r z)
+      go (inl x) (inl g) = ap (minus W r) (amount .1 .1 (field-above r g) ∙ middle-units) ∙ minus-half r (omega arith) h ∙ sym (stepped-high r g h)
       go (inl x) (inr g) =
-          ap (minus W r) (low (field-some r x) (field-up-to r g) ∙ next-units)
+          ap (minus W r) (amount .1 .0 (field-some r x) (field-up-to r g) ∙ next-units)
           ∙ minus-wraps (2 ^ W) r (2 ^ (W - 1) + 2 ^ (m + 1)) g (omega (arith, F≤H, H-twice))
           ∙ (let q : r + (2 ^ W - (2 ^ (W - 1) + 2 ^ (m + 1))) ≡ r + 2 ^ (W - 1) - 2 ^ (m + 1) = omega (arith, F≤H, H-twice) in q)
           ∙ sym (stepped-low r x g)

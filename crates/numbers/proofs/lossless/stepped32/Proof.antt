@@ -21,7 +21,7 @@ s-is c =
     let a = c .before .subtracted32 in
     let s = c .wrapping-sub-u32 in
     minus-is 32 (start .args .r) (a .result) (s .result) (s .ok) (a .ok) (s .ensures)
-    ∙ subtracted 32 23 (lit≤ tt) (start .args .r) (a .result) (start .fits .r .fits) (a .ensures .0) (a .ensures .1 .0) (a .ensures .1 .1)
+    ∙ subtracted 32 23 (lit≤ tt) (start .args .r) (a .result) (start .fits .r .fits) (a .ensures)
 
 exponent-up-to-middle32-requires : tie.Need-exponent-up-to-middle32-requires
 exponent-up-to-middle32-requires c κs = search needs

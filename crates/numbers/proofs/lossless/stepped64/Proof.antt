@@ -21,7 +21,7 @@ s-is c =
     let a = c .before .subtracted64 in
     let s = c .wrapping-sub-u64 in
     minus-is 64 (start .args .r) (a .result) (s .result) (s .ok) (a .ok) (s .ensures)
-    ∙ subtracted 64 52 (lit≤ tt) (start .args .r) (a .result) (start .fits .r .fits) (a .ensures .0) (a .ensures .1 .0) (a .ensures .1 .1)
+    ∙ subtracted 64 52 (lit≤ tt) (start .args .r) (a .result) (start .fits .r .fits) (a .ensures)
 
 exponent-up-to-middle64-requires : tie.Need-exponent-up-to-middle64-requires
 exponent-up-to-middle64-requires c κs = search needs
