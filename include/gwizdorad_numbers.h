@@ -38,7 +38,7 @@
  */
 #define GWZ_VERSION_MAJOR 0
 #define GWZ_VERSION_MINOR 9
-#define GWZ_VERSION_PATCH 0
+#define GWZ_VERSION_PATCH 1
 #define GWZ_VERSION "0.9.1"
 
 #ifndef GWZ_HELPER
