@@ -21,8 +21,9 @@ fn rotated64(p: u64) -> u64
 }
 
 // ---- the exponent step and its inverse. Document 01: "In effect exponent 0 stays 0, and in single precision 1..128 become -128..-1 and 129..255 become 1..127;
-// in double, 1..1024 become -1024..-1 and 1025..2047 become 1..1023." So its two subtractions, of 128 units and then perhaps of one, come to one amount in each
-// of three cases of the exponent number: zero, up to the middle, above it. The fraction and the sign stand below the units and stay as they are.
+// in double, 1..1024 become -1024..-1 and 1025..2047 become 1..1023." So its two subtractions, of 128 units (in double 1024) and then perhaps of one, come to
+// one amount in each of three cases of the exponent number: zero, from 1 up to the middle, above it. The fraction and the sign stand below the units and
+// stay as they are.
 
 // One unit of the exponent field, and the middle exponent, which is 128 units, in double 1024.
 const UNIT32: u32 = 0x0100_0000;
@@ -33,8 +34,8 @@ const UNIT64: u64 = 0x0020_0000_0000_0000;
 
 const MIDDLE64: u64 = 0x8000_0000_0000_0000;
 
-// What is subtracted in each case. Up to the middle comes first, for speed: the other two amounts differ in the highest bit alone, and since that bit of the
-// result is told (`told_highest_bit32`), the compiler need not tell the two apart.
+// What is subtracted in each case. Up to the middle comes first, for speed: the other two amounts differ in the highest bit alone, and the compiler, which is
+// told that bit of the result (`told_highest_bit32`), need not choose between them.
 fn subtracted32(r: u32) -> u32
     ensures zero { λ a. ⌜ (field 23 r ≡ 0 → a ≡ 0) ⌝ }
     ensures up_to_middle { λ a. ⌜ (1 ≤ field 23 r → field 23 r ≤ 128 → a ≡ 129 * 2 ^ 24) ⌝ }
@@ -63,7 +64,7 @@ fn subtracted64(r: u64) -> u64
     MIDDLE64 // above the middle, 1024 units: 1025..2047 become 1..1023
 }
 
-// Whether the exponent is 0. It stands highest in a pattern, so comparing the whole with one unit decides it.
+// Whether the exponent is 0. It stands highest in a rotated pattern, so comparing the whole with one unit decides it.
 fn exponent_zero32(r: u32) -> bool
     ensures { λ b. ⌜ b ≡ eqb (field 23 r) 0 ⌝ }
 {
@@ -106,7 +107,7 @@ fn stepped64(r: u64) -> u64
 }
 
 // Returns s unchanged. It only lets the compiler know the highest bit of s without looking for it in the difference: the bit is set exactly where the exponent
-// was up to the middle, since only those come out below zero.
+// was from 1 up to the middle, since only those come out below zero.
 fn told_highest_bit32(s: u32, set: bool) -> u32
     requires { ⌜ set ≡ leb (2 ^ 31) s ⌝ }
     ensures { λ t. ⌜ t ≡ s ⌝ }
@@ -144,7 +145,7 @@ fn added(exponent: u32, middle: u32) -> u32
     if exponent < middle {
         return middle; // above zero: 1..127 become 129..255, in double 1..1023 become 1025..2047
     }
-    middle + 1 // below zero: -128..-1 become 1..128, in double -1024..-1 become 1..1024
+    middle + 1 // below zero: -128..-1, as 128..255, become 1..128, in double -1024..-1 become 1..1024
 }
 
 // The inverse is one wrapping sum.
