@@ -11,14 +11,14 @@ use Rattle.numbers.specs.Lossless.{rotated, field, minus, lowered, stepped, los
 use Rattle.numbers.specs.Difference.{differenceCode, differenceCodes, differenceRestored, runningSums}
 use Rattle.blocks.specs.Bytes.{number, digits}
 use Rattle.stream.specs.Group.{bytesFor, largest, widthOf, packed, groupBytes, givenWidth, groupLength, groupNumber, groupCodes, within, goodGroup}
-use Rattle.stream.specs.Setting.{highestLevel, knownLevel, knownWidth, fractionBits, widthNeed, modeNeed, need, losslessMode, isZero, allowedSetting, binFor, settingOf, kBits, groupSize, codeAt, patternAt, codesAfter, patternsAfter, limitOf}
+use Rattle.stream.specs.Setting.{highestLevel, knownLevel, knownWidth, fractionBits, widthNeed, modeNeed, need, someHigh, streamNeed, losslessMode, isZero, allowedSetting, binFor, settingOf, kBits, groupSize, codeAt, patternAt, codesAfter, patternsAfter, limitOf}
 use Rattle.stream.specs.Chunk.{groupsIn, groupsBytes, chunkBytes, firstFault, chunkAnswer, groupsCodes, chunkCodes}
 use Rattle.stream.specs.Rows.{rowsFrom, first, answer, after}
 use Rattle.stream.specs.Header.{word, headerOf, kOf, chunksIn, tooMany, needRight, settingRight, layoutRight}
-use Rattle.stream.specs.Tables.{every, startAt, startRight, chunkTableRight, partAt, sideTableRight}
+use Rattle.stream.specs.Tables.{every, startAt, startRight, chunkTableRight, partAt, sideTableRight, idsFrom, idsIn}
 use Rattle.stream.specs.Stream.{joined, countOf, chunkOf, chunkState, chunkValues, valuesIn, values}
 use Rattle.stream.specs.Writing.{spell, piece, pieceBytes, dataOf, startsOf, headerNumbers, endOf, body, stream}
-use Rattle.stream.specs.Operations.{headerRows, openingRows, tableRows, faultDetail, faultRow, chunkRow, chunkRows, contentRows, widthRow, checkRows, checkAnswer, roomRow, unpackRows, unpackOut}
+use Rattle.stream.specs.Operations.{headerRows, openingRows, needRow, sideRows, tableRows, faultDetail, faultRow, chunkRow, chunkRows, contentRows, widthRow, checkRows, checkAnswer, roomRow, unpackRows, unpackOut}
 use Rattle.stream.specs.declared.answers.Answer.the-variants.{Done, Refused}
 
 pub threeValues : List ℕ
@@ -31,12 +31,12 @@ pub packed-known : stream 8 (settingOf 32 0 (pos 0)) threeValues ≡ theirBytes
 unfolding size signedView folded bitsOf rotated field minus lowered stepped losslessCode number digits bytesFor largest widthOf packed groupBytes fractionBits widthNeed modeNeed need kBits binFor groupSize codeAt codesAfter groupsIn groupsBytes chunkBytes chunksIn joined spell piece pieceBytes dataOf startsOf headerNumbers endOf body stream threeValues theirBytes
 packed-known = refl
 
-pub checked-known : map (λ (level : ℕ). checkAnswer level theirBytes) (8 ∷ 9 ∷ 10 ∷ 11 ∷ []) ≡ Done 3 ∷ Done 3 ∷ Done 3 ∷ Done 3 ∷ []
-unfolding size signedView folded bitsOf number digits bytesFor largest widthOf givenWidth groupLength groupNumber groupCodes within goodGroup highestLevel knownLevel knownWidth fractionBits widthNeed modeNeed need losslessMode isZero allowedSetting binFor groupSize limitOf groupsIn firstFault chunkAnswer first answer word headerOf kOf chunksIn tooMany needRight settingRight layoutRight every startAt startRight chunkTableRight partAt sideTableRight countOf chunkOf chunkState spell headerRows openingRows tableRows faultDetail faultRow rowsFrom chunkRow chunkRows contentRows checkRows checkAnswer theirBytes
+pub checked-known : map (λ (level : ℕ). checkAnswer level theirBytes) (8 ∷ 9 ∷ 10 ∷ 11 ∷ 12 ∷ []) ≡ Done 3 ∷ Done 3 ∷ Done 3 ∷ Done 3 ∷ Done 3 ∷ []
+unfolding size signedView folded bitsOf number digits bytesFor largest widthOf givenWidth groupLength groupNumber groupCodes within goodGroup highestLevel knownLevel knownWidth fractionBits widthNeed modeNeed need someHigh streamNeed losslessMode isZero allowedSetting binFor groupSize limitOf groupsIn firstFault chunkAnswer first answer word headerOf kOf chunksIn tooMany needRight settingRight layoutRight every startAt startRight chunkTableRight partAt sideTableRight idsFrom idsIn countOf chunkOf chunkState spell headerRows openingRows needRow sideRows tableRows faultDetail faultRow rowsFrom chunkRow chunkRows contentRows checkRows checkAnswer theirBytes
 checked-known = refl
 
 pub unpacked-known : unpackOut 32 10 theirBytes (7 ∷ 7 ∷ 7 ∷ 7 ∷ []) ≡ threeValues ++ (7 ∷ [])
-unfolding size signedView folded unfolded bitsOf number digits plus raised unstepped unrotated losslessRestored field bytesFor largest widthOf givenWidth groupLength groupNumber groupCodes within goodGroup highestLevel knownLevel knownWidth fractionBits widthNeed modeNeed need losslessMode isZero allowedSetting binFor groupSize limitOf patternAt patternsAfter groupsIn firstFault chunkAnswer groupsCodes chunkCodes first answer after word headerOf kOf chunksIn tooMany needRight settingRight layoutRight every startAt startRight chunkTableRight partAt sideTableRight joined countOf chunkOf chunkState chunkValues valuesIn values spell headerRows openingRows tableRows faultDetail faultRow rowsFrom chunkRow chunkRows contentRows widthRow roomRow unpackRows unpackOut threeValues theirBytes
+unfolding size signedView folded unfolded bitsOf number digits plus raised unstepped unrotated losslessRestored field bytesFor largest widthOf givenWidth groupLength groupNumber groupCodes within goodGroup highestLevel knownLevel knownWidth fractionBits widthNeed modeNeed need someHigh streamNeed losslessMode isZero allowedSetting binFor groupSize limitOf patternAt patternsAfter groupsIn firstFault chunkAnswer groupsCodes chunkCodes first answer after word headerOf kOf chunksIn tooMany needRight settingRight layoutRight every startAt startRight chunkTableRight partAt sideTableRight idsFrom idsIn joined countOf chunkOf chunkState chunkValues valuesIn values spell headerRows openingRows needRow sideRows tableRows faultDetail faultRow rowsFrom chunkRow chunkRows contentRows widthRow roomRow unpackRows unpackOut threeValues theirBytes
 unpacked-known = refl
 
 -- ---- mode 2, at level 11: 5, 7, 7, 4 are 4 bits each: 10, 4, 0, 5
@@ -52,12 +52,12 @@ unfolding size signedView folded bitsOf rotated field minus lowered stepped loss
 differences-packed = refl
 
 -- a reader of level 10 or below refuses it by 7, with detail 11
-pub differences-checked : map (λ (level : ℕ). checkAnswer level theirDifferences) (8 ∷ 9 ∷ 10 ∷ 11 ∷ []) ≡ Refused 7 11 ∷ Refused 7 11 ∷ Refused 7 11 ∷ Done 4 ∷ []
-unfolding size signedView folded bitsOf number digits bytesFor largest widthOf givenWidth groupLength groupNumber groupCodes within goodGroup highestLevel knownLevel knownWidth fractionBits widthNeed modeNeed need losslessMode isZero allowedSetting binFor groupSize limitOf groupsIn firstFault chunkAnswer first answer word headerOf kOf chunksIn tooMany needRight settingRight layoutRight every startAt startRight chunkTableRight partAt sideTableRight countOf chunkOf chunkState spell headerRows openingRows tableRows faultDetail faultRow rowsFrom chunkRow chunkRows contentRows checkRows checkAnswer theirDifferences
+pub differences-checked : map (λ (level : ℕ). checkAnswer level theirDifferences) (8 ∷ 9 ∷ 10 ∷ 11 ∷ 12 ∷ []) ≡ Refused 7 11 ∷ Refused 7 11 ∷ Refused 7 11 ∷ Done 4 ∷ Done 4 ∷ []
+unfolding size signedView folded bitsOf number digits bytesFor largest widthOf givenWidth groupLength groupNumber groupCodes within goodGroup highestLevel knownLevel knownWidth fractionBits widthNeed modeNeed need someHigh streamNeed losslessMode isZero allowedSetting binFor groupSize limitOf groupsIn firstFault chunkAnswer first answer word headerOf kOf chunksIn tooMany needRight settingRight layoutRight every startAt startRight chunkTableRight partAt sideTableRight idsFrom idsIn countOf chunkOf chunkState spell headerRows openingRows needRow sideRows tableRows faultDetail faultRow rowsFrom chunkRow chunkRows contentRows checkRows checkAnswer theirDifferences
 differences-checked = refl
 
 pub differences-unpacked : unpackOut 32 11 theirDifferences (9 ∷ 9 ∷ 9 ∷ 9 ∷ 9 ∷ []) ≡ fourValues ++ (9 ∷ [])
-unfolding size signedView folded unfolded bitsOf number digits plus raised unstepped unrotated losslessRestored field bytesFor largest widthOf givenWidth groupLength groupNumber groupCodes within goodGroup highestLevel knownLevel knownWidth fractionBits widthNeed modeNeed need losslessMode isZero allowedSetting binFor groupSize limitOf patternAt patternsAfter groupsIn firstFault chunkAnswer groupsCodes chunkCodes first answer after word headerOf kOf chunksIn tooMany needRight settingRight layoutRight every startAt startRight chunkTableRight partAt sideTableRight joined countOf chunkOf chunkState chunkValues valuesIn values spell headerRows openingRows tableRows faultDetail faultRow rowsFrom chunkRow chunkRows contentRows widthRow roomRow unpackRows unpackOut differenceRestored runningSums fourValues theirDifferences
+unfolding size signedView folded unfolded bitsOf number digits plus raised unstepped unrotated losslessRestored field bytesFor largest widthOf givenWidth groupLength groupNumber groupCodes within goodGroup highestLevel knownLevel knownWidth fractionBits widthNeed modeNeed need someHigh streamNeed losslessMode isZero allowedSetting binFor groupSize limitOf patternAt patternsAfter groupsIn firstFault chunkAnswer groupsCodes chunkCodes first answer after word headerOf kOf chunksIn tooMany needRight settingRight layoutRight every startAt startRight chunkTableRight partAt sideTableRight idsFrom idsIn joined countOf chunkOf chunkState chunkValues valuesIn values spell headerRows openingRows needRow sideRows tableRows faultDetail faultRow rowsFrom chunkRow chunkRows contentRows widthRow roomRow unpackRows unpackOut differenceRestored runningSums fourValues theirDifferences
 differences-unpacked = refl
 
 -- what each setting needs: widths 32 and 64, modes 0, 1 and 2

@@ -11,9 +11,10 @@ use lib.Seq.{getD-append-add, getD-drop}
 use Rattle.stream.specs.Setting.{knownLevel}
 use Rattle.stream.specs.Header.{headerOf}
 use Rattle.stream.specs.Stream.{values, valueAt}
-use Rattle.stream.specs.Rows.{first, Decides, numbersOf, answer, after}
+use Rattle.stream.specs.Tables.{idsIn}
+use Rattle.stream.specs.Rows.{Row, first, Decides, numbersOf, answer, after}
 use Rattle.stream.specs.Probe.{shown32, shown64, probed32, probed64}
-use Rattle.stream.specs.Operations.{headerRows, openingRows, tableRows, contentRows, widthRow, roomRow, indexRow, ownRows, checkRows, checkAnswer, unpackRows, unpackAnswer, unpackOut, probeRows, probeAnswer32, probeAnswer64}
+use Rattle.stream.specs.Operations.{headerRows, openingRows, needRow, sideRows, tableRows, chunkRow, chunkRows, contentRows, widthRow, roomRow, indexRow, ownRows, checkRows, checkAnswer, unpackRows, unpackAnswer, unpackOut, probeRows, probeAnswer32, probeAnswer64}
 use Rattle.stream.specs.Theorem.{Apart, InChunk}
 use Rattle.stream.specs.declared.answers.Answer.the-variants.{Done, Refused}
 use Rattle.stream.specs.declared.answers.Probe32.the-variants as p32
@@ -23,6 +24,7 @@ use Rattle.stream.specs.declared.answers.Step.the-variants.{Pass}
 use Rattle.stream.proofs.Law.Values.OtherChunks.{byte-apart, probe-same, value-same}
 use Rattle.stream.proofs.Law.Header.Layout.{laid-out}
 use Rattle.stream.proofs.Law.Rows.First.{decides, decided}
+use Rattle.stream.proofs.Law.Rows.Ids.{id-numbers, length-ids}
 use Rattle.stream.proofs.Law.Rows.Chunks.{chunk-numbers, own-number}
 use Rattle.stream.proofs.Law.Rows.Passed.{opening, tables, unpacking}
 use Rattle.stream.proofs.Law.Values.ThreeReaders.{done-pass, refused-stop, refused-stop32, refused-stop64, shown-pass32, shown-pass64, unpack-check, counted, probe-passes, probe-value, higher-check, higher-unpack, higher-probe}
@@ -57,19 +59,37 @@ refused-probe64 level s i number detail = (
   λ d. ap (λ (a : Step). probed64 a (valueAt s i)) (decided (probeRows 64 level s i) number detail d),
 )
 
--- ---- the stated order: "Check: 1 5 6 7 8 9 10. Unpack: 1 5 6 7 8 14 4 9 10. Probe: 1 5 6 7 8 14 11 9 10", with a row 10 for each chunk
+-- ---- the stated order: check 1 5 6 7 8 9 8 15 10, unpack 1 5 6 7 8 14 4 9 8 15 10, probe 1 5 6 7 8 14 11 9 8 15 10, with a row 15 for each side
+-- part and a row 10 for each chunk
 
-pub check-order : (level : ℕ) (s : List ℕ) → numbersOf (checkRows level s) ≡ 1 ∷ 5 ∷ 6 ∷ 7 ∷ 8 ∷ 9 ∷ replicate (headerOf s .chunks) 10
-unfolding checkRows openingRows headerRows contentRows tableRows numbersOf
-check-order level s = ap (λ (l : List ℕ). 1 ∷ 5 ∷ 6 ∷ 7 ∷ 8 ∷ 9 ∷ l) (chunk-numbers (headerOf s) s)
+-- 9 8 15 and what comes behind
+table-order : (s : List ℕ) (rows : List Row) → numbersOf (tableRows (headerOf s) s ++ rows) ≡ 9 ∷ 8 ∷ (replicate (headerOf s .sides) 15 ++ numbersOf rows)
+unfolding tableRows sideRows needRow numbersOf
+table-order s rows =
+    ap (λ (l : List ℕ). 9 ∷ 8 ∷ l)
+    (id-numbers (idsIn (headerOf s) s) rows ∙ ap (λ (n : ℕ). replicate n 15 ++ numbersOf rows) (length-ids (headerOf s) s))
 
-pub unpack-order : (W level : ℕ) (s : List ℕ) (room : ℕ) → numbersOf (unpackRows W level s room) ≡ 1 ∷ 5 ∷ 6 ∷ 7 ∷ 8 ∷ 14 ∷ 4 ∷ 9 ∷ replicate (headerOf s .chunks) 10
-unfolding unpackRows openingRows headerRows widthRow roomRow contentRows tableRows numbersOf
-unpack-order W level s room = ap (λ (l : List ℕ). 1 ∷ 5 ∷ 6 ∷ 7 ∷ 8 ∷ 14 ∷ 4 ∷ 9 ∷ l) (chunk-numbers (headerOf s) s)
+content-order : (s : List ℕ) → numbersOf (contentRows (headerOf s) s) ≡ 9 ∷ 8 ∷ (replicate (headerOf s .sides) 15 ++ replicate (headerOf s .chunks) 10)
+unfolding contentRows
+content-order s =
+    table-order s (chunkRows (headerOf s) s) ∙ ap (λ (l : List ℕ). 9 ∷ 8 ∷ (replicate (headerOf s .sides) 15 ++ l)) (chunk-numbers (headerOf s) s)
 
-pub probe-order : (W level : ℕ) (s : List ℕ) (i : ℕ) → numbersOf (probeRows W level s i) ≡ 1 ∷ 5 ∷ 6 ∷ 7 ∷ 8 ∷ 14 ∷ 11 ∷ 9 ∷ 10 ∷ []
-unfolding probeRows openingRows headerRows widthRow indexRow ownRows tableRows numbersOf
-probe-order W level s i = ap (λ (l : List ℕ). 1 ∷ 5 ∷ 6 ∷ 7 ∷ 8 ∷ 14 ∷ 11 ∷ 9 ∷ l) (own-number (headerOf s) s (i / 1024))
+pub check-order : (level : ℕ) (s : List ℕ)
+    → numbersOf (checkRows level s) ≡ 1 ∷ 5 ∷ 6 ∷ 7 ∷ 8 ∷ 9 ∷ 8 ∷ (replicate (headerOf s .sides) 15 ++ replicate (headerOf s .chunks) 10)
+unfolding checkRows openingRows headerRows numbersOf
+check-order level s = ap (λ (l : List ℕ). 1 ∷ 5 ∷ 6 ∷ 7 ∷ 8 ∷ l) (content-order s)
+
+pub unpack-order : (W level : ℕ) (s : List ℕ) (room : ℕ)
+    → numbersOf (unpackRows W level s room) ≡ 1 ∷ 5 ∷ 6 ∷ 7 ∷ 8 ∷ 14 ∷ 4 ∷ 9 ∷ 8 ∷ (replicate (headerOf s .sides) 15 ++ replicate (headerOf s .chunks) 10)
+unfolding unpackRows openingRows headerRows widthRow roomRow numbersOf
+unpack-order W level s room = ap (λ (l : List ℕ). 1 ∷ 5 ∷ 6 ∷ 7 ∷ 8 ∷ 14 ∷ 4 ∷ l) (content-order s)
+
+pub probe-order : (W level : ℕ) (s : List ℕ) (i : ℕ)
+    → numbersOf (probeRows W level s i) ≡ 1 ∷ 5 ∷ 6 ∷ 7 ∷ 8 ∷ 14 ∷ 11 ∷ 9 ∷ 8 ∷ (replicate (headerOf s .sides) 15 ++ (10 ∷ []))
+unfolding probeRows openingRows headerRows widthRow indexRow ownRows numbersOf
+probe-order W level s i =
+    ap (λ (l : List ℕ). 1 ∷ 5 ∷ 6 ∷ 7 ∷ 8 ∷ 14 ∷ 11 ∷ l)
+    (table-order s (chunkRow (headerOf s) s (i / 1024) ∷ []) ∙ ap (λ (l : List ℕ). 9 ∷ 8 ∷ (replicate (headerOf s .sides) 15 ++ l)) (own-number (headerOf s) s (i / 1024)))
 
 -- ---- unpack's output
 

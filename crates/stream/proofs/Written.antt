@@ -1,9 +1,9 @@
 -- What is written, and that it is read back: the theorems on packed streams, plain or with well-formed side parts behind the data, for
 -- any width that document 01 knows. The proofs are citations of the laws in proofs/Law/. The words are those of specs/.
-use mathlib.Core.Path.{_≡_, refl, sym, ap, subst, _∙_}
+use mathlib.Core.Path.{_≡_, refl, sym, ap, ap₂, subst, _∙_}
 use mathlib.Core.Logic.{_⊎_, inl, inr, _↔_}
-use mathlib.Core.Bool.{true, cond}
-use mathlib.Core.List.{List, [], _∷_, _++_}
+use mathlib.Core.Bool.{true, false, cond}
+use mathlib.Core.List.{List, [], _∷_, _++_, map}
 use Prim.Native.Nat.{ℕ, _+_, _-_, _*_, _/_, _^_, _≤_, _<_}
 use borrow.Author.Tests.{eq-eqb, lt-ltb, le-ltb}
 use lib.Dec.{ltb}
@@ -13,16 +13,16 @@ use lib.Seq.{take-at}
 use Rattle.bins.specs.Tolerance.{binOf, ordinal}
 use Rattle.numbers.specs.Theorem.{Within}
 use Rattle.blocks.specs.Bytes.{Below}
-use Rattle.stream.specs.Setting.{knownLevel, knownWidth, fractionBits, losslessMode, binFor, settingOf, need, groupSize}
+use Rattle.stream.specs.Setting.{knownLevel, knownWidth, fractionBits, losslessMode, binFor, settingOf, need, someHigh, firstHigh, streamNeed, groupSize}
 use Rattle.stream.specs.Chunk.{groupsIn}
 use Rattle.stream.specs.Rows.{row, first, Decides, numbersOf, answer, after}
-use Rattle.stream.specs.Header.{word, headerOf, chunksIn, settingRight, layoutRight}
-use Rattle.stream.specs.Tables.{chunkTableRight, sideTableRight}
+use Rattle.stream.specs.Header.{word, headerOf, settingIn, chunksIn, settingRight, layoutRight}
+use Rattle.stream.specs.Tables.{chunkTableRight, sideTableRight, idsIn}
 use Rattle.stream.specs.Stream.{chunkState, values}
-use Rattle.stream.specs.Writing.{headerNumbers, endOf, stream, Side, addSides, WellFormedSides}
+use Rattle.stream.specs.Writing.{headerNumbers, endOf, stream, Side, addSides, idsOf, withNeed, WellFormedSides}
 use Rattle.stream.specs.Packing.{Packable, Sent, mostBytes}
 use Rattle.stream.specs.Theorem.{comingBack}
-use Rattle.stream.specs.Operations.{checkRows, checkAnswer, unpackRows, unpackAnswer, unpackOut, probeRows, lengthRows, lengthAnswer, packRows, packAnswer, packOut}
+use Rattle.stream.specs.Operations.{idRow, checkRows, checkAnswer, unpackRows, unpackAnswer, unpackOut, probeRows, lengthRows, lengthAnswer, packRows, packAnswer, packOut}
 use Rattle.stream.specs.declared.answers.Answer.the-variants.{Done, Refused}
 use Rattle.stream.specs.declared.answers.Step.{Step}
 use Rattle.stream.specs.declared.answers.Step.the-variants.{Pass, Stop}
@@ -32,9 +32,11 @@ use Rattle.blocks.proofs.Law.Truth.{le-or-lt}
 use Rattle.stream.proofs.Law.Rows.First.{opened-both, decides, decided}
 use Rattle.stream.proofs.Law.Values.ThreeReaders.{done-pass, refused-stop}
 use Rattle.stream.proofs.Law.Written.Pieces.{end-most}
-use Rattle.stream.proofs.Law.Rows.Packing.{length-passed, rows-pass, room-enough, length-stream, length-done, pack-done}
-use Rattle.stream.proofs.Law.ReadBack.Readers.{plain-sent, bytes-sent, header-words, header-read, setting-kept, layout-kept, chunk-table-kept, side-table-kept, chunks-kept, values-read, check-pass, check-stop, unpack-pass, unpack-stop, probe-pass, probe-stop}
+use Rattle.stream.proofs.Law.Rows.Ids.{low-pass, high-stop}
+use Rattle.stream.proofs.Law.Rows.Packing.{Passed, length-passed, rows-pass, room-enough, length-stream, length-done, pack-done}
+use Rattle.stream.proofs.Law.ReadBack.Readers.{low-sent, plain-sent, bytes-sent, header-words, header-read, setting-kept, layout-kept, chunk-table-kept, side-table-kept, need-is-kept, chunks-kept, values-read, check-read, check-stop, unpack-read, unpack-stop, probe-read, probe-stop}
 use Rattle.stream.proofs.Law.Setting.Allowed.{level-small, made-allowed, storable}
+use Rattle.stream.proofs.Law.Setting.Widths.{low-need}
 use Rattle.stream.proofs.Law.ReadBack.Values.{lossless-back, length-back, tolerance-back, special-back}
 
 -- Demand 1: a refused pack leaves its output as it was.
@@ -76,12 +78,15 @@ module _ (W level mode : ℕ) (k : ℤ) (vs out : List ℕ) (n : ℕ) (done : pa
   unfolding packAnswer
   passes = done-pass (first (packRows W level mode k vs (length out))) (length (stream level (settingOf W mode k) vs)) n done
 
-  pub accepted-list : knownWidth W ≡ true → Below (2 ^ W) vs → Packable W level mode k vs
+  three-passed : Passed W level mode k (length vs)
   unfolding packRows
-  accepted-list width below =
+  three-passed =
       let size = length (stream level (settingOf W mode k) vs) in
-      let three = opened-both (lengthRows W level mode k (length vs)) (row 4 (ltb (length out) size) size ∷ []) (passes .0) .0 in
-      let p = length-passed W level mode k (length vs) three in
+      length-passed W level mode k (length vs) (opened-both (lengthRows W level mode k (length vs)) (row 4 (ltb (length out) size) size ∷ []) (passes .0) .0)
+
+  pub accepted-list : knownWidth W ≡ true → Below (2 ^ W) vs → Packable W level mode k vs
+  accepted-list width below =
+      let p = three-passed in
       record {
         width = width;
         minor = level-small level (p .known);
@@ -102,14 +107,25 @@ module _ (W level mode : ℕ) (k : ℤ) (vs out : List ℕ) (n : ℕ) (done : pa
   unfolding packOut after
   accepted-leaves = (sym (passes .1), rw (passes .0, passes .1))
 
-  pub accepted-is-sent : (ps : List Side) → WellFormedSides (n + 12 * length ps) ps
-      → Sent level (settingOf W mode k) vs (addSides (take n (packOut W level mode k vs out)) ps)
-  accepted-is-sent ps well =
-      record {
-        sides = ps;
-        well-formed = subst (λ (m : ℕ). WellFormedSides (m + 12 * length ps) ps) (sym (passes .1)) well;
-        bytes = ap (λ (b : List ℕ). addSides b ps) accepted-bytes;
-      }
+  -- and what a reader may meet of it: with side parts of which no id is high, and with any others and the need that they ask for
+  module _ (ps : List Side) (well : WellFormedSides (n + 12 * length ps) ps) where
+    lies : WellFormedSides (length (stream level (settingOf W mode k) vs) + 12 * length ps) ps
+    lies = subst (λ (m : ℕ). WellFormedSides (m + 12 * length ps) ps) (sym (passes .1)) well
+
+    pub accepted-is-sent : someHigh (idsOf ps) ≡ false → Sent level (settingOf W mode k) vs (addSides (take n (packOut W level mode k vs out)) ps)
+    accepted-is-sent low =
+        subst (λ (b : List ℕ). Sent level (settingOf W mode k) vs (addSides b ps)) (sym accepted-bytes)
+        (low-sent level (settingOf W mode k) vs ps (three-passed .needs) lies low)
+
+    pub accepted-is-raised : (needed : ℕ) → needed ≡ streamNeed (settingOf W mode k) (someHigh (idsOf ps)) → needed ≤ level
+        → Sent level (settingOf W mode k) vs (withNeed needed (addSides (take n (packOut W level mode k vs out)) ps))
+    accepted-is-raised needed is reached =
+        record {
+          sides = ps;
+          well-formed = lies;
+          reached = rw (← is) reached;
+          bytes = ap₂ (λ (m : ℕ) (b : List ℕ). withNeed m (addSides b ps)) is accepted-bytes;
+        }
 
 -- for a list that a stream may hold
 module _ (W level mode : ℕ) (k : ℤ) (vs : List ℕ) (p : Packable W level mode k vs) where
@@ -138,32 +154,43 @@ module _ (W level mode : ℕ) (k : ℤ) (vs : List ℕ) (p : Packable W level mo
   -- ---- what a reader meets: the plain stream, or one with side parts behind its data
 
   pub the-plain-stream : Sent level (settingOf W mode k) vs (stream level (settingOf W mode k) vs)
-  the-plain-stream = plain-sent level (settingOf W mode k) vs
+  the-plain-stream = plain-sent level (settingOf W mode k) vs (p .needs)
 
-  pub with-side-parts : (ps : List Side) → WellFormedSides (length (stream level (settingOf W mode k) vs) + 12 * length ps) ps
+  -- side parts without a high id leave the need as it was
+  pub with-side-parts : (ps : List Side) → WellFormedSides (length (stream level (settingOf W mode k) vs) + 12 * length ps) ps → someHigh (idsOf ps) ≡ false
       → Sent level (settingOf W mode k) vs (addSides (stream level (settingOf W mode k) vs) ps)
-  with-side-parts ps well = record { sides = ps; well-formed = well; bytes = refl }
+  with-side-parts ps well low = low-sent level (settingOf W mode k) vs ps (p .needs) well low
 
   module _ (s : List ℕ) (sent : Sent level (settingOf W mode k) vs s) where
+    -- the ids of its side parts, and its need
+    abbrev ids : List ℕ
+    ids = idsOf (sent .sides)
+
+    abbrev needed : ℕ
+    needed = streamNeed (settingOf W mode k) (someHigh ids)
+
     -- it is bytes
     pub bytes-only : Below 256 s
     bytes-only = bytes-sent level (settingOf W mode k) vs (storable W level mode k vs p) s sent
 
-    -- the table "at | number" is read as it was written
+    -- the table "at | number" is read as it was written, with that need in the third place
     pub the-header-is-read : (j : ℕ) → j < 12
-        → word s (4 * j) ≡ getD (headerNumbers level (settingOf W mode k) (length vs) (length (sent .sides)) (endOf (settingOf W mode k) vs (chunksIn (length vs)))) j 0
+        → word s (4 * j)
+        ≡ getD (1 ∷ level ∷ needed ∷ drop 3 (headerNumbers level (settingOf W mode k) (length vs) (length (sent .sides)) (endOf (settingOf W mode k) vs (chunksIn (length vs))))) j 0
     the-header-is-read = header-words level (settingOf W mode k) vs (storable W level mode k vs p) s sent
 
     -- no rule of the refusals 8, 9 and 10 is broken
     pub every-rule-is-kept :
         (settingRight (headerOf s) ≡ true) × (layoutRight (length s) (headerOf s) ≡ true)
         × (chunkTableRight (headerOf s) s ≡ true) × (sideTableRight (headerOf s) s ≡ true)
+        × (headerOf s .needed ≡ streamNeed (settingIn (headerOf s)) (someHigh (idsIn (headerOf s) s)))
         × ((j : ℕ) → j < chunksIn (length vs) → chunkState (headerOf s) s j ≡ Good)
     every-rule-is-kept = (
       setting-kept level (settingOf W mode k) vs (storable W level mode k vs p) s sent,
       layout-kept level (settingOf W mode k) vs (storable W level mode k vs p) s sent,
       chunk-table-kept level (settingOf W mode k) vs (storable W level mode k vs p) s sent,
       side-table-kept level (settingOf W mode k) vs (storable W level mode k vs p) s sent,
+      need-is-kept level (settingOf W mode k) vs (storable W level mode k vs p) s sent,
       chunks-kept level (settingOf W mode k) vs (storable W level mode k vs p) s sent,
     )
 
@@ -194,45 +221,64 @@ module _ (W level mode : ℕ) (k : ℤ) (vs : List ℕ) (p : Packable W level mo
         → (2 ^ (W - 1 - fractionBits W) - 1) * 2 ^ fractionBits W ≤ ordinal W (getD vs i 0) → getD (values s) i 0 ≡ getD vs i 0
     special-values e i h l = rw the-values-are-read (special-back (settingOf W mode k) (made-allowed W mode k (p .width) (p .allowed)) vs (p .patterns) e i h l)
 
-    -- ---- each level reads what its need allows, and refuses the rest by 7, with the need
+    -- ---- each level refuses by 7, with the need, what it does not reach; of the rest the ids of the side parts decide
 
     module _ (L : ℕ) (known : knownLevel L ≡ true) where
-      pub check-exactly : first (checkRows L s) ≡ cond (ltb L (need (settingOf W mode k))) (Stop 7 (need (settingOf W mode k))) Pass
-      check-exactly = go (le-or-lt (need (settingOf W mode k)) L)
-        where
-          go : (need (settingOf W mode k) ≤ L) ⊎ (L < need (settingOf W mode k)) → first (checkRows L s) ≡ cond (ltb L (need (settingOf W mode k))) (Stop 7 (need (settingOf W mode k))) Pass
-          go (inl h) = rw (le-ltb L (need (settingOf W mode k)) h) (check-pass level (settingOf W mode k) vs (storable W level mode k vs p) s sent L known h)
-          go (inr h) = rw (lt-ltb L (need (settingOf W mode k)) h) (check-stop level (settingOf W mode k) vs (storable W level mode k vs p) s sent L known h)
+      -- 7 with the need, or what the ids say
+      abbrev exactly : Step
+      exactly = cond (ltb L needed) (Stop 7 needed) (first (map idRow ids))
 
-      pub unpack-exactly : (room : ℕ) → length vs ≤ room → first (unpackRows W L s room) ≡ cond (ltb L (need (settingOf W mode k))) (Stop 7 (need (settingOf W mode k))) Pass
-      unpack-exactly room l = go (le-or-lt (need (settingOf W mode k)) L)
+      either-way : (x : Step) → (needed ≤ L → x ≡ first (map idRow ids)) → (L < needed → x ≡ Stop 7 needed) → x ≡ exactly
+      either-way x reads stops = go (le-or-lt needed L)
         where
-          go : (need (settingOf W mode k) ≤ L) ⊎ (L < need (settingOf W mode k)) → first (unpackRows W L s room) ≡ cond (ltb L (need (settingOf W mode k))) (Stop 7 (need (settingOf W mode k))) Pass
-          go (inl h) = rw (le-ltb L (need (settingOf W mode k)) h) (unpack-pass level (settingOf W mode k) vs (storable W level mode k vs p) s sent L known room h l)
-          go (inr h) = rw (lt-ltb L (need (settingOf W mode k)) h) (unpack-stop level (settingOf W mode k) vs (storable W level mode k vs p) s sent L known room h)
+          go : (needed ≤ L) ⊎ (L < needed) → x ≡ exactly
+          go (inl h) = rw (le-ltb L needed h) (reads h)
+          go (inr h) = rw (lt-ltb L needed h) (stops h)
+
+      pub check-exactly : first (checkRows L s) ≡ exactly
+      check-exactly =
+          either-way (first (checkRows L s))
+          (check-read level (settingOf W mode k) vs (storable W level mode k vs p) s sent L known)
+          (check-stop level (settingOf W mode k) vs (storable W level mode k vs p) s sent L known)
+
+      pub unpack-exactly : (room : ℕ) → length vs ≤ room → first (unpackRows W L s room) ≡ exactly
+      unpack-exactly room l =
+          either-way (first (unpackRows W L s room))
+          (unpack-read level (settingOf W mode k) vs (storable W level mode k vs p) s sent L known room l)
+          (unpack-stop level (settingOf W mode k) vs (storable W level mode k vs p) s sent L known room)
 
       -- probe of each index likewise
-      pub probe-exactly : (i : ℕ) → i < length vs → first (probeRows W L s i) ≡ cond (ltb L (need (settingOf W mode k))) (Stop 7 (need (settingOf W mode k))) Pass
-      probe-exactly i l = go (le-or-lt (need (settingOf W mode k)) L)
-        where
-          go : (need (settingOf W mode k) ≤ L) ⊎ (L < need (settingOf W mode k)) → first (probeRows W L s i) ≡ cond (ltb L (need (settingOf W mode k))) (Stop 7 (need (settingOf W mode k))) Pass
-          go (inl h) = rw (le-ltb L (need (settingOf W mode k)) h) (probe-pass level (settingOf W mode k) vs (storable W level mode k vs p) s sent L known i l h)
-          go (inr h) = rw (lt-ltb L (need (settingOf W mode k)) h) (probe-stop level (settingOf W mode k) vs (storable W level mode k vs p) s sent L known i h)
+      pub probe-exactly : (i : ℕ) → i < length vs → first (probeRows W L s i) ≡ exactly
+      probe-exactly i l =
+          either-way (first (probeRows W L s i))
+          (probe-read level (settingOf W mode k) vs (storable W level mode k vs p) s sent L known i l)
+          (probe-stop level (settingOf W mode k) vs (storable W level mode k vs p) s sent L known i)
 
-      -- so where the level reaches the need, check counts the values and unpack hands them out
-      pub it-is-read : need (settingOf W mode k) ≤ L → (out : List ℕ) → length vs ≤ length out
+      -- so where no id is high and the level reaches the need, which is the setting's, check counts the values and unpack hands them out
+      pub it-is-read : someHigh ids ≡ false → need (settingOf W mode k) ≤ L → (out : List ℕ) → length vs ≤ length out
           → (checkAnswer L s ≡ Done (length vs)) × (unpackAnswer W L s (length out) ≡ Done (length vs))
           × (unpackOut W L s out ≡ values s ++ drop (length vs) out)
       unfolding checkAnswer unpackAnswer unpackOut answer after
-      it-is-read h out l =
+      it-is-read low h out l =
           let n = ap (λ (x : Header). x .count) (header-read level (settingOf W mode k) vs (storable W level mode k vs p) s sent) in
-          let passes = unpack-pass level (settingOf W mode k) vs (storable W level mode k vs p) s sent L known (length out) h l in
-          (rw (check-pass level (settingOf W mode k) vs (storable W level mode k vs p) s sent L known h) (ap Done n), rw passes (ap Done n), rw passes (ap (λ (m : ℕ). values s ++ drop m out) n))
+          let reaches : needed ≤ L = rw (low, low-need (settingOf W mode k)) h in
+          let checks = check-read level (settingOf W mode k) vs (storable W level mode k vs p) s sent L known reaches ∙ low-pass ids low in
+          let passes = unpack-read level (settingOf W mode k) vs (storable W level mode k vs p) s sent L known (length out) l reaches ∙ low-pass ids low in
+          (rw checks (ap Done n), rw passes (ap Done n), rw passes (ap (λ (m : ℕ). values s ++ drop m out) n))
 
-      -- and where it does not, both say which level is needed, and the output stays as it was
-      pub it-is-too-new : L < need (settingOf W mode k) → (out : List ℕ)
-          → (checkAnswer L s ≡ Refused 7 (need (settingOf W mode k))) × (unpackAnswer W L s (length out) ≡ Refused 7 (need (settingOf W mode k))) × (unpackOut W L s out ≡ out)
+      -- where it does not reach it, both say which level is needed, and the output stays as it was
+      pub it-is-too-new : L < needed → (out : List ℕ)
+          → (checkAnswer L s ≡ Refused 7 needed) × (unpackAnswer W L s (length out) ≡ Refused 7 needed) × (unpackOut W L s out ≡ out)
       unfolding checkAnswer unpackAnswer unpackOut answer after
       it-is-too-new h out =
           let stops = unpack-stop level (settingOf W mode k) vs (storable W level mode k vs p) s sent L known (length out) h in
           (rw (check-stop level (settingOf W mode k) vs (storable W level mode k vs p) s sent L known h), rw stops, rw stops)
+
+      -- and where it reaches it but some id is high, both name the first such id, and the output stays as it was
+      pub it-is-not-skipped : someHigh ids ≡ true → needed ≤ L → (out : List ℕ) → length vs ≤ length out
+          → (checkAnswer L s ≡ Refused 15 (firstHigh ids)) × (unpackAnswer W L s (length out) ≡ Refused 15 (firstHigh ids)) × (unpackOut W L s out ≡ out)
+      unfolding checkAnswer unpackAnswer unpackOut answer after
+      it-is-not-skipped high h out l =
+          let checks = check-read level (settingOf W mode k) vs (storable W level mode k vs p) s sent L known h ∙ high-stop ids high in
+          let stops = unpack-read level (settingOf W mode k) vs (storable W level mode k vs p) s sent L known (length out) l h ∙ high-stop ids high in
+          (rw checks, rw stops, rw stops)

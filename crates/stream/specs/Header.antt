@@ -51,9 +51,10 @@ tooMany n = ltb 1048576 n
 
 -- ---- refusal 8
 
--- not "need below 8 or not that of the setting, written below needed"
+-- not "need below 8 or not that of the setting, written below needed". Since document 02, R-4, the need "must only be at least the setting's" here: it
+-- "is compared for equality after the tables have passed" (`needRow`).
 unfoldable pub needRight : Header → Bool
-needRight h = leb 8 (h .needed) && eqb (h .needed) (need (settingIn h)) && leb (h .needed) (h .written)
+needRight h = leb 8 (h .needed) && leb (need (settingIn h)) (h .needed) && leb (h .needed) (h .written)
 
 -- and "width, mode, k"
 unfoldable pub settingRight : Header → Bool

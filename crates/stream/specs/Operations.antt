@@ -1,14 +1,14 @@
--- Document 01, "Order": each operation's rows, its answer, and what its lent output holds afterwards. These are the promises.
+-- Document 01, "Order", and document 02, R-4: each operation's rows, its answer, and what its lent output holds afterwards. These are the promises.
 use Prim.Native.Nat.{ℕ, _+_, _*_, _/_}
 use mathlib.Core.Bool.{true, false, _&&_, _||_, not}
-use mathlib.Core.List.{List, [], _∷_, _++_}
+use mathlib.Core.List.{List, [], _∷_, _++_, map}
 use lib.Dec.{ltb, eqb}
 use lib.IntN.{ℤ}
 use lib.ListN.{length, drop}
-use Rattle.stream.specs.Setting.{knownLevel, allowedSetting, settingOf, need}
+use Rattle.stream.specs.Setting.{knownLevel, allowedSetting, settingOf, need, highId, someHigh, streamNeed}
 use Rattle.stream.specs.Rows.{Row, row, rowsFrom, first, answer, after}
-use Rattle.stream.specs.Header.{headerOf, tooMany, settingRight, layoutRight}
-use Rattle.stream.specs.Tables.{chunkTableRight, sideTableRight}
+use Rattle.stream.specs.Header.{headerOf, settingIn, tooMany, settingRight, layoutRight}
+use Rattle.stream.specs.Tables.{chunkTableRight, sideTableRight, idsIn}
 use Rattle.stream.specs.Stream.{chunkState, values, valueAt}
 use Rattle.stream.specs.Writing.{stream}
 use Rattle.stream.specs.Probe.{probed32, probed64}
@@ -35,8 +35,21 @@ openingRows level s =
     ∷ row 5 (ltb (length s) 48) 0
     ∷ headerRows level (length s) (headerOf s)
 
+-- Document 02, R-4: "The need is compared for equality after the tables have passed", in a stream whose side parts have these ids
+unfoldable pub needRow : Header → List ℕ → Row
+needRow h ids = row 8 (not (eqb (h .needed) (streamNeed (settingIn h) (someHigh ids)))) 0
+
+-- "15, an id that must be understood, detail the first such id": a row for each id
+unfoldable pub idRow : ℕ → Row
+idRow id = row 15 (highId id) id
+
+-- 8 15, "after 9 and after that late use of 8"
+unfoldable pub sideRows : Header → List ℕ → List Row
+sideRows h ids = needRow h ids ∷ map idRow ids
+
+-- 9 8 15: both tables, and what they say of the need and of the side parts
 unfoldable pub tableRows : Header → List ℕ → List Row
-tableRows h s = row 9 (not (chunkTableRight h s && sideTableRight h s)) 0 ∷ []
+tableRows h s = row 9 (not (chunkTableRight h s && sideTableRight h s)) 0 ∷ sideRows h (idsIn h s)
 
 -- Document 02, R-1, the detail of refusal 10: "chunk·32 + group, the first bad group"
 unfoldable pub faultDetail : ℕ → ℕ → ℕ
@@ -53,14 +66,14 @@ chunkRow h s j = faultRow j (chunkState h s j)
 unfoldable pub chunkRows : Header → List ℕ → List Row
 chunkRows h s = rowsFrom (chunkRow h s) (h .chunks) 0
 
--- 9 10: both tables, then every chunk
+-- 9 8 15 10: the tables, then every chunk
 unfoldable pub contentRows : Header → List ℕ → List Row
 contentRows h s = tableRows h s ++ chunkRows h s
 
 unfoldable pub widthRow : ℕ → Header → Row
 widthRow W h = row 14 (not (eqb (h .width) W)) 0
 
--- ---- "Check: 1 5 6 7 8 9 10."
+-- ---- Check: 1 5 6 7 8 9 8 15 10
 
 unfoldable pub checkRows : ℕ → List ℕ → List Row
 checkRows level s = openingRows level s ++ contentRows (headerOf s) s
@@ -68,7 +81,7 @@ checkRows level s = openingRows level s ++ contentRows (headerOf s) s
 unfoldable pub checkAnswer : ℕ → List ℕ → Answer
 checkAnswer level s = answer (first (checkRows level s)) (headerOf s .count)
 
--- ---- "Unpack: 1 5 6 7 8 14 4 9 10", of a stream of width W into room for so many values
+-- ---- Unpack: 1 5 6 7 8 14 4 9 8 15 10, of a stream of width W into room for so many values
 
 unfoldable pub roomRow : ℕ → Header → Row
 roomRow room h = row 4 (ltb room (h .count)) (h .count)
@@ -84,7 +97,7 @@ unpackAnswer W level s room = answer (first (unpackRows W level s room)) (header
 unfoldable pub unpackOut : ℕ → ℕ → List ℕ → List ℕ → List ℕ
 unpackOut W level s out = after (first (unpackRows W level s (length out))) (values s ++ drop (headerOf s .count) out) out
 
--- ---- "Probe: 1 5 6 7 8 14 11 9 10, the last for its own chunk only"
+-- ---- Probe: 1 5 6 7 8 14 11 9 8 15 10, "the last for its own chunk only"
 
 unfoldable pub indexRow : ℕ → Header → Row
 indexRow i h = row 11 (not (ltb i (h .count))) 0

@@ -1,9 +1,9 @@
--- Document 01, "Levels", document 02, R-2, and what a setting says of codes. A setting is a record of natural numbers (`Setting` of src/setting.rt): a
+-- Document 01, "Levels", document 02, R-2 and R-4, and what a setting says of codes. A setting is a record of natural numbers (`Setting` of src/setting.rt): a
 -- width, a mode and a bin. It is made here, from the width, the mode and the k of a call or of a header; all else is said of the record.
 -- The number rules are those of the libraries `numbers` and `bins`.
 use Prim.Native.Nat.{ℕ, _-_, _^_, min, max}
 use mathlib.Core.Bool.{Bool, false, _&&_, _||_, cond}
-use mathlib.Core.List.{List, map}
+use mathlib.Core.List.{List, [], _∷_, map}
 use lib.Dec.{leb, eqb}
 use lib.IntN.{ℤ, pos, negsuc}
 use Rattle.numbers.specs.Signed.{bitsOf}
@@ -13,9 +13,9 @@ use Rattle.bins.specs.Tolerance.{allowedK, binOf, lastBin, toleranceCode, toler
 use Rattle.numbers.specs.Bound.{exponentOf}
 use Rattle.stream.specs.declared.setting.Setting.{Setting}
 
--- "A level is a minor number", and "levels are now 8 to 11" (R-2)
+-- "A level is a minor number": 8 to 12, since "1 .. follows this and each later level" (R-4)
 unfoldable pub highestLevel : ℕ
-highestLevel = 11
+highestLevel = 12
 
 unfoldable pub knownLevel : ℕ → Bool
 knownLevel level = leb 8 level && leb level highestLevel
@@ -59,6 +59,24 @@ modeNeed mode = cond (eqb mode 1) 9 (cond (eqb mode 2) 11 8)
 
 unfoldable pub need : Setting → ℕ
 need t = max (widthNeed (t .width)) (modeNeed (t .mode))
+
+-- Document 02, R-4: "Ids from 2^31 up now mean 'must be understood'", and are called the high ids
+unfoldable pub highId : ℕ → Bool
+highId id = leb (2 ^ 31) id
+
+unfoldable pub someHigh : List ℕ → Bool
+someHigh [] = false
+someHigh (id ∷ ids) = highId id || someHigh ids
+
+-- the first of them that is high (0 if none is)
+unfoldable pub firstHigh : List ℕ → ℕ
+firstHigh [] = 0
+firstHigh (id ∷ ids) = cond (highId id) id (firstHigh ids)
+
+-- the need of a stream, with a high id among those of its side parts or without: "A stream with such an id needs level 12", and the largest
+-- stands here too
+unfoldable pub streamNeed : Setting → Bool → ℕ
+streamNeed t high = max (need t) (cond high 12 8)
 
 -- "k in two's complement (0 in mode 0)", and in mode 2 too: the number that the header has for it
 unfoldable pub kBits : Setting → ℕ

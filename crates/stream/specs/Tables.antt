@@ -1,7 +1,7 @@
 -- Document 01, "The stream": the chunk table and the side table, which are refusal 9. All sums are of natural numbers: none wraps.
 use Prim.Native.Nat.{ℕ, zero, suc, _+_, _-_, _*_}
 use mathlib.Core.Bool.{Bool, true, _&&_, cond}
-use mathlib.Core.List.{List}
+use mathlib.Core.List.{List, [], _∷_}
 use lib.Dec.{leb, ltb, eqb}
 use lib.ListN.{length}
 use Rattle.stream.specs.Header.{word}
@@ -57,3 +57,11 @@ sideTableRight h s =
     leb (h .end + 12 * h .sides) (length s)
     && every (entryRight h s) (h .sides) 0
     && eqb (partAt h s (h .sides)) (length s)
+
+-- the ids of the side table, in its order: k of them, from the entry i on
+unfoldable pub idsFrom : Header → List ℕ → ℕ → ℕ → List ℕ
+idsFrom h s zero i = []
+idsFrom h s (suc k) i = sideId h s i ∷ idsFrom h s k (suc i)
+
+unfoldable pub idsIn : Header → List ℕ → List ℕ
+idsIn h s = idsFrom h s (h .sides) 0

@@ -96,6 +96,15 @@ addSides b ps =
     ++ spell (entries (length b + 12 * length ps) ps)
     ++ parts ps
 
+-- their ids
+unfoldable pub idsOf : List Side → List ℕ
+idsOf [] = []
+idsOf (p ∷ ps) = p .id ∷ idsOf ps
+
+-- the bytes b with another needed minor in its place in the header
+unfoldable pub withNeed : ℕ → List ℕ → List ℕ
+withNeed n b = take 8 b ++ digits 256 4 n ++ drop 12 b
+
 -- "Ids increase strictly", from a floor on
 unfoldable pub increasing : ℕ → List Side → Bool
 increasing floor [] = true

@@ -7,7 +7,7 @@ ghost use lib.ListN.{length, drop};
 ghost use Rattle.stream.specs.Setting.{groupSize};
 ghost use Rattle.stream.specs.Chunk.{groupsIn};
 ghost use Rattle.stream.specs.Header.{settingIn};
-ghost use Rattle.stream.specs.Relied.{Words, Allowed, Settled, Layout, Opened};
+ghost use Rattle.stream.specs.Relied.{Words, Settled, Layout, Opened};
 ghost use Rattle.stream.specs.Tables.{chunkTableRight, startAt};
 ghost use Rattle.stream.specs.Stream.{countOf, chunkOf};
 ghost use Rattle.stream.specs.Rows.{first};
@@ -18,7 +18,6 @@ use crate::chunk::ChunkAnswer;
 use crate::header;
 use crate::header::Header;
 use crate::setting;
-use crate::setting::Setting;
 use crate::tables;
 
 // The bytes of a chunk.
@@ -61,16 +60,8 @@ pub(crate) fn groups_at(h: Header, j: usize) -> usize
     requires { ⌜ Words h × Settled h × (j ≤ 1024) ⌝ }
     ensures { λ r. ⌜ (r ≡ groupsIn (groupSize (settingIn h)) (countOf h j)) × (r ≤ 1024) ⌝ }
 {
-    let size = setting::group_size(setting_in(h));
+    let size = setting::group_size(header::setting_in(h));
     (count_at(h, j) + (size - 1)) / size
-}
-
-// The header's setting.
-pub(crate) fn setting_in(h: Header) -> Setting
-    requires { ⌜ Words h × Settled h ⌝ }
-    ensures { λ r. ⌜ (r ≡ settingIn h) × Allowed r ⌝ }
-{
-    setting::setting_of(h.width, h.mode, header::exponent_of(h))
 }
 
 // 10, for one chunk. The detail names the chunk and its first bad group.
@@ -78,7 +69,7 @@ pub(crate) fn chunk_step(h: Header, bytes: &[u8], j: usize) -> Step
     requires { ⌜ Opened (length (now bytes)) h × (chunkTableRight h (now bytes) ≡ true) × (j < h .chunks) ⌝ }
     ensures { λ r. ⌜ r ≡ first (chunkRow h (now (bytes .entry)) j ∷ []) ⌝ }
 {
-    let t = setting_in(h);
+    let t = header::setting_in(h);
     let part = chunk_at(h, bytes, j);
     let found = chunk::checked(t, part, count_at(h, j));
     match found {
@@ -106,7 +97,7 @@ fn chunk_steps(h: Header, bytes: &[u8]) -> Step
     Step::Pass
 }
 
-// 9 10: both tables, then every chunk.
+// 9 8 15 10: the tables, then every chunk.
 pub(crate) fn content_step(h: Header, bytes: &[u8]) -> Step
     requires { ⌜ Opened (length (now bytes)) h ⌝ }
     ensures { λ r. ⌜ r ≡ first (contentRows h (now (bytes .entry))) ⌝ }
@@ -118,7 +109,7 @@ pub(crate) fn content_step(h: Header, bytes: &[u8]) -> Step
     }
 }
 
-// 9 10 for probe: both tables, then the chunk of one value.
+// 9 8 15 10 for probe: the tables, then the chunk of one value.
 pub(crate) fn own_step(h: Header, bytes: &[u8], index: usize) -> Step
     requires { ⌜ Opened (length (now bytes)) h × (index < h .count) ⌝ }
     ensures { λ r. ⌜ r ≡ first (ownRows h (now (bytes .entry)) index) ⌝ }

@@ -2,13 +2,14 @@
 ghost use mathlib.Core.Path.{_≡_};
 ghost use Prim.Native.Nat.{_+_, _^_, _≤_, _<_};
 ghost use lib.ListN.{length};
-ghost use Rattle.stream.specs.Header.{word, headerOf, kOf, settingRight, layoutRight};
-ghost use Rattle.stream.specs.Relied.{Words};
+ghost use Rattle.stream.specs.Header.{word, headerOf, kOf, settingIn, settingRight, layoutRight};
+ghost use Rattle.stream.specs.Relied.{Words, Allowed, Settled};
 ghost use Rattle.stream.specs.Rows.{first};
 ghost use Rattle.stream.specs.Operations.{headerRows, openingRows};
 ghost use Rattle.stream.specs.Opening.{openedBy};
 use crate::answers::Step;
 use crate::setting;
+use crate::setting::Setting;
 use numbers::signed;
 
 // The numbers of the table "at | number" of document 01, in its order. `exponent` has the bits of k, and the three places are `table`,
@@ -77,7 +78,16 @@ pub(crate) fn exponent_of(h: Header) -> i32
     signed::view32(h.exponent as u32)
 }
 
-// The part of refusal 8 that is about the setting. A setting is made only once it is known to be allowed.
+// The header's setting.
+pub(crate) fn setting_in(h: Header) -> Setting
+    requires { ⌜ Words h × Settled h ⌝ }
+    ensures { λ r. ⌜ (r ≡ settingIn h) × Allowed r ⌝ }
+{
+    setting::setting_of(h.width, h.mode, exponent_of(h))
+}
+
+// The part of refusal 8 that is about the setting. A setting is made only once it is known to be allowed. Whether the need is more than the setting's
+// is left to the tables: only their ids tell what it has to be.
 fn setting_right(h: Header) -> bool
     requires { ⌜ Words h ⌝ }
     ensures { λ r. ⌜ r ≡ settingRight h ⌝ }
@@ -93,7 +103,7 @@ fn setting_right(h: Header) -> bool
         return false;
     }
     let need = setting::need_of(setting::setting_of(width, mode, k));
-    (8 <= needed) & (needed == need) & (needed <= h.written)
+    (8 <= needed) & (need <= needed) & (needed <= h.written)
 }
 
 // The part of refusal 8 that is about the layout.

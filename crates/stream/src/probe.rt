@@ -40,7 +40,7 @@ fn show64(p: u64) -> Probe64
     Probe64::Finite(f64::from_bits(p))
 }
 
-// 1 5 6 7 8 14 11 9 10, the last for the value's own chunk only.
+// 1 5 6 7 8 14 11 9 8 15 10, the last for the value's own chunk only.
 fn probe_opening(width: usize, level: usize, bytes: &[u8], index: usize) -> Opening
     ensures { λ r. ⌜ r ≡ openedBy (first (probeRows width level (now (bytes .entry)) index)) (headerOf (now (bytes .entry))) ⌝ }
 {

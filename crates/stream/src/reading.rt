@@ -13,7 +13,7 @@ use crate::header;
 use crate::header::Opening;
 use crate::restore;
 
-// 1 5 6 7 8 9 10, and the header where none of them is given.
+// 1 5 6 7 8 9 8 15 10, and the header where none of them is given.
 fn check_opening(level: usize, bytes: &[u8]) -> Opening
     ensures { λ r. ⌜ r ≡ openedBy (first (checkRows level (now (bytes .entry)))) (headerOf (now (bytes .entry))) ⌝ }
 {
@@ -35,7 +35,7 @@ pub fn check(level: u32, bytes: &[u8]) -> Answer
     }
 }
 
-// 1 5 6 7 8 14 4 9 10. Every chunk is checked here, before the first value is written: a refused unpack leaves the output as it was.
+// 1 5 6 7 8 14 4 9 8 15 10. Every chunk is checked here, before the first value is written: a refused unpack leaves the output as it was.
 fn unpack_opening(width: usize, level: usize, bytes: &[u8], room: usize) -> Opening
     ensures { λ r. ⌜ r ≡ openedBy (first (unpackRows width level (now (bytes .entry)) room)) (headerOf (now (bytes .entry))) ⌝ }
 {

@@ -12,6 +12,7 @@ ghost use Rattle.stream.specs.declared.answers.Step.the-variants.{Pass};
 ghost use Rattle.stream.specs.declared.chunk.ChunkAnswer.the-variants.{Good};
 use crate::chunk;
 use crate::chunks;
+use crate::header;
 use crate::header::Header;
 use crate::lent;
 
@@ -28,7 +29,7 @@ fn restore_chunk(
     requires { ⌜ Readable (h .width) h (now bytes) × (j < h .chunks) × (chunkState h (now bytes) j ≡ Good) × (1024 * j + countOf h j ≤ length (chosen (h .width) (now o32) (now o64))) × (32 ≤ length (chosen (h .width) (now c32) (now c64))) ⌝ }
     ensures { λ _. ⌜ chosen (h .width) (now (o32 .exit)) (now (o64 .exit)) ≡ landed (1024 * j) (chunkValues h (now (bytes .entry)) j) (chosen (h .width) (now (o32 .entry)) (now (o64 .entry))) ⌝ }
 {
-    let t = chunks::setting_in(h);
+    let t = header::setting_in(h);
     let n = chunks::count_at(h, j);
     let part = chunks::chunk_on(h, bytes, j);
     let a32 = lent::least(1024 * j, o32.len());
@@ -60,7 +61,7 @@ pub(crate) fn value_at(h: Header, bytes: &[u8], i: usize) -> u64
     ensures { λ r. ⌜ r ≡ valueIn h (now (bytes .entry)) i ⌝ }
 {
     let j = i / 1024;
-    let t = chunks::setting_in(h);
+    let t = header::setting_in(h);
     let part = chunks::chunk_at(h, bytes, j);
     chunk::value(t, part, chunks::count_at(h, j), i % 1024)
 }

@@ -5,7 +5,7 @@ ghost use Prim.Native.Nat.{_^_, _≤_, _<_};
 ghost use lib.IntN.{subℕ};
 ghost use Rattle.bins.specs.Answers.{binAnswer};
 ghost use Rattle.numbers.specs.Signed.{bitsOf};
-ghost use Rattle.stream.specs.Setting.{knownLevel, knownWidth, fractionBits, need, allowedSetting, binFor, settingOf, kBits, groupSize, limitOf};
+ghost use Rattle.stream.specs.Setting.{knownLevel, knownWidth, fractionBits, need, streamNeed, allowedSetting, binFor, settingOf, kBits, groupSize, limitOf};
 ghost use Rattle.stream.specs.Relied.{Allowed};
 use bins::bin;
 use bins::bin::BinAnswer;
@@ -17,7 +17,7 @@ pub(crate) struct Setting {
     pub bin: u32,
 }
 
-pub(crate) const HIGHEST_LEVEL: u32 = 11;
+pub(crate) const HIGHEST_LEVEL: u32 = 12;
 
 pub(crate) fn known_level(level: usize) -> bool
     ensures { λ r. ⌜ r ≡ knownLevel level ⌝ }
@@ -98,6 +98,17 @@ pub(crate) fn need_of(t: Setting) -> usize
         return 9;
     }
     8
+}
+
+// The need of a stream: that of its setting, and with a high id 12 at least.
+pub(crate) fn stream_need(t: Setting, high: bool) -> usize
+    ensures { λ r. ⌜ r ≡ streamNeed t high ⌝ }
+{
+    let need = need_of(t);
+    if high & (need < 12) {
+        return 12;
+    }
+    need
 }
 
 // "k in two's complement (0 in mode 0)", and in mode 2: the smallest k, of bin 0, is -150 or -1075.

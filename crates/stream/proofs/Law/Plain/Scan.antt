@@ -17,7 +17,7 @@ use Rattle.stream.proofs.Law.Plain.Truth.{and-left, and-right}
 
 module _ {A : Type 0} (S : ℕ → ℕ → A) where
   -- the step at i, and then the rest
-  next : (g : ℕ → A → A) → ((k i : ℕ) → S (suc k) i ≡ g i (S k (suc i))) → (n i : ℕ) → i < n → S (n - i) i ≡ g i (S (n - (i + 1)) (i + 1))
+  pub next : (g : ℕ → A → A) → ((k i : ℕ) → S (suc k) i ≡ g i (S k (suc i))) → (n i : ℕ) → i < n → S (n - i) i ≡ g i (S (n - (i + 1)) (i + 1))
   next g unroll n i h =
       ap (λ (k : ℕ). S k i) (let e : n - i ≡ suc (n - (i + 1)) = omega arith in e)
       ∙ unroll (n - (i + 1)) i

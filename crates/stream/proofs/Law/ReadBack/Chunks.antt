@@ -35,7 +35,7 @@ use Rattle.stream.proofs.Law.Setting.Exponent.{setting-back}
 use Rattle.stream.proofs.Law.Plain.Joined.{joined-part, joined-same, singles-at}
 use Rattle.stream.proofs.Law.Written.Numbers.{length-spell}
 use Rattle.stream.proofs.Law.Written.Pieces.{length-piece, piece-below, data-next, end-is}
-use Rattle.stream.proofs.Law.ReadBack.Header.{headerFor, frontNumbers, length-numbers, front-word}
+use Rattle.stream.proofs.Law.ReadBack.Header.{headerFor, Front, frontNumbers, length-numbers, front-word}
 
 -- what holds of each number of a scan holds of the scan
 pub every-all : (f : ℕ → Bool) (k i : ℕ) → ((j : ℕ) → i ≤ j → j < i + k → f j ≡ true) → every f k i ≡ true
@@ -87,15 +87,18 @@ piece-some t vs j h =
     let long : length cs ≡ min 1024 (length vs - 1024 * j) = length-codes-after t 0 (piece vs j) ∙ length-piece vs j in
     rw (chunk-step (groupSize t) (size-some t) cs (omega arith), length-append (groupBytes (take (groupSize t) cs)) (chunkBytes (groupSize t) (drop (groupSize t) cs)), length-group (take (groupSize t) cs)) (omega arith)
 
-module _ (level : ℕ) (t : Setting) (vs : List ℕ) (p : Storable level t vs) (sides : ℕ) (few : sides ≤ 64) (rest : List ℕ) where
+module _ (level needed : ℕ) (t : Setting) (vs : List ℕ) (sides : ℕ) (f : Front level needed t vs sides) (rest : List ℕ) where
+  abbrev p : Storable level t vs
+  p = f .list
+
   abbrev chunks : ℕ
   chunks = chunksIn (length vs)
 
   abbrev header : Header
-  header = headerFor level t vs sides
+  header = headerFor level needed t vs sides
 
   abbrev bytes : List ℕ
-  bytes = spell (frontNumbers level t vs sides) ++ (dataOf t vs chunks ++ rest)
+  bytes = spell (frontNumbers level needed t vs sides) ++ (dataOf t vs chunks ++ rest)
 
   start-is : (j : ℕ) → j ≤ chunks → startAt header bytes j ≡ length (dataOf t vs j)
   unfolding startAt headerNumbers startsOf
@@ -108,8 +111,8 @@ module _ (level : ℕ) (t : Setting) (vs : List ℕ) (p : Storable level t vs) (
       go (inr l) =
           rw (lt-ltb j chunks l)
           (ap (word bytes) (let e : 48 + 4 * j ≡ 4 * (12 + j) = omega arith in e)
-          ∙ front-word level t vs p sides few (dataOf t vs chunks ++ rest) (12 + j) (omega arith)
-          ∙ getD-append-add (headerNumbers level t (length vs) sides (endOf t vs chunks)) (startsOf t vs chunks) j 0
+          ∙ front-word level needed t vs sides f (dataOf t vs chunks ++ rest) (12 + j) (omega arith)
+          ∙ getD-append-add (1 ∷ level ∷ needed ∷ drop 3 (headerNumbers level t (length vs) sides (endOf t vs chunks))) (startsOf t vs chunks) j 0
           ∙ singles-at (λ i. length (dataOf t vs i)) chunks j l)
 
   data-none : length (dataOf t vs 0) ≡ 0
@@ -129,13 +132,13 @@ module _ (level : ℕ) (t : Setting) (vs : List ℕ) (p : Storable level t vs) (
   chunk-is : (j : ℕ) → j < chunks → chunkOf header bytes j ≡ pieceBytes t vs j
   unfolding chunkOf dataOf
   chunk-is j h =
-      let long : length (spell (frontNumbers level t vs sides)) ≡ 48 + 4 * chunks =
-      length-spell (frontNumbers level t vs sides) ∙ ap (λ (n : ℕ). 4 * n) (length-numbers level t vs sides)
+      let long : length (spell (frontNumbers level needed t vs sides)) ≡ 48 + 4 * chunks =
+      length-spell (frontNumbers level needed t vs sides) ∙ ap (λ (n : ℕ). 4 * n) (length-numbers level needed t vs sides)
       ∙ (let e : 4 * (12 + chunks) ≡ 48 + 4 * chunks = omega arith in e) in
       rw (start-is j (omega arith), start-is (j + 1) (omega arith))
       (ap (take (length (dataOf t vs (j + 1)) - length (dataOf t vs j)))
       (sym (drop-drop (length (dataOf t vs j)) (48 + 4 * chunks) bytes)
-      ∙ ap (drop (length (dataOf t vs j))) (drop-at (spell (frontNumbers level t vs sides)) (dataOf t vs chunks ++ rest) (48 + 4 * chunks) long))
+      ∙ ap (drop (length (dataOf t vs j))) (drop-at (spell (frontNumbers level needed t vs sides)) (dataOf t vs chunks ++ rest) (48 + 4 * chunks) long))
       ∙ joined-part (pieceBytes t vs) j chunks rest h)
 
   setting-is : settingIn header ≡ t

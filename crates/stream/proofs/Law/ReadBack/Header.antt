@@ -1,34 +1,35 @@
--- The header of a written stream, with any side parts behind its data: read back, its numbers are those that were written, and keep every
--- rule of refusal 8.
-use mathlib.Core.Path.{_≡_, refl}
-use mathlib.Core.Bool.{Bool, true, false, cond}
+-- The header of a written stream, with any side parts behind its data and a need that its setting allows: read back, its numbers are those that
+-- were written, and keep every rule of refusal 8.
+use mathlib.Core.Path.{_≡_, refl, ap, _∙_}
+use mathlib.Core.Bool.{true}
 use mathlib.Core.List.{List, [], _∷_, _++_}
-use Prim.Native.Nat.{ℕ, zero, suc, _+_, _*_, _^_, _≤_, _<_, max}
+use Prim.Native.Nat.{ℕ, zero, suc, _+_, _*_, _^_, _≤_, _<_}
+use native.Mathlib.Nat.{le-trans}
 use native.Mathlib.Omega.{arith}
 use borrow.Author.Tests.{le-ltb, le-leb, eq-eqb}
-use lib.Dec.{eqb, lit<}
-use lib.ListN.{length, getD}
+use lib.Dec.{lit<}
+use lib.ListN.{length, drop, getD, length-append}
 use Rattle.blocks.specs.Bytes.{Below}
-use Rattle.stream.specs.Setting.{widthNeed, modeNeed, need, kBits}
+use Rattle.stream.specs.Setting.{need, kBits}
 use Rattle.stream.specs.Header.{word, headerOf, kOf, chunksIn, tooMany, needRight, settingRight, layoutRight}
 use Rattle.stream.specs.Writing.{spell, dataOf, startsOf, headerNumbers, endOf}
 use Rattle.stream.specs.declared.header.Header.{Header}
 use Rattle.stream.specs.declared.setting.Setting.{Setting}
 use Rattle.blocks.proofs.Law.Digits.{everywhere}
 use Rattle.stream.proofs.Law.Setting.Allowed.{Storable, width-most}
-use Rattle.stream.proofs.Law.Setting.Widths.{need-small}
+use Rattle.stream.proofs.Law.Setting.Widths.{need-least}
 use Rattle.stream.proofs.Law.Setting.Exponent.{bits-small, setting-back, allowed-back}
 use Rattle.stream.proofs.Law.Plain.Joined.{length-singles, singles-at}
 use Rattle.stream.proofs.Law.Written.Numbers.{word-spelled}
-use Rattle.stream.proofs.Law.Written.Pieces.{length-front, end-is, end-grows, end-small}
+use Rattle.stream.proofs.Law.Written.Pieces.{end-is, end-grows, end-small}
 
--- the header of a list's stream with so many side parts
-abbrev pub headerFor : ℕ → Setting → List ℕ → ℕ → Header
-headerFor level t vs sides =
+-- the header of a list's stream with a need and so many side parts
+abbrev pub headerFor : ℕ → ℕ → Setting → List ℕ → ℕ → Header
+headerFor level needed t vs sides =
     record {
       major = 1;
       written = level;
-      needed = need t;
+      needed = needed;
       width = t .width;
       mode = t .mode;
       exponent = kBits t;
@@ -40,14 +41,6 @@ headerFor level t vs sides =
       end = endOf t vs (chunksIn (length vs));
     }
 
-need-least : (t : Setting) → 8 ≤ need t
-unfolding need widthNeed modeNeed
-need-least t = go (eqb (t .width) 64)
-  where
-    go : (a : Bool) → 8 ≤ max (cond a 10 8) (modeNeed (t .mode))
-    go true = omega arith
-    go false = omega arith
-
 -- elements below b, one by one, and then others
 abbrev Each : ℕ → List ℕ → Type 0
 Each b [] = Unit {0}
@@ -58,7 +51,14 @@ each-below b [] ys e h i = h i
 each-below b (x ∷ xs) ys e h zero = e .0
 each-below b (x ∷ xs) ys e h (suc i) = each-below b xs ys (e .1) h i
 
-module _ (level : ℕ) (t : Setting) (vs : List ℕ) where
+-- a need that the setting and the written minor allow, and a number of side parts
+pub record Front (level needed : ℕ) (t : Setting) (vs : List ℕ) (sides : ℕ) : Type 0 where
+  pub list : Storable level t vs
+  pub least : need t ≤ needed
+  pub reached : needed ≤ level
+  pub few : sides ≤ 64
+
+module _ (level needed : ℕ) (t : Setting) (vs : List ℕ) where
   abbrev chunks : ℕ
   chunks = chunksIn (length vs)
 
@@ -67,12 +67,18 @@ module _ (level : ℕ) (t : Setting) (vs : List ℕ) where
 
   -- the numbers of the header and the chunk table
   abbrev pub frontNumbers : ℕ → List ℕ
-  frontNumbers sides = headerNumbers level t (length vs) sides end ++ startsOf t vs chunks
+  frontNumbers sides = 1 ∷ level ∷ needed ∷ drop 3 (headerNumbers level t (length vs) sides end) ++ startsOf t vs chunks
 
   pub length-numbers : (sides : ℕ) → length (frontNumbers sides) ≡ 12 + chunks
-  length-numbers sides = length-front t vs level (length vs) sides end chunks
+  unfolding headerNumbers startsOf
+  length-numbers sides =
+      length-append (1 ∷ level ∷ needed ∷ drop 3 (headerNumbers level t (length vs) sides end)) (startsOf t vs chunks)
+      ∙ ap (λ (n : ℕ). 12 + n) (length-singles (λ i. length (dataOf t vs i)) chunks)
 
-  module _ (p : Storable level t vs) (sides : ℕ) (few : sides ≤ 64) where
+  module _ (sides : ℕ) (f : Front level needed t vs sides) where
+    abbrev p : Storable level t vs
+    p = f .list
+
     end-below : end < 2 ^ 24
     end-below = end-small t vs (p .setting .known) (p .patterns) (p .few) chunks (omega arith)
 
@@ -89,12 +95,12 @@ module _ (level : ℕ) (t : Setting) (vs : List ℕ) where
     front-below : Below (2 ^ 32) (frontNumbers sides)
     unfolding headerNumbers chunksIn
     front-below =
-        each-below (2 ^ 32) (headerNumbers level t (length vs) sides end) (startsOf t vs chunks) (
+        each-below (2 ^ 32) (1 ∷ level ∷ needed ∷ drop 3 (headerNumbers level t (length vs) sides end)) (startsOf t vs chunks) (
           lit< tt,
           (
             p .minor,
             (
-              omega (arith, need-small t),
+              omega (arith, f .reached, p .minor),
               (
                 omega (arith, width-most (t .width) (p .setting .known)),
                 (
@@ -109,7 +115,7 @@ module _ (level : ℕ) (t : Setting) (vs : List ℕ) where
                           lit< tt,
                           (
                             omega (arith, p .few),
-                            (omega arith, (omega (arith, end-below), tt)),
+                            (omega (arith, f .few), (omega (arith, end-below), tt)),
                           ),
                         ),
                       ),
@@ -126,7 +132,7 @@ module _ (level : ℕ) (t : Setting) (vs : List ℕ) where
     pub front-word : (rest : List ℕ) (j : ℕ) → j < 12 + chunks → word (spell (frontNumbers sides) ++ rest) (4 * j) ≡ getD (frontNumbers sides) j 0
     front-word rest j h = word-spelled (frontNumbers sides) rest j front-below (rw (length-numbers sides) h)
 
-    pub header-is : (rest : List ℕ) → headerOf (spell (frontNumbers sides) ++ rest) ≡ headerFor level t vs sides
+    pub header-is : (rest : List ℕ) → headerOf (spell (frontNumbers sides) ++ rest) ≡ headerFor level needed t vs sides
     unfolding headerOf headerNumbers
     header-is rest =
         let at : (j : ℕ) → j < 12 → word (spell (frontNumbers sides) ++ rest) (4 * j) ≡ getD (frontNumbers sides) j 0 = λ j h. front-word rest j (omega arith) in
@@ -145,26 +151,26 @@ module _ (level : ℕ) (t : Setting) (vs : List ℕ) where
           at 11 (lit< tt),
         )
 
-    pub setting-right : settingRight (headerFor level t vs sides) ≡ true
+    pub setting-right : settingRight (headerFor level needed t vs sides) ≡ true
     unfolding settingRight needRight kOf
     setting-right =
         rw (
           p .setting .known,
           setting-back t (p .setting),
-          le-leb 8 (need t) (need-least t),
-          eq-eqb (need t) (need t) refl,
-          le-leb (need t) level (p .needs),
+          le-leb 8 needed (le-trans (need-least t) (f .least)),
+          le-leb (need t) needed (f .least),
+          le-leb needed level (f .reached),
           allowed-back t (p .setting),
         )
 
-    pub layout-right : (size : ℕ) → end ≤ size → layoutRight size (headerFor level t vs sides) ≡ true
+    pub layout-right : (size : ℕ) → end ≤ size → layoutRight size (headerFor level needed t vs sides) ≡ true
     unfolding layoutRight tooMany
     layout-right size h =
         rw (
           le-ltb 1048576 (length vs) (p .few),
           eq-eqb chunks chunks refl,
           eq-eqb (48 + 4 * chunks) (48 + 4 * chunks) refl,
-          le-leb sides 64 few,
+          le-leb sides 64 (f .few),
           le-leb (48 + 4 * chunks) end (omega (arith, end-is t vs chunks)),
           le-leb end size h,
         )

@@ -1,66 +1,108 @@
--- A written stream, with any well-formed side parts, before every reader: no row is given where the level reaches the need, and row 7
--- where it does not.
+-- A written stream, with any well-formed side parts, before every reader: row 7 is given where the level does not reach the need. Where it does, what
+-- the ids of its side parts say is all that is left: row 15 for the first high one, and no row where none is high.
 use mathlib.Core.Path.{_≡_, refl, sym, ap, ap₂, subst, _∙_}
-use mathlib.Core.Bool.{true}
-use mathlib.Core.List.{List, [], _∷_, _++_, append-assoc, append-nil}
-use Prim.Native.Nat.{ℕ, zero, suc, _+_, _*_, _^_, _≤_, _<_, zero-le}
+use mathlib.Core.Bool.{true, false}
+use mathlib.Core.List.{List, [], _∷_, _++_, append-assoc, append-nil, map}
+use Prim.Native.Nat.{ℕ, zero, suc, _+_, _*_, _/_, _^_, _≤_, _<_, zero-le}
 use native.Mathlib.Nat.{lt-of-le-of-lt}
 use native.Mathlib.Omega.{arith}
-use borrow.Author.Tests.{lt-ltb, le-ltb, eq-eqb}
+use borrow.Author.Tests.{lt-ltb, le-ltb}
 use lib.Dec.{lit<}
-use lib.ListN.{length, getD, List·getD-append}
+use lib.ListN.{length, drop, getD, length-append, List·getD-append}
 use Rattle.blocks.specs.Bytes.{Below}
-use Rattle.stream.specs.Setting.{knownLevel, need, kBits, groupSize, codesOf}
+use Rattle.stream.specs.Setting.{knownLevel, need, someHigh, streamNeed, kBits, groupSize, codesOf}
 use Rattle.stream.specs.Rows.{Row, rowsFrom, first}
-use Rattle.stream.specs.Header.{word, headerOf, chunksIn, settingRight, layoutRight}
-use Rattle.stream.specs.Tables.{chunkTableRight, sideTableRight}
+use Rattle.stream.specs.Header.{word, headerOf, kOf, settingIn, chunksIn, settingRight, layoutRight}
+use Rattle.stream.specs.Tables.{chunkTableRight, sideTableRight, idsIn}
 use Rattle.stream.specs.Stream.{chunkState, valuesIn, values}
-use Rattle.stream.specs.Writing.{spell, piece, pieceBytes, dataOf, startsOf, headerNumbers, endOf, body, stream, Side, entries, parts, addSides, increasing, WellFormedSides}
+use Rattle.stream.specs.Writing.{spell, piece, pieceBytes, dataOf, startsOf, headerNumbers, endOf, body, stream, Side, entries, parts, addSides, idsOf, withNeed, increasing, WellFormedSides}
 use Rattle.stream.specs.Packing.{Sent}
 use Rattle.stream.specs.Theorem.{comingBack}
-use Rattle.stream.specs.Operations.{headerRows, openingRows, tableRows, chunkRow, chunkRows, contentRows, widthRow, roomRow, indexRow, ownRows, checkRows, unpackRows, probeRows}
+use Rattle.stream.specs.Operations.{headerRows, openingRows, idRow, tableRows, chunkRow, chunkRows, contentRows, ownRows, checkRows, unpackRows, probeRows}
+use Rattle.stream.specs.declared.answers.Step.{Step}
 use Rattle.stream.specs.declared.answers.Step.the-variants.{Pass, Stop}
 use Rattle.stream.specs.declared.chunk.ChunkAnswer.the-variants.{Good}
 use Rattle.stream.specs.declared.header.Header.{Header}
 use Rattle.stream.specs.declared.setting.Setting.{Setting}
-use Rattle.stream.proofs.Law.Values.ThreeReaders.{probe-passes}
-use Rattle.stream.proofs.Law.Rows.First.{opened, shut, passed}
+use Rattle.stream.proofs.Law.Rows.First.{andThen, then-none, first-append, passed}
+use Rattle.stream.proofs.Law.Rows.Ids.{need-kept}
 use Rattle.stream.proofs.Law.Rows.Chunks.{good-row, tables-pass}
+use Rattle.stream.proofs.Law.Rows.Given.{check-shut, unpack-shut, probe-shut, check-content, unpack-content, probe-own}
 use Rattle.blocks.proofs.Law.Digits.{byte, below-append}
 use Rattle.stream.proofs.Law.Setting.Codes.{codes-under}
 use Rattle.stream.proofs.Law.Setting.Allowed.{Storable, width-most}
-use Rattle.stream.proofs.Law.Setting.Widths.{width-bytes}
+use Rattle.stream.proofs.Law.Setting.Widths.{width-bytes, stream-need-least, low-need}
+use Rattle.stream.proofs.Law.Setting.Exponent.{setting-back}
 use Rattle.stream.proofs.Law.Plain.Joined.{joined-below}
-use Rattle.stream.proofs.Law.Written.Numbers.{spell-below, spell-put}
+use Rattle.stream.proofs.Law.Written.Numbers.{length-spell, spell-below, spell-put}
 use Rattle.stream.proofs.Law.ReadBack.Values.{chunk-below}
 use Rattle.stream.proofs.Law.Written.Pieces.{piece-below, end-is}
-use Rattle.stream.proofs.Law.Rows.Packing.{length-body, length-stream}
-use Rattle.stream.proofs.Law.ReadBack.Header.{headerFor, frontNumbers, front-word, header-is, setting-right, layout-right}
+use Rattle.stream.proofs.Law.Rows.Packing.{length-stream}
+use Rattle.stream.proofs.Law.ReadBack.Header.{headerFor, Front, frontNumbers, length-numbers, front-word, header-is, setting-right, layout-right}
 use Rattle.stream.proofs.Law.ReadBack.Chunks.{chunk-table-right, chunk-good, values-back}
-use Rattle.stream.proofs.Law.ReadBack.Sides.{length-sided, side-table-right}
+use Rattle.stream.proofs.Law.ReadBack.Sides.{length-sided, ids-read, side-table-right}
 
--- side parts come behind the body, whose header counts them
-sided : (level : ℕ) (t : Setting) (vs : List ℕ) (ps : List Side)
-    → addSides (stream level t vs) ps ≡ body level t vs (length ps) ++ spell (entries (endOf t vs (chunksIn (length vs)) + 12 * length ps) ps) ++ parts ps
-unfolding addSides stream body headerNumbers
-sided level t vs ps =
-    let c = chunksIn (length vs) in
-    let ten : List ℕ = 1 ∷ level ∷ need t ∷ t .width ∷ t .mode ∷ kBits t ∷ length vs ∷ c ∷ 48 ∷ (48 + 4 * c) ∷ [] in
-    ap₂ (λ (b : List ℕ) (n : ℕ). b ++ spell (entries (n + 12 * length ps) ps) ++ parts ps)
-    (spell-put ten (endOf t vs c ∷ startsOf t vs c) (dataOf t vs c) 40 refl 0 (length ps))
-    (length-stream level t vs)
+-- ---- side parts and a need are put in
+
+-- what comes behind the data
+abbrev behindData : Setting → List ℕ → List Side → List ℕ
+behindData t vs ps = spell (entries (endOf t vs (chunksIn (length vs)) + 12 * length ps) ps) ++ parts ps
+
+-- the whole stream, with a need
+abbrev whole : ℕ → ℕ → Setting → List ℕ → List Side → List ℕ
+whole level needed t vs ps = spell (frontNumbers level needed t vs (length ps)) ++ (dataOf t vs (chunksIn (length vs)) ++ behindData t vs ps)
+
+module _ (level : ℕ) (t : Setting) (vs : List ℕ) (ps : List Side) where
+  -- side parts come behind the data, and the header counts them
+  sided : addSides (stream level t vs) ps ≡ whole level (need t) t vs ps
+  unfolding addSides stream body headerNumbers
+  sided =
+      let c = chunksIn (length vs) in
+      let ten : List ℕ = 1 ∷ level ∷ need t ∷ t .width ∷ t .mode ∷ kBits t ∷ length vs ∷ c ∷ 48 ∷ (48 + 4 * c) ∷ [] in
+      let front = spell (frontNumbers level (need t) t vs (length ps)) in
+      let table = spell (entries (endOf t vs c + 12 * length ps) ps) in
+      ap₂ (λ (b : List ℕ) (n : ℕ). b ++ spell (entries (n + 12 * length ps) ps) ++ parts ps)
+      (spell-put ten (endOf t vs c ∷ startsOf t vs c) (dataOf t vs c) 40 refl 0 (length ps))
+      (length-stream level t vs)
+      ∙ append-assoc (front ++ dataOf t vs c) table (parts ps)
+      ∙ append-assoc front (dataOf t vs c) (table ++ parts ps)
+
+  -- another need is put in its place
+  pub needing : (needed : ℕ) → withNeed needed (addSides (stream level t vs) ps) ≡ whole level needed t vs ps
+  unfolding withNeed headerNumbers
+  needing needed =
+      let c = chunksIn (length vs) in
+      ap (withNeed needed) sided
+      ∙ spell-put (1 ∷ level ∷ []) (drop 3 (headerNumbers level t (length vs) (length ps) (endOf t vs c)) ++ startsOf t vs c) (dataOf t vs c ++ behindData t vs ps) 8 refl (need t) needed
+
+  -- without a high id it is the one that stood there
+  pub low-sent : need t ≤ level → WellFormedSides (length (stream level t vs) + 12 * length ps) ps → someHigh (idsOf ps) ≡ false
+      → Sent level t vs (addSides (stream level t vs) ps)
+  low-sent reaches well low =
+      let is : streamNeed t (someHigh (idsOf ps)) ≡ need t = ap (streamNeed t) low ∙ low-need t in
+      record {
+        sides = ps;
+        well-formed = well;
+        reached = rw is reaches;
+        bytes = sym (ap (λ (n : ℕ). withNeed n (addSides (stream level t vs) ps)) is ∙ needing (need t) ∙ sym sided);
+      }
 
 -- the plain stream has none
-plain-is : (level : ℕ) (t : Setting) (vs : List ℕ) → stream level t vs ≡ addSides (stream level t vs) []
-unfolding stream entries parts spell
-plain-is level t vs = sym (sided level t vs [] ∙ append-nil (body level t vs 0 ++ []) ∙ append-nil (body level t vs 0))
+module _ (level : ℕ) (t : Setting) (vs : List ℕ) where
+  plain-is : stream level t vs ≡ addSides (stream level t vs) []
+  unfolding stream body headerNumbers entries parts spell
+  plain-is =
+      let c = chunksIn (length vs) in
+      sym (sided level t vs [] ∙ ap (λ (l : List ℕ). spell (frontNumbers level (need t) t vs 0) ++ l) (append-nil (dataOf t vs c)))
 
-no-sides : (place : ℕ) → WellFormedSides place []
-unfolding increasing entries parts
-no-sides place = record { few = zero-le; ordered = refl; numbers = λ i. lit< tt; are-bytes = λ i. byte }
+  no-sides : (place : ℕ) → WellFormedSides place []
+  unfolding increasing entries parts
+  no-sides place = record { few = zero-le; ordered = refl; numbers = λ i. lit< tt; are-bytes = λ i. byte }
 
-pub plain-sent : (level : ℕ) (t : Setting) (vs : List ℕ) → Sent level t vs (stream level t vs)
-plain-sent level t vs = record { sides = []; well-formed = no-sides (length (stream level t vs) + 12 * 0); bytes = plain-is level t vs }
+  pub plain-sent : need t ≤ level → Sent level t vs (stream level t vs)
+  unfolding someHigh idsOf
+  plain-sent reaches =
+      subst (Sent level t vs) (sym plain-is) (low-sent level t vs [] reaches (no-sides (length (stream level t vs) + 12 * 0)) refl)
 
 -- rows of which none is given
 all-pass : (f : ℕ → Row) (k i : ℕ) → ((j : ℕ) → i ≤ j → j < i + k → first (f j ∷ []) ≡ Pass) → first (rowsFrom f k i) ≡ Pass
@@ -79,28 +121,43 @@ module _ (level : ℕ) (t : Setting) (vs : List ℕ) (p : Storable level t vs) (
   chunks = chunksIn (length vs)
 
   abbrev behind : List ℕ
-  behind = spell (entries (endOf t vs chunks + 12 * length ps) ps) ++ parts ps
+  behind = behindData t vs ps
+
+  abbrev needed : ℕ
+  needed = streamNeed t (someHigh (idsOf ps))
+
+  abbrev numbers : List ℕ
+  numbers = frontNumbers level needed t vs (length ps)
+
+  fits : Front level needed t vs (length ps)
+  fits = record { list = p; least = stream-need-least t (someHigh (idsOf ps)); reached = sent .reached; few = well .few }
 
   -- the parts of the stream, as the header and the tables see them
-  after-body : s ≡ body level t vs (length ps) ++ behind
-  after-body = sent .bytes ∙ sided level t vs ps ∙ append-assoc (body level t vs (length ps)) (spell (entries (endOf t vs chunks + 12 * length ps) ps)) (parts ps)
+  after-front : s ≡ spell numbers ++ (dataOf t vs chunks ++ behind)
+  after-front = sent .bytes ∙ needing level t vs ps needed
 
-  after-front : s ≡ spell (frontNumbers level t vs (length ps)) ++ (dataOf t vs chunks ++ behind)
-  unfolding body
-  after-front = after-body ∙ append-assoc (spell (frontNumbers level t vs (length ps))) (dataOf t vs chunks) behind
+  after-data : s ≡ (spell numbers ++ dataOf t vs chunks) ++ behind
+  after-data = after-front ∙ sym (append-assoc (spell numbers) (dataOf t vs chunks) behind)
+
+  data-ends : length (spell numbers ++ dataOf t vs chunks) ≡ endOf t vs chunks
+  data-ends =
+      length-append (spell numbers) (dataOf t vs chunks)
+      ∙ ap (λ (n : ℕ). n + length (dataOf t vs chunks))
+      (length-spell numbers ∙ ap (λ (n : ℕ). 4 * n) (length-numbers level needed t vs (length ps)) ∙ (let e : 4 * (12 + chunks) ≡ 48 + 4 * chunks = omega arith in e))
+      ∙ end-is t vs chunks
 
   pub length-is : length s ≡ endOf t vs chunks + 12 * length ps + length (parts ps)
-  length-is = ap length after-body ∙ length-sided (headerFor level t vs (length ps)) (body level t vs (length ps)) ps well (length-body level t vs (length ps)) refl
+  length-is = ap length after-data ∙ length-sided (headerFor level needed t vs (length ps)) (spell numbers ++ dataOf t vs chunks) ps well data-ends refl
 
-  pub header-read : headerOf s ≡ headerFor level t vs (length ps)
-  header-read = ap headerOf after-front ∙ header-is level t vs p (length ps) (well .few) (dataOf t vs chunks ++ behind)
+  pub header-read : headerOf s ≡ headerFor level needed t vs (length ps)
+  header-read = ap headerOf after-front ∙ header-is level needed t vs (length ps) fits (dataOf t vs chunks ++ behind)
 
-  pub header-words : (j : ℕ) → j < 12 → word s (4 * j) ≡ getD (headerNumbers level t (length vs) (length ps) (endOf t vs chunks)) j 0
+  pub header-words : (j : ℕ) → j < 12 → word s (4 * j) ≡ getD (1 ∷ level ∷ needed ∷ drop 3 (headerNumbers level t (length vs) (length ps) (endOf t vs chunks))) j 0
   unfolding headerNumbers
   header-words j h =
-      let header = headerNumbers level t (length vs) (length ps) (endOf t vs chunks) in
+      let header : List ℕ = 1 ∷ level ∷ needed ∷ drop 3 (headerNumbers level t (length vs) (length ps) (endOf t vs chunks)) in
       ap (λ (l : List ℕ). word l (4 * j)) after-front
-      ∙ front-word level t vs p (length ps) (well .few) (dataOf t vs chunks ++ behind) j (omega arith)
+      ∙ front-word level needed t vs (length ps) fits (dataOf t vs chunks ++ behind) j (omega arith)
       ∙ List·getD-append header (startsOf t vs chunks) 0 j h
 
   -- every byte is below 256: the numbers' digits, the chunks, and the side parts
@@ -112,87 +169,103 @@ module _ (level : ℕ) (t : Setting) (vs : List ℕ) (p : Storable level t vs) (
       (λ j. chunk-below (groupSize t) (t .width) (codesOf t (piece vs j)) (lt-of-le-of-lt (width-most (t .width) (p .setting .known)) (lit< tt))
       (codes-under t (width-bytes (t .width) (p .setting .known) .format) 0 (piece vs j) (piece-below (2 ^ t .width) vs j (p .patterns))))
       chunks in
-      let front = frontNumbers level t vs (length ps) in
       let table = entries (endOf t vs chunks + 12 * length ps) ps in
       λ i. rw after-front
-      (below-append 256 (spell front) (dataOf t vs chunks ++ behind) (spell-below front)
+      (below-append 256 (spell numbers) (dataOf t vs chunks ++ behind) (spell-below numbers)
       (below-append 256 (dataOf t vs chunks) behind data-below (below-append 256 (spell table) (parts ps) (spell-below table) (well .are-bytes))) i)
 
   -- ---- the rules
 
   pub setting-kept : settingRight (headerOf s) ≡ true
-  setting-kept = rw header-read (setting-right level t vs p (length ps) (well .few))
+  setting-kept = rw header-read (setting-right level needed t vs (length ps) fits)
 
   pub layout-kept : layoutRight (length s) (headerOf s) ≡ true
-  layout-kept = rw header-read (layout-right level t vs p (length ps) (well .few) (length s) (omega (arith, length-is)))
+  layout-kept = rw header-read (layout-right level needed t vs (length ps) fits (length s) (omega (arith, length-is)))
 
   pub chunk-table-kept : chunkTableRight (headerOf s) s ≡ true
-  chunk-table-kept = ap₂ chunkTableRight header-read after-front ∙ chunk-table-right level t vs p (length ps) (well .few) behind
+  chunk-table-kept = ap₂ chunkTableRight header-read after-front ∙ chunk-table-right level needed t vs (length ps) fits behind
 
   pub side-table-kept : sideTableRight (headerOf s) s ≡ true
   side-table-kept =
-      ap₂ sideTableRight header-read after-body
-      ∙ side-table-right (headerFor level t vs (length ps)) (body level t vs (length ps)) ps well (length-body level t vs (length ps)) refl
+      ap₂ sideTableRight header-read after-data
+      ∙ side-table-right (headerFor level needed t vs (length ps)) (spell numbers ++ dataOf t vs chunks) ps well data-ends refl
+
+  pub ids-kept : idsIn (headerOf s) s ≡ idsOf ps
+  ids-kept =
+      ap₂ idsIn header-read after-data
+      ∙ ids-read (headerFor level needed t vs (length ps)) (spell numbers ++ dataOf t vs chunks) ps well data-ends refl
+
+  pub need-is-kept : headerOf s .needed ≡ streamNeed (settingIn (headerOf s)) (someHigh (idsIn (headerOf s) s))
+  unfolding kOf
+  need-is-kept = rw (ids-kept, header-read, setting-back t (p .setting))
 
   pub chunks-kept : (j : ℕ) → j < chunks → chunkState (headerOf s) s j ≡ Good
-  chunks-kept j h = ap₂ (λ (x : Header) (l : List ℕ). chunkState x l j) header-read after-front ∙ chunk-good level t vs p (length ps) (well .few) behind j h
+  chunks-kept j h = ap₂ (λ (x : Header) (l : List ℕ). chunkState x l j) header-read after-front ∙ chunk-good level needed t vs (length ps) fits behind j h
 
   pub values-read : values s ≡ comingBack t vs
   unfolding values
-  values-read = ap₂ valuesIn header-read after-front ∙ values-back level t vs p (length ps) (well .few) behind
+  values-read = ap₂ valuesIn header-read after-front ∙ values-back level needed t vs (length ps) fits behind
 
   long : 48 ≤ length s
   long = omega (arith, length-is, end-is t vs chunks)
 
   -- ---- the rows
 
+  -- what the tables and the chunks say is what the ids say
+  tables-read : first (tableRows (headerOf s) s) ≡ first (map idRow (idsOf ps))
+  tables-read =
+      sym (tables-pass (headerOf s) s true true (sym chunk-table-kept) (sym side-table-kept) refl)
+      ∙ need-kept (headerOf s) (idsIn (headerOf s) s) need-is-kept
+      ∙ ap (λ (ids : List ℕ). first (map idRow ids)) ids-kept
+
+  then-good : (rows : List Row) → first rows ≡ Pass → first (tableRows (headerOf s) s ++ rows) ≡ first (map idRow (idsOf ps))
+  then-good rows good =
+      first-append (tableRows (headerOf s) s) rows
+      ∙ ap₂ andThen tables-read good
+      ∙ then-none (first (map idRow (idsOf ps)))
+
+  content-read : first (contentRows (headerOf s) s) ≡ first (map idRow (idsOf ps))
+  unfolding contentRows chunkRows
+  content-read =
+      then-good (chunkRows (headerOf s) s)
+      (all-pass (chunkRow (headerOf s) s) (headerOf s .chunks) 0
+      (λ j l m. sym (good-row (headerOf s) s j (chunks-kept j (let e = ap (λ (x : Header). x .chunks) header-read in omega arith)))))
+
+  own-read : (i : ℕ) → i < length vs → first (ownRows (headerOf s) s i) ≡ first (map idRow (idsOf ps))
+  unfolding ownRows chunksIn
+  own-read i l = then-good (chunkRow (headerOf s) s (i / 1024) ∷ []) (sym (good-row (headerOf s) s (i / 1024) (chunks-kept (i / 1024) (omega arith))))
+
   module _ (L : ℕ) (known : knownLevel L ≡ true) where
-    opening-pass : need t ≤ L → first (openingRows L s) ≡ Pass
+    opening-pass : needed ≤ L → first (openingRows L s) ≡ Pass
     unfolding openingRows headerRows first
     opening-pass h =
-        rw (known, le-ltb (length s) 48 long, setting-kept, layout-kept) (rw (header-read, le-ltb L (need t) h))
+        rw (known, le-ltb (length s) 48 long, setting-kept, layout-kept) (rw (header-read, le-ltb L needed h))
 
-    opening-stop : L < need t → first (openingRows L s) ≡ Stop 7 (need t)
+    opening-stop : L < needed → first (openingRows L s) ≡ Stop 7 needed
     unfolding openingRows headerRows first
     opening-stop h =
-        rw (known, le-ltb (length s) 48 long) (rw (header-read, lt-ltb L (need t) h))
+        rw (known, le-ltb (length s) 48 long) (rw (header-read, lt-ltb L needed h))
 
-    content-pass : first (contentRows (headerOf s) s) ≡ Pass
-    unfolding contentRows chunkRows
-    content-pass =
-        opened (tableRows (headerOf s) s) (chunkRows (headerOf s) s) (sym (tables-pass (headerOf s) s true true (sym chunk-table-kept) (sym side-table-kept) refl))
-        ∙ all-pass (chunkRow (headerOf s) s) (headerOf s .chunks) 0
-        (λ j l m. sym (good-row (headerOf s) s j (chunks-kept j (let e = ap (λ (x : Header). x .chunks) header-read in omega arith))))
+    pub check-read : needed ≤ L → first (checkRows L s) ≡ first (map idRow (idsOf ps))
+    check-read h = sym (check-content L s (opening-pass h) (headerOf s) refl) ∙ content-read
 
-    pub check-pass : need t ≤ L → first (checkRows L s) ≡ Pass
-    unfolding checkRows
-    check-pass h = opened (openingRows L s) (contentRows (headerOf s) s) (opening-pass h) ∙ content-pass
+    pub check-stop : L < needed → first (checkRows L s) ≡ Stop 7 needed
+    check-stop h = sym (check-shut L s 7 needed (opening-stop h))
 
-    pub check-stop : L < need t → first (checkRows L s) ≡ Stop 7 (need t)
-    unfolding checkRows
-    check-stop h = shut 7 (need t) (openingRows L s) (contentRows (headerOf s) s) (opening-stop h)
+    pub unpack-read : (room : ℕ) → length vs ≤ room → needed ≤ L → first (unpackRows (t .width) L s room) ≡ first (map idRow (idsOf ps))
+    unpack-read room l h =
+        let width = ap (λ (x : Header). x .width) header-read in
+        let count = ap (λ (x : Header). x .count) header-read in
+        sym (unpack-content L s (opening-pass h) (headerOf s) refl (t .width) room width (omega (arith, count))) ∙ content-read
 
-    module _ (room : ℕ) where
-      abbrev others : List Row
-      others = widthRow (t .width) (headerOf s) ∷ roomRow room (headerOf s) ∷ contentRows (headerOf s) s
+    pub unpack-stop : (room : ℕ) → L < needed → first (unpackRows (t .width) L s room) ≡ Stop 7 needed
+    unpack-stop room h = sym (unpack-shut L s 7 needed (opening-stop h) (t .width) room)
 
-      pub unpack-pass : need t ≤ L → length vs ≤ room → first (unpackRows (t .width) L s room) ≡ Pass
-      unfolding unpackRows widthRow roomRow first
-      unpack-pass h l =
-          opened (openingRows L s) others (opening-pass h)
-          ∙ passed (widthRow (t .width) (headerOf s)) (roomRow room (headerOf s) ∷ contentRows (headerOf s) s) (rw (header-read, eq-eqb (t .width) (t .width) refl))
-          ∙ passed (roomRow room (headerOf s)) (contentRows (headerOf s) s) (rw (header-read, le-ltb room (length vs) l))
-          ∙ content-pass
+    pub probe-read : (i : ℕ) → i < length vs → needed ≤ L → first (probeRows (t .width) L s i) ≡ first (map idRow (idsOf ps))
+    probe-read i l h =
+        let width = ap (λ (x : Header). x .width) header-read in
+        let count = ap (λ (x : Header). x .count) header-read in
+        sym (probe-own L s (opening-pass h) (headerOf s) refl (t .width) i width (omega (arith, count))) ∙ own-read i l
 
-      pub unpack-stop : L < need t → first (unpackRows (t .width) L s room) ≡ Stop 7 (need t)
-      unfolding unpackRows
-      unpack-stop h = shut 7 (need t) (openingRows L s) others (opening-stop h)
-
-    module _ (i : ℕ) where
-      pub probe-pass : i < length vs → need t ≤ L → first (probeRows (t .width) L s i) ≡ Pass
-      probe-pass l h =
-          probe-passes (t .width) L s (length vs) (unpack-pass (length vs) h (omega arith)) i (let n = ap (λ (x : Header). x .count) header-read in omega (arith, n))
-
-      pub probe-stop : L < need t → first (probeRows (t .width) L s i) ≡ Stop 7 (need t)
-      unfolding probeRows
-      probe-stop h = shut 7 (need t) (openingRows L s) (widthRow (t .width) (headerOf s) ∷ indexRow i (headerOf s) ∷ ownRows (headerOf s) s i) (opening-stop h)
+    pub probe-stop : (i : ℕ) → L < needed → first (probeRows (t .width) L s i) ≡ Stop 7 needed
+    probe-stop i h = sym (probe-shut L s 7 needed (opening-stop h) (t .width) i)

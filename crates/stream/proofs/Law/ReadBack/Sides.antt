@@ -11,8 +11,8 @@ use lib.ListN.{length, take, drop, getD, length-append}
 use lib.Seq.{drop-append-add}
 use Rattle.blocks.specs.Bytes.{number}
 use Rattle.stream.specs.Header.{word}
-use Rattle.stream.specs.Tables.{every, sideId, sidePlace, sideLength, idFloor, partAt, entryRight, sideTableRight}
-use Rattle.stream.specs.Writing.{spell, Side, entries, parts, increasing, WellFormedSides}
+use Rattle.stream.specs.Tables.{every, sideId, sidePlace, sideLength, idFloor, partAt, entryRight, sideTableRight, idsFrom, idsIn}
+use Rattle.stream.specs.Writing.{spell, Side, entries, parts, idsOf, increasing, WellFormedSides}
 use Rattle.stream.specs.declared.header.Header.{Header}
 use Rattle.stream.proofs.Law.Plain.Truth.{and-left, and-right}
 use Rattle.stream.proofs.Law.Written.Numbers.{length-spell, word-spelled}
@@ -56,6 +56,19 @@ module _ (h : Header) (s : List ℕ) where
             ∙ (let e : next + length (parts ps) ≡ place + length (p .bytes ++ parts ps) = omega (arith, length-append (p .bytes) (parts ps)) in e),
       )
 
+  -- their ids
+  ids-are : (ps : List Side) (i place : ℕ) → ((x : ℕ) → x < 3 * length ps → word s (h .end + 12 * i + 4 * x) ≡ getD (entries place ps) x 0)
+      → idsFrom h s (length ps) i ≡ idsOf ps
+  unfolding entries idsFrom idsOf sideId
+  ids-are [] i place at = refl
+  ids-are (p ∷ ps) i place at =
+      ap₂ (λ (id : ℕ) (ids : List ℕ). id ∷ ids)
+      (ap (word s) (let e : h .end + 12 * i ≡ h .end + 12 * i + 4 * 0 = omega arith in e) ∙ at 0 (omega arith))
+      (ids-are ps (suc i) (place + length (p .bytes))
+      λ x l.
+      ap (word s) (let e : h .end + 12 * suc i + 4 * x ≡ h .end + 12 * i + 4 * suc (suc (suc x)) = omega arith in e)
+      ∙ at (suc (suc (suc x))) (omega arith))
+
 -- a number behind the first bytes
 word-behind : (b r : List ℕ) (end n : ℕ) → length b ≡ end → word (b ++ r) (end + n) ≡ word r n
 unfolding word
@@ -74,6 +87,17 @@ module _ (h : Header) (front : List ℕ) (ps : List Side) (well : WellFormedSide
       ∙ ap₂ _+_ ends (length-append (spell (entries place ps)) (parts ps) ∙ ap (λ (n : ℕ). n + length (parts ps)) (length-spell (entries place ps) ∙ ap (λ (n : ℕ). 4 * n) (length-entries place ps)))
       ∙ (let e : h .end + (4 * (3 * length ps) + length (parts ps)) ≡ place + length (parts ps) = omega arith in e)
 
+  -- the numbers of the entries, from the first on
+  entries-read : (x : ℕ) → x < 3 * length ps → word bytes (h .end + 12 * 0 + 4 * x) ≡ getD (entries place ps) x 0
+  entries-read x l =
+      ap (word bytes) (let e : h .end + 12 * 0 + 4 * x ≡ h .end + 4 * x = omega arith in e)
+      ∙ word-behind front (spell (entries place ps) ++ parts ps) (h .end) (4 * x) ends
+      ∙ word-spelled (entries place ps) (parts ps) x (well .numbers) (omega (arith, length-entries place ps))
+
+  pub ids-read : idsIn h bytes ≡ idsOf ps
+  unfolding idsIn
+  ids-read = ap (λ (n : ℕ). idsFrom h bytes n 0) sides ∙ ids-are h bytes ps 0 place entries-read
+
   pub side-table-right : sideTableRight h bytes ≡ true
   unfolding sideTableRight idFloor partAt
   side-table-right =
@@ -85,9 +109,5 @@ module _ (h : Header) (front : List ℕ) (ps : List Side) (well : WellFormedSide
     where
       table : (every (entryRight h bytes) (length ps) 0 ≡ true) × (partAt h bytes (0 + length ps) ≡ place + length (parts ps))
       table =
-          table-right h bytes ps 0 place 0
-          (λ x l.
-          ap (word bytes) (let e : h .end + 12 * 0 + 4 * x ≡ h .end + 4 * x = omega arith in e)
-          ∙ word-behind front (spell (entries place ps) ++ parts ps) (h .end) (4 * x) ends
-          ∙ word-spelled (entries place ps) (parts ps) x (well .numbers) (omega (arith, length-entries place ps)))
+          table-right h bytes ps 0 place 0 entries-read
           (ap (λ (n : ℕ). h .end + 12 * n) sides) refl (well .ordered)

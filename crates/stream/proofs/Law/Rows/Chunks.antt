@@ -10,8 +10,8 @@ use Rattle.stream.specs.Chunk.{chunkAnswer, chunkCodes}
 use Rattle.stream.specs.Header.{settingIn}
 use Rattle.stream.specs.Stream.{countOf, chunkOf, chunkState, chunkValues}
 use Rattle.stream.specs.Rows.{Row, rowsFrom, numbersOf, first}
-use Rattle.stream.specs.Tables.{chunkTableRight, sideTableRight}
-use Rattle.stream.specs.Operations.{tableRows, faultDetail, faultRow, chunkRow, chunkRows}
+use Rattle.stream.specs.Tables.{chunkTableRight, sideTableRight, idsIn}
+use Rattle.stream.specs.Operations.{sideRows, tableRows, faultDetail, faultRow, chunkRow, chunkRows}
 use Rattle.stream.specs.declared.answers.Step.the-variants.{Pass, Stop}
 use Rattle.stream.specs.declared.chunk.ChunkAnswer.{ChunkAnswer}
 use Rattle.stream.specs.declared.chunk.ChunkAnswer.the-variants.{Good, Bad}
@@ -85,7 +85,7 @@ own-number h s j = ten h s j []
 
 -- the tables' row, from the two tests
 module _ (h : Header) (s : List ℕ) (a b : Bool) (chunks : a ≡ chunkTableRight h s) (sides : b ≡ sideTableRight h s) where
-  pub tables-pass : a && b ≡ true → Pass ≡ first (tableRows h s)
+  pub tables-pass : a && b ≡ true → first (sideRows h (idsIn h s)) ≡ first (tableRows h s)
   unfolding tableRows first
   tables-pass e = rw (← chunks, ← sides, e)
 

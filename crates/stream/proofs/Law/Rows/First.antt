@@ -13,6 +13,11 @@ unfoldable pub andThen : Step → Step → Step
 andThen Pass later = later
 andThen (Stop number detail) later = Stop number detail
 
+pub then-none : (a : Step) → andThen a Pass ≡ a
+unfolding andThen
+then-none Pass = refl
+then-none (Stop number detail) = refl
+
 pub then-pass : (a b : Step) → andThen a b ≡ Pass → (a ≡ Pass) × (b ≡ Pass)
 unfolding andThen
 then-pass Pass b e = (refl, e)

@@ -1,19 +1,19 @@
 -- What is known of a stream that rows have passed.
-use mathlib.Core.Path.{_≡_, sym, ap, subst, _∙_}
+use mathlib.Core.Path.{_≡_, refl, sym, ap, subst, _∙_}
 use mathlib.Core.Bool.{Bool, true, false, _&&_, not}
-use mathlib.Core.List.{List, [], _∷_, _++_}
+use mathlib.Core.List.{List, [], _∷_, _++_, map}
 use Prim.Native.Nat.{ℕ, _/_, _≤_, _<_}
 use borrow.Author.Tests.{ltb-true, ltb-false, le-ltb, eqb-true, eq-eqb, not-false}
 use lib.Dec.{ltb, eqb}
 use lib.ListN.{length, drop}
 use Rattle.blocks.specs.Bytes.{Below}
-use Rattle.stream.specs.Setting.{knownLevel}
+use Rattle.stream.specs.Setting.{knownLevel, someHigh, streamNeed}
 use Rattle.stream.specs.Rows.{Row, row, first, answer, after}
-use Rattle.stream.specs.Header.{headerOf, settingRight, layoutRight}
+use Rattle.stream.specs.Header.{headerOf, settingIn, settingRight, layoutRight}
 use Rattle.stream.specs.Relied.{Opened, Readable}
-use Rattle.stream.specs.Tables.{chunkTableRight, sideTableRight}
+use Rattle.stream.specs.Tables.{chunkTableRight, sideTableRight, idsIn}
 use Rattle.stream.specs.Stream.{chunkState, valuesIn, values}
-use Rattle.stream.specs.Operations.{headerRows, openingRows, tableRows, chunkRow, chunkRows, contentRows, widthRow, roomRow, indexRow, ownRows, checkRows, unpackRows, unpackAnswer, unpackOut, probeRows}
+use Rattle.stream.specs.Operations.{headerRows, openingRows, needRow, idRow, sideRows, tableRows, chunkRow, chunkRows, contentRows, widthRow, roomRow, indexRow, ownRows, checkRows, unpackRows, unpackAnswer, unpackOut, probeRows}
 use Rattle.stream.specs.declared.answers.Answer.the-variants.{Done, Refused}
 use Rattle.stream.specs.declared.answers.Step.the-variants.{Pass, Stop}
 use Rattle.stream.specs.declared.chunk.ChunkAnswer.the-variants.{Good}
@@ -23,7 +23,8 @@ use Rattle.stream.proofs.Law.Header.Numbers.{words}
 use Rattle.stream.proofs.Law.Setting.Allowed.{settled}
 use Rattle.stream.proofs.Law.Header.Layout.{laid-out}
 use Rattle.stream.proofs.Law.Rows.First.{not-given, passed-both, opened-both}
-use Rattle.stream.proofs.Law.Rows.Chunks.{passed-good}
+use Rattle.stream.proofs.Law.Rows.Ids.{low-pass, pass-low, need-kept}
+use Rattle.stream.proofs.Law.Rows.Chunks.{passed-good, tables-pass}
 
 -- a row that is not given, and the others
 row-off : (number detail : ℕ) (given : Bool) (rows : List Row) → first (row number given detail ∷ rows) ≡ Pass → (given ≡ false) × (first rows ≡ Pass)
@@ -78,22 +79,35 @@ opened-header level s b o = record { words = words s b; setting = settled (heade
 pub opened-as : (level : ℕ) (s : List ℕ) → first (openingRows level s) ≡ Pass → Below 256 s → (h : Header) → h ≡ headerOf s → Opened (length s) h
 opened-as level s e b h is = rw is (opened-header level s b (opening level s e))
 
--- ---- 9 10
+-- ---- 9 8 15 10
 
 pub record Tables (h : Header) (s : List ℕ) : Type 0 where
   pub chunks : chunkTableRight h s ≡ true
   pub sides : sideTableRight h s ≡ true
+  pub needed : h .needed ≡ streamNeed (settingIn h) (someHigh (idsIn h s))
+  pub low : someHigh (idsIn h s) ≡ false
 
 module _ (h : Header) (s : List ℕ) where
   pub tables : first (tableRows h s) ≡ Pass → Tables h s
-  unfolding tableRows
+  unfolding tableRows sideRows needRow
   tables e =
-      let a = row-off 9 0 (not (chunkTableRight h s && sideTableRight h s)) [] e in
+      let need = streamNeed (settingIn h) (someHigh (idsIn h s)) in
+      let a = row-off 9 0 (not (chunkTableRight h s && sideTableRight h s)) (sideRows h (idsIn h s)) e in
+      let b = row-off 8 0 (not (eqb (h .needed) need)) (map idRow (idsIn h s)) (a .1) in
       let both = not-false (chunkTableRight h s && sideTableRight h s) (a .0) in
       record {
         chunks = and-left (chunkTableRight h s) (sideTableRight h s) both;
         sides = and-right (chunkTableRight h s) (sideTableRight h s) both;
+        needed = eqb-true (h .needed) need (not-false (eqb (h .needed) need) (b .0));
+        low = pass-low (idsIn h s) (b .1);
       }
+
+  -- and the other way round
+  pub tables-passed : Tables h s → first (tableRows h s) ≡ Pass
+  tables-passed t =
+      sym (tables-pass h s true true (sym (t .chunks)) (sym (t .sides)) refl)
+      ∙ need-kept h (idsIn h s) (t .needed)
+      ∙ low-pass (idsIn h s) (t .low)
 
   pub content : first (contentRows h s) ≡ Pass → Tables h s × (first (chunkRows h s) ≡ Pass)
   unfolding contentRows

@@ -2,7 +2,7 @@
 use mathlib.Core.Path.{_≡_, refl, sym, ap, subst, _∙_}
 use mathlib.Core.Logic.{_↔_}
 use mathlib.Core.Bool.{Bool, true, false, _&&_, not}
-use mathlib.Core.List.{List, [], _∷_, _++_}
+use mathlib.Core.List.{List, [], _∷_, _++_, map}
 use Prim.Native.Nat.{ℕ, _+_, _*_, _/_, _%_, _≤_, _<_}
 use native.Mathlib.Omega.{arith}
 use borrow.Author.Tests.{ltb-true, eqb-true, eq-eqb, not-false}
@@ -13,7 +13,8 @@ use Rattle.stream.specs.Header.{headerOf, settingIn}
 use Rattle.stream.specs.Relied.{Layout}
 use Rattle.stream.specs.Rows.{Row, row, first, numbersOf}
 use Rattle.stream.specs.Stream.{countOf, chunkOf, chunkState}
-use Rattle.stream.specs.Operations.{headerRows, openingRows, tableRows, faultDetail, faultRow, chunkRow, chunkRows, contentRows, widthRow, roomRow, indexRow, ownRows, checkRows, unpackRows, probeRows}
+use Rattle.stream.specs.Tables.{idsIn}
+use Rattle.stream.specs.Operations.{headerRows, openingRows, needRow, idRow, sideRows, tableRows, faultDetail, faultRow, chunkRow, chunkRows, contentRows, widthRow, roomRow, indexRow, ownRows, checkRows, unpackRows, probeRows}
 use Rattle.stream.specs.Theorem.{FirstBad, BadGroup, Fault}
 use Rattle.stream.specs.declared.answers.Step.the-variants.{Pass, Stop}
 use Rattle.stream.specs.declared.chunk.ChunkAnswer.{ChunkAnswer}
@@ -97,6 +98,12 @@ others x detail (row number true y ∷ before) rows w e =
     absurd (let n : _≡_ {A = ℕ} 0 1 = cc in omega (arith, n))
 others x detail (row number false y ∷ before) rows w e = others x detail before rows (and-right (not (eqb number x)) (without x (numbersOf before)) w) e
 
+-- 15 is another number
+ids-others : (ids : List ℕ) → without 10 (numbersOf (map idRow ids)) ≡ true
+unfolding idRow numbersOf without
+ids-others [] = refl
+ids-others (id ∷ ids) = ids-others ids
+
 module _ (level : ℕ) (s : List ℕ) (detail : ℕ) where
   laid : first (openingRows level s) ≡ Pass → Layout (length s) (headerOf s)
   laid pass = laid-out (length s) (headerOf s) (opening level s pass .layout)
@@ -106,10 +113,10 @@ module _ (level : ℕ) (s : List ℕ) (detail : ℕ) where
   unfolding openingRows headerRows numbersOf without
   opening-others rows e = others 10 detail (openingRows level s) rows refl e
 
-  -- 9
+  -- 9 8 15
   table-others : (rows : List Row) → first (tableRows (headerOf s) s ++ rows) ≡ Stop 10 detail → (first (tableRows (headerOf s) s) ≡ Pass) × (first rows ≡ Stop 10 detail)
-  unfolding tableRows numbersOf without
-  table-others rows e = others 10 detail (tableRows (headerOf s) s) rows refl e
+  unfolding tableRows sideRows needRow numbersOf without
+  table-others rows e = others 10 detail (tableRows (headerOf s) s) rows (ids-others (idsIn (headerOf s) s)) e
 
   content-named : first (openingRows level s) ≡ Pass → first (contentRows (headerOf s) s) ≡ Stop 10 detail → Fault s (detail / 32) (detail % 32)
   unfolding contentRows

@@ -2,8 +2,8 @@
 -- over rows: where each number is small, and the detail of each row that can be given, so is what the first given row says.
 use mathlib.Core.Path.{_≡_, refl, sym, _∙_}
 use mathlib.Core.Bool.{Bool, true, false}
-use mathlib.Core.List.{List, [], _∷_, _++_}
-use Prim.Native.Nat.{ℕ, zero, suc, _+_, _-_, _/_, _%_, _^_, _≤_, _<_}
+use mathlib.Core.List.{List, [], _∷_, _++_, map}
+use Prim.Native.Nat.{ℕ, zero, suc, _+_, _-_, _*_, _/_, _%_, _^_, _≤_, _<_}
 use native.Mathlib.Omega.{arith}
 use borrow.Author.Tests.{ltb-true, not-false}
 use lib.Dec.{ltb, lit<}
@@ -13,18 +13,19 @@ use Rattle.blocks.specs.Bytes.{Below}
 use Rattle.stream.specs.Setting.{knownWidth, settingOf, groupSize, limitOf}
 use Rattle.stream.specs.Chunk.{chunkCodes}
 use Rattle.stream.specs.Header.{headerOf, settingIn, chunksIn}
-use Rattle.stream.specs.Tables.{startAt}
+use Rattle.stream.specs.Tables.{startAt, sideId, idsFrom, idsIn}
 use Rattle.stream.specs.Stream.{countOf, chunkOf, chunkState, chunkValues, valueIn, valueAt}
 use Rattle.stream.specs.Rows.{Row, row, rowsFrom, first, answer}
 use Rattle.stream.specs.Writing.{stream}
 use Rattle.stream.specs.Relied.{Layout}
-use Rattle.stream.specs.Operations.{headerRows, openingRows, tableRows, faultDetail, faultRow, chunkRow, chunkRows, contentRows, widthRow, roomRow, indexRow, ownRows, checkRows, checkAnswer, unpackRows, unpackAnswer, probeRows, lengthRows, lengthAnswer, packRows, packAnswer}
+use Rattle.stream.specs.Operations.{headerRows, openingRows, needRow, idRow, sideRows, tableRows, faultDetail, faultRow, chunkRow, chunkRows, contentRows, widthRow, roomRow, indexRow, ownRows, checkRows, checkAnswer, unpackRows, unpackAnswer, probeRows, lengthRows, lengthAnswer, packRows, packAnswer}
 use Rattle.stream.specs.declared.answers.Answer.{Answer}
 use Rattle.stream.specs.declared.answers.Answer.the-variants.{Done, Refused}
 use Rattle.stream.specs.declared.answers.Step.{Step}
 use Rattle.stream.specs.declared.answers.Step.the-variants.{Pass, Stop}
 use Rattle.stream.specs.declared.chunk.ChunkAnswer.{ChunkAnswer}
 use Rattle.stream.specs.declared.chunk.ChunkAnswer.the-variants.{Good, Bad}
+use Rattle.stream.specs.declared.header.Header.{Header}
 use Rattle.blocks.proofs.Law.Digits.{below-take, below-drop}
 use Rattle.stream.proofs.Law.Rows.First.{opened, opened-both, shut}
 use Rattle.stream.proofs.Law.Header.Numbers.{word-small}
@@ -114,9 +115,15 @@ module _ (level : ℕ) (s : List ℕ) (bytes : Below 256 s) where
   unfolding headerOf
   count-small = word-small s 24 bytes
 
+  -- 15 has an id, four bytes of the side table
+  ids-small : (h : Header) (k i : ℕ) → Small (2 ^ 32) (map idRow (idsFrom h s k i))
+  unfolding idsFrom sideId idRow
+  ids-small h zero i = no-rows
+  ids-small h (suc k) i = row-small 15 _ _ _ (lit< tt, lit< tt) (λ _. word-small s (h .end + 12 * i) bytes) (λ _. ids-small h k (suc i))
+
   tables-small : Small (2 ^ 32) (tableRows (headerOf s) s)
-  unfolding tableRows
-  tables-small = plain 9 _ _ (lit< tt, lit< tt) no-rows
+  unfolding tableRows sideRows needRow idsIn
+  tables-small = plain 9 _ _ (lit< tt, lit< tt) (plain 8 _ _ (lit< tt, lit< tt) (ids-small (headerOf s) (headerOf s .sides) 0))
 
   -- 10, with the place
   fault-small : (j : ℕ) (a : ChunkAnswer) → ((g : ℕ) → a ≡ Bad g → faultDetail j g < 2 ^ 32) → Small (2 ^ 32) (faultRow j a ∷ [])

@@ -80,7 +80,7 @@ module _ (t : Setting) where
 -- a level has few bits
 pub level-small : (level : ℕ) → knownLevel level ≡ true → level < 2 ^ 32
 unfolding knownLevel highestLevel
-level-small level known = lt-of-le-of-lt (leb-true level 11 (and-right (leb 8 level) (leb level 11) known)) (lit< tt)
+level-small level known = lt-of-le-of-lt (leb-true level highestLevel (and-right (leb 8 level) (leb level highestLevel) known)) (lit< tt)
 
 -- ---- groups: a size is some, and a chunk is a whole number of groups
 

@@ -1,12 +1,14 @@
 -- A known width is a format of the number rules, and a whole number of bytes. What a setting needs is a known level.
 use mathlib.Core.Path.{_≡_, refl, sym, subst}
 use mathlib.Core.Logic.{⊎-elim}
-use mathlib.Core.Bool.{Bool, true, false, cond}
+use mathlib.Core.Bool.{Bool, true, false, _&&_, cond}
 use Prim.Native.Nat.{ℕ, _*_, _≤_, max}
-use lib.Dec.{eqb, lit≤}
+use borrow.Author.Tests.{ltb-true, ltb-false}
+use native.Mathlib.Omega.{arith}
+use lib.Dec.{ltb, eqb, lit≤}
 use Rattle.numbers.specs.Theorem.{Format}
 use Rattle.numbers.proofs.Theorems.{format-32, format-64}
-use Rattle.stream.specs.Setting.{knownWidth, fractionBits, widthNeed, modeNeed, need}
+use Rattle.stream.specs.Setting.{knownWidth, fractionBits, widthNeed, modeNeed, need, streamNeed}
 use Rattle.stream.specs.declared.setting.Setting.{Setting}
 use Rattle.stream.proofs.Law.Setting.Allowed.{width-cases}
 
@@ -32,7 +34,16 @@ pub known-64 : knownWidth 64 ≡ true
 unfolding knownWidth
 known-64 = refl
 
--- no setting needs more than the highest level
+-- no setting needs less than 8
+pub need-least : (t : Setting) → 8 ≤ need t
+unfolding need widthNeed modeNeed
+need-least t = go (eqb (t .width) 64)
+  where
+    go : (a : Bool) → 8 ≤ max (cond a 10 8) (modeNeed (t .mode))
+    go true = omega arith
+    go false = omega arith
+
+-- nor more than 11
 pub need-small : (t : Setting) → need t ≤ 11
 unfolding need widthNeed modeNeed
 need-small t = go (eqb (t .width) 64) (eqb (t .mode) 1) (eqb (t .mode) 2)
@@ -44,3 +55,23 @@ need-small t = go (eqb (t .width) 64) (eqb (t .mode) 1) (eqb (t .mode) 2)
     go false true c = lit≤ tt
     go false false true = lit≤ tt
     go false false false = lit≤ tt
+
+-- a stream needs what its setting does, and no more where no id is high
+pub stream-need-least : (t : Setting) (high : Bool) → need t ≤ streamNeed t high
+unfolding streamNeed
+stream-need-least t high = omega arith
+
+pub low-need : (t : Setting) → streamNeed t false ≡ need t
+unfolding streamNeed
+low-need t = omega (arith, need-least t)
+
+-- from a test of the setting's need against 12
+pub raised-need : (t : Setting) (high : Bool) (n : ℕ) → n ≡ need t → high && ltb n 12 ≡ true → 12 ≡ streamNeed t high
+unfolding streamNeed
+raised-need t true n is e = omega (arith, ltb-true n 12 e)
+raised-need t false n is e = let z : false ≡ true = e in absurd (let x : _≡_ {A = ℕ} 0 1 = cc in omega (arith, x))
+
+pub kept-need : (t : Setting) (high : Bool) (n : ℕ) → n ≡ need t → high && ltb n 12 ≡ false → n ≡ streamNeed t high
+unfolding streamNeed
+kept-need t true n is e = omega (arith, ltb-false n 12 e)
+kept-need t false n is e = omega (arith, need-least t)

@@ -4,13 +4,13 @@ use mathlib.Core.Bool.{true, false, _&&_}
 use mathlib.Core.List.{List}
 use Prim.Native.Nat.{ℕ, suc, _+_, _*_, _≤_, _<_}
 use native.Mathlib.Numerals.{add-one}
-use borrow.Author.Tests.{le-leb, lt-leb, eq-eqb, ne-eqb}
+use borrow.Author.Tests.{leb-true, le-leb, lt-leb, eq-eqb, ne-eqb}
 use lib.Dec.{leb, eqb}
 use lib.ListN.{length}
 use Rattle.stream.specs.Header.{word}
 use Rattle.stream.specs.Tables.{every, sideId, sidePlace, sideLength, idFloor, partAt, entryRight, sideTableRight}
 use Rattle.stream.specs.declared.header.Header.{Header}
-use Rattle.stream.proofs.Law.Plain.Truth.{and-false}
+use Rattle.stream.proofs.Law.Plain.Truth.{and-left, and-false}
 
 module _ (h : Header) (s : List ℕ) where
   -- a table that runs past the bytes
@@ -22,6 +22,14 @@ module _ (h : Header) (s : List ℕ) where
       → sideTableRight h s ≡ every (entryRight h s) (h .sides) 0 && eqb (partAt h s (h .sides)) (length s)
   unfolding sideTableRight
   side-scan l = rw (le-leb (h .end + 12 * h .sides) (length s) l)
+
+  -- a right table lies within the bytes
+  pub table-within : sideTableRight h s ≡ true → h .end + 12 * h .sides ≤ length s
+  unfolding sideTableRight
+  table-within right =
+      leb-true (h .end + 12 * h .sides) (length s)
+      (and-left (leb (h .end + 12 * h .sides) (length s)) (every (entryRight h s) (h .sides) 0)
+      (and-left (leb (h .end + 12 * h .sides) (length s) && every (entryRight h s) (h .sides) 0) (eqb (partAt h s (h .sides)) (length s)) right))
 
   -- the entry i, from its id, its place, the least id and the part's start
   module _ (i id place floor : ℕ) (ids : id ≡ word s (h .end + 12 * i)) (floors : floor ≡ idFloor h s i) (places : place ≡ partAt h s i) where

@@ -24,7 +24,7 @@ use Rattle.blocks.proofs.Law.Truth.{le-or-lt}
 use Rattle.stream.proofs.Law.Plain.Truth.{and-left, and-right, and-false}
 use Rattle.stream.proofs.Law.Header.Layout.{laid-out}
 use Rattle.stream.proofs.Law.Header.Front.{word-front, header-front}
-use Rattle.stream.proofs.Law.Tables.Sides.{side-short, side-scan}
+use Rattle.stream.proofs.Law.Tables.Sides.{side-short, side-scan, table-within}
 use Rattle.stream.proofs.Law.Rows.First.{shut}
 use Rattle.stream.proofs.Law.Rows.Chunks.{tables-stop}
 use Rattle.stream.proofs.Law.Rows.Given.{check-shut, unpack-shut, probe-shut, check-content, unpack-content, probe-own}
@@ -218,16 +218,8 @@ module _ (s more : List ℕ) (some : more ≡ [] → ⊥) (level : ℕ) (o : Ope
   added-length = length-append s more
 
   -- the side table still lies where it lay, and the last part still ends with s
-  table-within : headerOf s .end + 12 * headerOf s .sides ≤ length s
-  unfolding sideTableRight
-  table-within =
-      let h = headerOf s in
-      leb-true (h .end + 12 * h .sides) (length s)
-      (and-left (leb (h .end + 12 * h .sides) (length s)) (every (entryRight h s) (h .sides) 0)
-      (and-left (leb (h .end + 12 * h .sides) (length s) && every (entryRight h s) (h .sides) 0) (eqb (partAt h s (h .sides)) (length s)) (t .sides)))
-
   side-table-added : sideTableRight (headerOf s) longer ≡ false
-  side-table-added = other-length (headerOf s) s longer (length s) front-kept table-within (t .sides) (λ e. some (nothing more (omega (arith, e, added-length))))
+  side-table-added = other-length (headerOf s) s longer (length s) front-kept (table-within (headerOf s) s (t .sides)) (t .sides) (λ e. some (nothing more (omega (arith, e, added-length))))
 
   added-opening : first (openingRows level longer) ≡ Pass
   added-opening =

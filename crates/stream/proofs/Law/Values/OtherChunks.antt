@@ -2,7 +2,7 @@
 use mathlib.Core.Path.{_≡_, refl, sym, ap, ap₂, _∙_, fun-ext}
 use mathlib.Core.Logic.{_⊎_, inl, inr}
 use mathlib.Core.Bool.{Bool, true, _&&_}
-use mathlib.Core.List.{List}
+use mathlib.Core.List.{List, _∷_}
 use Prim.Native.Nat.{ℕ, zero, suc, _+_, _-_, _*_, _/_, _≤_, _<_}
 use native.Mathlib.Omega.{arith}
 use borrow.Author.Tests.{lt-ltb, le-ltb}
@@ -13,7 +13,7 @@ use Rattle.blocks.specs.Bytes.{number}
 use Rattle.stream.specs.Setting.{groupSize, limitOf, patternsOf}
 use Rattle.stream.specs.Chunk.{chunkAnswer, chunkCodes}
 use Rattle.stream.specs.Header.{word, headerOf, settingIn}
-use Rattle.stream.specs.Tables.{every, startAt, startRight, chunkTableRight, sideId, sidePlace, sideLength, idFloor, partAt, entryRight, sideTableRight}
+use Rattle.stream.specs.Tables.{every, startAt, startRight, chunkTableRight, sideId, sidePlace, sideLength, idFloor, partAt, entryRight, sideTableRight, idsFrom, idsIn}
 use Rattle.stream.specs.Stream.{countOf, chunkOf, chunkState, chunkValues, valueIn, valueAt}
 use Rattle.stream.specs.Operations.{openingRows, tableRows, faultRow, chunkRow, ownRows, probeRows}
 use Rattle.stream.specs.Relied.{Layout}
@@ -64,6 +64,15 @@ module _ (j : ℕ) (s t : List ℕ) (apart : Apart j s t) where
   id-same : (i : ℕ) → sideId (headerOf s) s i ≡ sideId (headerOf s) t i
   unfolding sideId
   id-same i = back-word (headerOf s .end + 12 * i) (omega arith)
+
+  ids-from-same : (k i : ℕ) → idsFrom (headerOf s) s k i ≡ idsFrom (headerOf s) t k i
+  unfolding idsFrom
+  ids-from-same zero i = refl
+  ids-from-same (suc k) i = ap₂ (λ (id : ℕ) (ids : List ℕ). id ∷ ids) (id-same i) (ids-from-same k (suc i))
+
+  ids-same : idsIn (headerOf s) s ≡ idsIn (headerOf s) t
+  unfolding idsIn
+  ids-same = ids-from-same (headerOf s .sides) 0
 
   floor-same : (i : ℕ) → idFloor (headerOf s) s i ≡ idFloor (headerOf s) t i
   unfolding idFloor
@@ -146,7 +155,13 @@ module _ (s t : List ℕ) (i : ℕ) (apart : Apart (i / 1024) s t) where
   own-same : ownRows (headerOf s) s i ≡ ownRows (headerOf t) t i
   unfolding ownRows tableRows
   own-same =
-      rw (chunk-table-same (i / 1024) s t apart, side-table-same (i / 1024) s t apart, row-same (i / 1024) s t apart, header-same (i / 1024) s t apart)
+      rw (
+        chunk-table-same (i / 1024) s t apart,
+        side-table-same (i / 1024) s t apart,
+        ids-same (i / 1024) s t apart,
+        row-same (i / 1024) s t apart,
+        header-same (i / 1024) s t apart,
+      )
 
   pub probe-same : (W level : ℕ) → probeRows W level s i ≡ probeRows W level t i
   unfolding probeRows

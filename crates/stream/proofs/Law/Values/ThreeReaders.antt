@@ -20,9 +20,9 @@ use Rattle.stream.specs.declared.answers.Probe64.the-variants as p64
 use Rattle.stream.specs.declared.answers.Step.{Step}
 use Rattle.stream.specs.declared.answers.Step.the-variants.{Pass, Stop}
 use Rattle.stream.proofs.Law.Rows.First.{andThen, first-append, opened, opened-both}
-use Rattle.stream.proofs.Law.Rows.Chunks.{all-good, good-row, tables-pass}
+use Rattle.stream.proofs.Law.Rows.Chunks.{all-good, good-row}
 use Rattle.stream.proofs.Law.Header.Layout.{laid-out}
-use Rattle.stream.proofs.Law.Rows.Passed.{Opening, Unpacking, opening, opening-passes, unpacking}
+use Rattle.stream.proofs.Law.Rows.Passed.{Opening, Unpacking, opening, opening-passes, tables-passed, unpacking}
 use Rattle.stream.proofs.Law.Rows.Given.{probe-own}
 use Rattle.stream.proofs.Law.Values.Counts.{length-values, value-of}
 
@@ -101,7 +101,7 @@ module _ (W level : ℕ) (s : List ℕ) (room : ℕ) (e : first (unpackRows W le
         let j = i / 1024 in
         let l = laid-out (length s) h (u .opening .layout) in
         sym (probe-own level s (opening-passes level s (u .opening)) h refl W i (u .width) below)
-        ∙ opened (tableRows h s) (chunkRow h s j ∷ []) (sym (tables-pass h s true true (sym (u .tables .chunks)) (sym (u .tables .sides)) refl))
+        ∙ opened (tableRows h s) (chunkRow h s j ∷ []) (tables-passed h s (u .tables))
         ∙ sym (good-row h s j (all-good h s (u .chunks) j (omega arith)))
 
     pub probe-value : getD (values s) i 0 ≡ valueAt s i

@@ -1,4 +1,4 @@
--- `stream::chunks::setting_in` meets its contract.
+-- `stream::header::setting_in` meets its contract.
 use Rattle.stream.specs.Header.{kOf}
 use Rattle.stream.specs.Setting.{allowedSetting, settingOf}
 use borrow.Author.Needs.{needs}
@@ -6,8 +6,8 @@ use mathlib.Core.Path.{_≡_, ap, _∙_}
 use mir.Facts.{toZ-ofZ}
 use mir.Val.{toZ, ofZ}
 use mir.Syntax.{w32}
-use Rattle.stream.proofs.chunks.setting_in.Statement.{statement}
-use Rattle.stream.proofs.chunks.setting_in.Tie as tie
+use Rattle.stream.proofs.header.setting_in.Statement.{statement}
+use Rattle.stream.proofs.header.setting_in.Tie as tie
 
 k-is : (c : tie.After-exponent-of) → toZ w32 (ofZ w32 (c .exponent-of .result)) ≡ kOf (c .before .args .h)
 k-is c = toZ-ofZ {w = w32} (record { sfits = c .exponent-of .ok }) ∙ c .exponent-of .ensures
