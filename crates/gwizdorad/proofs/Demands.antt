@@ -1,7 +1,7 @@
--- The three demands, a theorem each. What they say stands in specs/Demands.antt; the proofs are citations.
+-- The three demands, a theorem each, and what document 02, R-4, adds to the third. What they say stands in specs/Demands.antt; the proofs are citations.
 use mathlib.Core.Path.{_≡_, sym, ap, subst, _∙_}
 use mathlib.Core.Logic.{_⊎_, inl, inr}
-use mathlib.Core.Bool.{true}
+use mathlib.Core.Bool.{true, false}
 use mathlib.Core.List.{List}
 use Prim.Native.Nat.{ℕ, _^_, _≤_, _<_}
 use native.Mathlib.Omega.{arith}
@@ -12,20 +12,22 @@ use Rattle.numbers.specs.Answers.{codeAnswer, patternAnswer}
 use Rattle.numbers.specs.Bound.{boundAnswer}
 use Rattle.blocks.specs.Bytes.{Below}
 use Rattle.blocks.proofs.Law.Truth.{le-or-lt}
-use Rattle.stream.specs.Setting.{knownLevel, knownWidth, settingOf, need, groupSize}
+use Rattle.stream.specs.Setting.{knownLevel, knownWidth, settingOf, need, someHigh, firstHigh, streamNeed, groupSize}
 use Rattle.stream.specs.Chunk.{groupsIn}
 use Rattle.stream.specs.Stream.{values}
-use Rattle.stream.specs.Writing.{stream}
-use Rattle.stream.specs.Packing.{Sent}
+use Rattle.stream.specs.Writing.{stream, Side, idsOf}
+use Rattle.stream.specs.Packing.{Packable, Sent}
 use Rattle.stream.specs.Operations.{unpackAnswer, unpackOut}
-use Rattle.stream.specs.declared.answers.Answer.the-variants.{Done}
+use Rattle.stream.specs.declared.answers.Answer.the-variants.{Done, Refused}
 use Rattle.stream.specs.declared.answers.Probe32.{Probe32}
 use Rattle.stream.specs.declared.answers.Probe64.{Probe64}
 use Rattle.stream.proofs.Readers.{check-order, unpack-order, probe-order, refused-check, refused-unpack, refused-probe32, refused-probe64, refused-untouched, written-values, probe-as-unpack32, probe-as-unpack64, check-higher, unpack-higher, probe-higher32, probe-higher64}
-use Rattle.stream.proofs.Written.{length-order, pack-order, refused-length, refused-pack, refused-pack-untouched, accepted-leaves, length-is-answered, packed-length-bound, the-stream-is-packed, it-is-read, it-is-too-new}
+use Rattle.stream.proofs.Written.{length-order, pack-order, refused-length, refused-pack, refused-pack-untouched, accepted-list, accepted-leaves, accepted-is-raised, length-is-answered, packed-length-bound, the-stream-is-packed, it-is-read, it-is-too-new, it-is-not-skipped, a-probe-is-too-new32, a-probe-is-too-new64, a-probe-skips-nothing32, a-probe-skips-nothing64}
+use Rattle.stream.proofs.Understood.{a-high-id-is-never-skipped}
+use Rattle.stream.proofs.Law.Setting.Widths.{low-need}
 use Rattle.gwizdorad_numbers.proofs.Theorems.{a-refused-code-is-not-written, a-refused-pattern-is-not-written}
 use Rattle.gwizdorad.specs.Result.{probeOut32, probeOut64}
-use Rattle.gwizdorad.specs.Demands.{Demand1, ComesBack, Packed, Demand2, Offered, ReadBack, given-back, too-new, Demand3}
+use Rattle.gwizdorad.specs.Demands.{Demand1, ComesBack, Packed, Demand2, Offered, ReadBack, given-back, too-new, Demand3, Guarded, RefusedBy, NotSkipped}
 use Rattle.gwizdorad.proofs.Theorems.{probe32-leaves-what-unpack-leaves, probe64-leaves-what-unpack-leaves}
 use Rattle.gwizdorad.proofs.Law.Demand.{coded-at, code-refused, pattern-refused, pattern-above, bound-detail, unknown-width, lossless-at, differences-at, within-at, bound-at, offered, is-sent, as-many, come-back}
 
@@ -80,18 +82,22 @@ module _ (W level mode : ℕ) (k : ℤ) (vs s : List ℕ) (o : Offered W level m
   read-back : ReadBack W mode k vs s L back
   read-back = go (le-or-lt (need (settingOf W mode k)) L)
     where
-      sent : Sent level (settingOf W mode k) vs s
+      sent : (parts : List Side) × (someHigh (idsOf parts) ≡ false) × Sent level (settingOf W mode k) vs parts s
       sent = is-sent W level mode k vs s (o .width) (o .patterns) packed
+
+      -- the need is the setting's
+      lowest : streamNeed (settingOf W mode k) (someHigh (idsOf (sent .0))) ≡ need (settingOf W mode k)
+      lowest = ap (streamNeed (settingOf W mode k)) (sent .1) ∙ low-need (settingOf W mode k)
 
       go : (need (settingOf W mode k) ≤ L) ⊎ (L < need (settingOf W mode k)) → ReadBack W mode k vs s L back
       go (inl reaches) =
-          let read = it-is-read W level mode k vs (offered W level mode k vs o) s sent L known reaches back room in
+          let read = it-is-read W level mode k vs (offered W level mode k vs o) (sent .0) s (sent .2) L known (sent .1) reaches back room in
           given-back reaches (read .1)
           (unpacked W level mode k vs s (o .width) (o .patterns) packed L (length vs) back (read .1))
           (ap (drop (length vs)) (read .2) ∙ drop-at (values s) (drop (length vs) back) (length vs) (as-many W level mode k vs s (o .width) (o .patterns) packed))
       go (inr exceeds) =
-          let refused = it-is-too-new W level mode k vs (offered W level mode k vs o) s sent L known exceeds back in
-          too-new exceeds (refused .1) (refused .2)
+          let refused = it-is-too-new W level mode k vs (offered W level mode k vs o) (sent .0) s (sent .2) L known (rw lowest exceeds) back in
+          too-new exceeds (refused .1 ∙ ap (Refused 7) lowest) (refused .2)
 
 pub demand-3 : Demand3
 unfolding groupsIn groupSize
@@ -105,10 +111,65 @@ demand-3 =
             λ out room. the-stream-is-packed W level mode k vs p (o .known) out room .0,
           );
       reads = read-back;
-      higher = λ level level′ s l known. (
+      higher = λ level level′ s low l known. (
         check-higher level level′ s l known,
         unpack-higher level level′ s l known,
         probe-higher32 level level′ s l known,
         probe-higher64 level level′ s l known,
       );
+    }
+
+-- a stream that must be understood
+module _ (W level mode : ℕ) (k : ℤ) (vs : List ℕ) (parts : List Side) (s : List ℕ) (width : knownWidth W ≡ true) (patterns : Below (2 ^ W) vs)
+    (g : Guarded W level mode k vs parts s) where
+  abbrev raised : ℕ
+  raised = streamNeed (settingOf W mode k) true
+
+  p : Packable W level mode k vs
+  p = accepted-list W level mode k vs (g .out) (g .size) (g .done) width patterns
+
+  sent : Sent level (settingOf W mode k) vs parts s
+  sent =
+      rw (g .bytes)
+      (accepted-is-raised W level mode k vs (g .out) (g .size) (g .done) parts (g .well-formed) raised (ap (streamNeed (settingOf W mode k)) (sym (g .high))) (g .reached))
+
+  module _ (L : ℕ) (known : knownLevel L ≡ true) (back : List ℕ) (room : length vs ≤ length back) (i : ℕ) (below : i < length vs) where
+    -- the need is raised
+    abbrev asked : ℕ
+    asked = streamNeed (settingOf W mode k) (someHigh (idsOf parts))
+
+    asked-is : asked ≡ raised
+    asked-is = ap (streamNeed (settingOf W mode k)) (g .high)
+
+    older : L < raised → RefusedBy W L s back i 7 raised
+    older less =
+        let too-low : L < asked = rw asked-is less in
+        let refused = it-is-too-new W level mode k vs p parts s sent L known too-low back in
+        subst (RefusedBy W L s back i 7) asked-is
+        record {
+          check = refused .0;
+          unpack = refused .1;
+          untouched = refused .2;
+          probe32 = λ is. a-probe-is-too-new32 W level mode k vs p parts s sent L known i below is too-low;
+          probe64 = λ is. a-probe-is-too-new64 W level mode k vs p parts s sent L known i below is too-low;
+        }
+
+    newer : raised ≤ L → RefusedBy W L s back i 15 (firstHigh (idsOf parts))
+    newer reaches =
+        let enough : asked ≤ L = rw asked-is reaches in
+        let refused = it-is-not-skipped W level mode k vs p parts s sent L known (g .high) enough back room in
+        record {
+          check = refused .0;
+          unpack = refused .1;
+          untouched = refused .2;
+          probe32 = λ is. a-probe-skips-nothing32 W level mode k vs p parts s sent L known i below is (g .high) enough;
+          probe64 = λ is. a-probe-skips-nothing64 W level mode k vs p parts s sent L known i below is (g .high) enough;
+        }
+
+pub not-skipped : NotSkipped
+not-skipped =
+    record {
+      packed = λ W level mode k vs parts s width patterns g L known back room i below.
+          (older W level mode k vs parts s width patterns g L known back room i below, newer W level mode k vs parts s width patterns g L known back room i below);
+      never = a-high-id-is-never-skipped;
     }

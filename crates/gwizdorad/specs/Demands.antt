@@ -1,4 +1,5 @@
--- The three demands, to be read aloud. proofs/Demands.antt proves them: `demand-1 : Demand1`, `demand-2 : Demand2`, `demand-3 : Demand3`.
+-- The three demands, to be read aloud. proofs/Demands.antt proves them: `demand-1 : Demand1`, `demand-2 : Demand2`, `demand-3 : Demand3`; and what
+-- document 02 adds to the third, `not-skipped : NotSkipped`.
 -- They speak of what the operations answer and leave: `packAnswer` and `packOut` of specs/Operations.antt in the crate `stream`, and their
 -- like. The promise of each operation is an equation with these; C gets the answer as one number, of which nothing is cut (`Spelled`, and `Uncut`
 -- for probe and the number rules), and a pattern or a code in what it lent.
@@ -22,12 +23,14 @@ use Rattle.numbers.specs.declared.bound.BoundAnswer.the-variants.{UnknownWidth}
 use Rattle.numbers.specs.declared.tolerance.CodeAnswer.the-variants as code
 use Rattle.numbers.specs.declared.tolerance.PatternAnswer.the-variants as pattern
 use Rattle.blocks.specs.Bytes.{Below}
-use Rattle.stream.specs.Setting.{knownLevel, knownWidth, fractionBits, losslessMode, allowedSetting, settingOf, need}
+use Rattle.stream.specs.Setting.{knownLevel, knownWidth, fractionBits, losslessMode, allowedSetting, settingOf, need, someHigh, firstHigh, streamNeed}
 use Rattle.stream.specs.Rows.{Decides, numbersOf}
 use Rattle.stream.specs.Header.{headerOf, chunksIn}
-use Rattle.stream.specs.Writing.{stream, Side, addSides, WellFormedSides}
+use Rattle.stream.specs.Tables.{idsIn}
+use Rattle.stream.specs.Writing.{stream, Side, addSides, idsOf, withNeed, WellFormedSides}
 use Rattle.stream.specs.Probe.{shown32, shown64}
 use Rattle.stream.specs.Operations.{checkRows, checkAnswer, unpackRows, unpackAnswer, unpackOut, probeRows, probeAnswer32, probeAnswer64, lengthRows, lengthAnswer, packRows, packAnswer, packOut}
+use Rattle.stream.specs.Theorem.{Accepts}
 use Rattle.stream.specs.declared.answers.Answer.the-variants.{Done, Refused}
 use Rattle.stream.specs.declared.answers.Probe32.the-variants as p32
 use Rattle.stream.specs.declared.answers.Probe64.the-variants as p64
@@ -40,14 +43,18 @@ use Rattle.gwizdorad.specs.Result.{probeOut32, probeOut64}
 -- detail. A refused call changes nothing it was lent." Of an operation's rows the refusal is the one that `Decides`: it is given, and none
 -- before it.
 
--- "Pack: 1 2 3 4. Length: 1 2 3. Check: 1 5 6 7 8 9 10. Unpack: 1 5 6 7 8 14 4 9 10. Probe: 1 5 6 7 8 14 11 9 10": 10 once for each chunk, in
--- probe for its own
+-- Pack: 1 2 3 4. Length: 1 2 3. Check: 1 5 6 7 8 9 8 15 10. Unpack: 1 5 6 7 8 14 4 9 8 15 10. Probe: 1 5 6 7 8 14 11 9 8 15 10. These are document 01's,
+-- with the rows of document 02, R-4: 15 "after 9 and after that late use of 8, before 10". 15 stands once for each side part, 10 once for each
+-- chunk, in probe for its own.
 pub record StatedOrder : Type 0 where
   pub pack : (W level mode : ℕ) (k : ℤ) (vs : List ℕ) (room : ℕ) → numbersOf (packRows W level mode k vs room) ≡ 1 ∷ 2 ∷ 3 ∷ 4 ∷ []
   pub length-of : (W level mode : ℕ) (k : ℤ) (n : ℕ) → numbersOf (lengthRows W level mode k n) ≡ 1 ∷ 2 ∷ 3 ∷ []
-  pub check : (L : ℕ) (s : List ℕ) → numbersOf (checkRows L s) ≡ 1 ∷ 5 ∷ 6 ∷ 7 ∷ 8 ∷ 9 ∷ replicate (headerOf s .chunks) 10
-  pub unpack : (W L : ℕ) (s : List ℕ) (room : ℕ) → numbersOf (unpackRows W L s room) ≡ 1 ∷ 5 ∷ 6 ∷ 7 ∷ 8 ∷ 14 ∷ 4 ∷ 9 ∷ replicate (headerOf s .chunks) 10
-  pub probe : (W L : ℕ) (s : List ℕ) (i : ℕ) → numbersOf (probeRows W L s i) ≡ 1 ∷ 5 ∷ 6 ∷ 7 ∷ 8 ∷ 14 ∷ 11 ∷ 9 ∷ 10 ∷ []
+  pub check : (L : ℕ) (s : List ℕ)
+      → numbersOf (checkRows L s) ≡ 1 ∷ 5 ∷ 6 ∷ 7 ∷ 8 ∷ 9 ∷ 8 ∷ (replicate (headerOf s .sides) 15 ++ replicate (headerOf s .chunks) 10)
+  pub unpack : (W L : ℕ) (s : List ℕ) (room : ℕ)
+      → numbersOf (unpackRows W L s room) ≡ 1 ∷ 5 ∷ 6 ∷ 7 ∷ 8 ∷ 14 ∷ 4 ∷ 9 ∷ 8 ∷ (replicate (headerOf s .sides) 15 ++ replicate (headerOf s .chunks) 10)
+  pub probe : (W L : ℕ) (s : List ℕ) (i : ℕ)
+      → numbersOf (probeRows W L s i) ≡ 1 ∷ 5 ∷ 6 ∷ 7 ∷ 8 ∷ 14 ∷ 11 ∷ 9 ∷ 8 ∷ (replicate (headerOf s .sides) 15 ++ (10 ∷ []))
 
 pub record Demand1 : Type 0 where
   pub order : StatedOrder
@@ -93,10 +100,11 @@ pub record ComesBack (W mode : ℕ) (k : ℤ) (p q : ℕ) : Type 0 where
   pub lossless : losslessMode mode ≡ true → q ≡ p
   pub within : mode ≡ 1 → Returned (formatOf W) (binOf W (fractionBits W) k) p q
 
--- s is the bytes b, or b with well-formed side parts added
+-- s is the bytes b, or b with well-formed side parts added, none of them with a high id: document 02, R-4, "gives 'any well-formed side parts' only
+-- ids below 2^31"
 pub data Sided (b s : List ℕ) : Type 0 where
   plain : s ≡ b → Sided b s
-  with-parts : (parts : List Side) → WellFormedSides (length b + 12 * length parts) parts → s ≡ addSides b parts → Sided b s
+  with-parts : (parts : List Side) → WellFormedSides (length b + 12 * length parts) parts → someHigh (idsOf parts) ≡ false → s ≡ addSides b parts → Sided b s
 
 -- s is what pack has left of the values vs, as it is or with side parts added
 pub record Packed (W level mode : ℕ) (k : ℤ) (vs s : List ℕ) : Type 0 where
@@ -131,8 +139,9 @@ pub record Demand2 : Type 0 where
 -- ---- Demand 3: "Pack a list within the limit at level 8, 9 or 10, with a setting that level allows and enough room, and give the stream any
 -- well-formed side parts. The reader for its width, told to act as level 8, 9 or 10 and lent room for the values, gives back what demand 2
 -- says, or refuses as too new and names the needed level: exactly when that, as a number, exceeds its own. And bytes accepted by one level are
--- accepted by each higher one with the same values." Since document 02, R-2, "levels are now 8 to 11 and demand 3 speaks of all four"
--- (`knownLevel`). The need is 11 in mode 2, else 10 for width 64, else 9 in mode 1, else 8; too new is refusal 7.
+-- accepted by each higher one with the same values." Since document 02, R-4, it speaks of the levels 8 to 12 (`knownLevel`), of side parts with ids
+-- below 2^31, and of arbitrary bytes "without the high ids". The need is 11 in mode 2, else 10 for width 64, else 9 in mode 1, else 8; too new is
+-- refusal 7.
 
 -- a list within the limit, of patterns of a width, and a level that allows the setting
 pub record Offered (W level mode : ℕ) (k : ℤ) (vs : List ℕ) : Type 0 where
@@ -163,10 +172,42 @@ pub record Demand3 : Type 0 where
       × ((out : List ℕ) → size ≤ length out → packAnswer W level mode k vs (length out) ≡ Done size)
   pub reads : (W level mode : ℕ) (k : ℤ) (vs s : List ℕ) → Offered W level mode k vs → Packed W level mode k vs s
       → (L : ℕ) → knownLevel L ≡ true → (back : List ℕ) → length vs ≤ length back → ReadBack W mode k vs s L back
-  -- any bytes s
-  pub higher : (L L′ : ℕ) (s : List ℕ) → L ≤ L′ → knownLevel L′ ≡ true
+  -- any bytes s without a high id. Today no level accepts bytes with one (`NotSkipped`), so the premise takes no bytes away that any reader accepts. It
+  -- is there because a later level may define such an id and accept it, and what the values then are is for that level to say.
+  pub higher : (L L′ : ℕ) (s : List ℕ) → someHigh (idsIn (headerOf s) s) ≡ false → L ≤ L′ → knownLevel L′ ≡ true
       → ((n : ℕ) → checkAnswer L s ≡ Done n → checkAnswer L′ s ≡ Done n)
       × ((W : ℕ) (out : List ℕ) (n : ℕ) → unpackAnswer W L s (length out) ≡ Done n
       → (unpackAnswer W L′ s (length out) ≡ Done n) × (unpackOut W L′ s out ≡ unpackOut W L s out))
       × ((i p : ℕ) → probeAnswer32 L s i ≡ shown32 p → probeAnswer32 L′ s i ≡ shown32 p)
       × ((i p : ℕ) → probeAnswer64 L s i ≡ shown64 p → probeAnswer64 L′ s i ≡ shown64 p)
+
+-- ---- Document 02, R-4: a reader must never skip what it must understand. "Ids from 2^31 up now mean 'must be understood'. No such id is defined
+-- yet, so a reader that meets one refuses. A stream with such an id needs level 12, which older readers refuse by 7."
+
+-- s is what pack has left of the values vs at a level, with these side parts added, of which some id is high, and with the need of a stream that has them,
+-- which the level reaches: 12, or the setting's if that is greater
+pub record Guarded (W level mode : ℕ) (k : ℤ) (vs : List ℕ) (parts : List Side) (s : List ℕ) : Type 0 where
+  pub out : List ℕ
+  pub size : ℕ
+  pub done : packAnswer W level mode k vs (length out) ≡ Done size
+  pub well-formed : WellFormedSides (size + 12 * length parts) parts
+  pub high : someHigh (idsOf parts) ≡ true
+  pub reached : streamNeed (settingOf W mode k) true ≤ level
+  pub bytes : s ≡ withNeed (streamNeed (settingOf W mode k) true) (addSides (take size (packOut W level mode k vs out)) parts)
+
+-- check, unpack into `back`, and probe of the index i all refuse s at the level L so, and nothing that was lent is altered
+pub record RefusedBy (W L : ℕ) (s back : List ℕ) (i number detail : ℕ) : Type 0 where
+  pub check : checkAnswer L s ≡ Refused number detail
+  pub unpack : unpackAnswer W L s (length back) ≡ Refused number detail
+  pub untouched : unpackOut W L s back ≡ back
+  pub probe32 : W ≡ 32 → probeAnswer32 L s i ≡ p32.Refused number detail
+  pub probe64 : W ≡ 64 → probeAnswer64 L s i ≡ p64.Refused number detail
+
+pub record NotSkipped : Type 0 where
+  -- every level refuses such a stream: by 7 with the need below it, and from it on by 15 with the first high id
+  pub packed : (W level mode : ℕ) (k : ℤ) (vs : List ℕ) (parts : List Side) (s : List ℕ) → knownWidth W ≡ true → Below (2 ^ W) vs → Guarded W level mode k vs parts s
+      → (L : ℕ) → knownLevel L ≡ true → (back : List ℕ) → length vs ≤ length back → (i : ℕ) → i < length vs
+      → (L < streamNeed (settingOf W mode k) true → RefusedBy W L s back i 7 (streamNeed (settingOf W mode k) true))
+      × (streamNeed (settingOf W mode k) true ≤ L → RefusedBy W L s back i 15 (firstHigh (idsOf parts)))
+  -- of any bytes with a high id, whatever else they are, no reader at any level hands out a value
+  pub never : (L : ℕ) (s : List ℕ) → someHigh (idsIn (headerOf s) s) ≡ true → Accepts L s → ⊥

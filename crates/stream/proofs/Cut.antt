@@ -99,7 +99,7 @@ module _ (level : ℕ) (s more : List ℕ) (some : more ≡ [] → ⊥) where
 
 -- ---- at any level, by any reader
 
-accepted : (level : ℕ) (s : List ℕ) → Accepts level s → Opening level s × Tables (headerOf s) s
+pub accepted : (level : ℕ) (s : List ℕ) → Accepts level s → Opening level s × Tables (headerOf s) s
 accepted level s (by-check n e) = checked level s n e
 accepted level s (by-unpack W room n e) =
     let u = unpacked W level s room n e in (u .opening, u .tables)

@@ -1,6 +1,7 @@
 -- Document 01's worked stream, computed: "The list 0, -0, 2^-149, packed at level 8, mode 0, is 55 bytes: the numbers
 -- 1 8 8 32 0 0 3 1 48 52 0 55, the table 0, then bytes 03 10 01." Every level accepts it. Then a stream of mode 2, and what each setting needs.
 use mathlib.Core.Path.{_≡_, refl}
+use mathlib.Core.Bool.{true}
 use Prim.Native.Nat.{ℕ, _+_}
 use mathlib.Core.List.{List, [], _∷_, _++_, map}
 use lib.IntN.{pos}
@@ -11,14 +12,15 @@ use Rattle.numbers.specs.Lossless.{rotated, field, minus, lowered, stepped, los
 use Rattle.numbers.specs.Difference.{differenceCode, differenceCodes, differenceRestored, runningSums}
 use Rattle.blocks.specs.Bytes.{number, digits}
 use Rattle.stream.specs.Group.{bytesFor, largest, widthOf, packed, groupBytes, givenWidth, groupLength, groupNumber, groupCodes, within, goodGroup}
-use Rattle.stream.specs.Setting.{highestLevel, knownLevel, knownWidth, fractionBits, widthNeed, modeNeed, need, someHigh, streamNeed, losslessMode, isZero, allowedSetting, binFor, settingOf, kBits, groupSize, codeAt, patternAt, codesAfter, patternsAfter, limitOf}
+use Rattle.stream.specs.Setting.{highestLevel, knownLevel, knownWidth, fractionBits, widthNeed, modeNeed, need, highId, someHigh, streamNeed, losslessMode, isZero, allowedSetting, binFor, settingOf, kBits, groupSize, codeAt, patternAt, codesAfter, patternsAfter, limitOf}
 use Rattle.stream.specs.Chunk.{groupsIn, groupsBytes, chunkBytes, firstFault, chunkAnswer, groupsCodes, chunkCodes}
 use Rattle.stream.specs.Rows.{rowsFrom, first, answer, after}
 use Rattle.stream.specs.Header.{word, headerOf, kOf, chunksIn, tooMany, needRight, settingRight, layoutRight}
-use Rattle.stream.specs.Tables.{every, startAt, startRight, chunkTableRight, partAt, sideTableRight, idsFrom, idsIn}
+use Rattle.stream.specs.Tables.{every, startAt, startRight, chunkTableRight, sideId, sidePlace, sideLength, idFloor, partAt, entryRight, sideTableRight, idsFrom, idsIn}
 use Rattle.stream.specs.Stream.{joined, countOf, chunkOf, chunkState, chunkValues, valuesIn, values}
 use Rattle.stream.specs.Writing.{spell, piece, pieceBytes, dataOf, startsOf, headerNumbers, endOf, body, stream}
-use Rattle.stream.specs.Operations.{headerRows, openingRows, needRow, sideRows, tableRows, faultDetail, faultRow, chunkRow, chunkRows, contentRows, widthRow, checkRows, checkAnswer, roomRow, unpackRows, unpackOut}
+use Rattle.stream.specs.Operations.{headerRows, openingRows, needRow, idRow, sideRows, tableRows, faultDetail, faultRow, chunkRow, chunkRows, contentRows, widthRow, checkRows, checkAnswer, roomRow, unpackRows, unpackOut}
+use Rattle.stream.specs.declared.answers.Answer.{Answer}
 use Rattle.stream.specs.declared.answers.Answer.the-variants.{Done, Refused}
 
 pub threeValues : List ℕ
@@ -67,6 +69,28 @@ needs = map (λ (t : ℕ × ℕ). need (settingOf (t .0) (t .1) (pos 0))) ((32, 
 pub needs-known : needs ≡ 8 ∷ 9 ∷ 11 ∷ 10 ∷ 10 ∷ 11 ∷ []
 unfolding needs need widthNeed modeNeed
 needs-known = refl
+
+-- with a high id each needs 12
+pub high-needs-known : map (λ (t : ℕ × ℕ). streamNeed (settingOf (t .0) (t .1) (pos 0)) true) ((32, 0) ∷ (32, 1) ∷ (32, 2) ∷ (64, 0) ∷ (64, 1) ∷ (64, 2) ∷ [])
+    ≡ replicate 6 12
+unfolding streamNeed need widthNeed modeNeed
+high-needs-known = refl
+
+-- ---- side parts: document 01's list with two of them, an id below 2^31 and the first from there on. With the need 12 it is refused by every level, by 7
+-- and at 12 by 15; with the setting's own need, 8, that need is found to be too small once the tables have passed.
+
+pub withIds : ℕ → ℕ → List ℕ
+withIds needed high =
+    spell (1 ∷ 12 ∷ needed ∷ 32 ∷ 0 ∷ 0 ∷ 3 ∷ 1 ∷ 48 ∷ 52 ∷ 2 ∷ 55 ∷ 0 ∷ []) ++ (0x03 ∷ 0x10 ∷ 0x01 ∷ [])
+    ++ spell (7 ∷ 79 ∷ 2 ∷ high ∷ 81 ∷ 1 ∷ []) ++ (1 ∷ 2 ∷ 3 ∷ [])
+
+pub answersTo : List ℕ → List Answer
+answersTo s = map (λ (level : ℕ). checkAnswer level s) (8 ∷ 9 ∷ 10 ∷ 11 ∷ 12 ∷ [])
+
+pub high-id-checked : map answersTo (withIds 12 0x8000_0000 ∷ withIds 8 0x8000_0000 ∷ withIds 8 0x7FFF_FFFF ∷ [])
+    ≡ (Refused 7 12 ∷ Refused 7 12 ∷ Refused 7 12 ∷ Refused 7 12 ∷ Refused 15 0x8000_0000 ∷ []) ∷ replicate 5 (Refused 8 0) ∷ replicate 5 (Done 3) ∷ []
+unfolding size signedView folded bitsOf number digits bytesFor largest widthOf givenWidth groupLength groupNumber groupCodes within goodGroup highestLevel knownLevel knownWidth fractionBits widthNeed modeNeed need highId someHigh streamNeed losslessMode isZero allowedSetting binFor groupSize limitOf groupsIn firstFault chunkAnswer first answer word headerOf kOf chunksIn tooMany needRight settingRight layoutRight every startAt startRight chunkTableRight sideId sidePlace sideLength idFloor partAt entryRight sideTableRight idsFrom idsIn countOf chunkOf chunkState spell headerRows openingRows needRow idRow sideRows tableRows faultDetail faultRow rowsFrom chunkRow chunkRows contentRows checkRows checkAnswer answersTo withIds
+high-id-checked = refl
 
 -- The difference restarts at each chunk, and not at each group: of 1,025 sevens the first of each chunk has a code of 4 bits, in a group of 1 + 16 bytes
 -- and in one of 1 + 1, and the 31 other groups have no bits.

@@ -6,6 +6,7 @@ pub mod KnownStream
 pub mod Readers
 pub mod Place
 pub mod Cut
+pub mod Understood
 pub mod Written
 pub mod Settled
 pub mod Fitting

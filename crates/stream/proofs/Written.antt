@@ -22,8 +22,11 @@ use Rattle.stream.specs.Stream.{chunkState, values}
 use Rattle.stream.specs.Writing.{headerNumbers, endOf, stream, Side, addSides, idsOf, withNeed, WellFormedSides}
 use Rattle.stream.specs.Packing.{Packable, Sent, mostBytes}
 use Rattle.stream.specs.Theorem.{comingBack}
-use Rattle.stream.specs.Operations.{idRow, checkRows, checkAnswer, unpackRows, unpackAnswer, unpackOut, probeRows, lengthRows, lengthAnswer, packRows, packAnswer, packOut}
+use Rattle.stream.specs.Probe.{probed32, probed64}
+use Rattle.stream.specs.Operations.{idRow, checkRows, checkAnswer, unpackRows, unpackAnswer, unpackOut, probeRows, probeAnswer32, probeAnswer64, lengthRows, lengthAnswer, packRows, packAnswer, packOut}
 use Rattle.stream.specs.declared.answers.Answer.the-variants.{Done, Refused}
+use Rattle.stream.specs.declared.answers.Probe32.the-variants as p32
+use Rattle.stream.specs.declared.answers.Probe64.the-variants as p64
 use Rattle.stream.specs.declared.answers.Step.{Step}
 use Rattle.stream.specs.declared.answers.Step.the-variants.{Pass, Stop}
 use Rattle.stream.specs.declared.chunk.ChunkAnswer.the-variants.{Good}
@@ -112,16 +115,15 @@ module _ (W level mode : ℕ) (k : ℤ) (vs out : List ℕ) (n : ℕ) (done : pa
     lies : WellFormedSides (length (stream level (settingOf W mode k) vs) + 12 * length ps) ps
     lies = subst (λ (m : ℕ). WellFormedSides (m + 12 * length ps) ps) (sym (passes .1)) well
 
-    pub accepted-is-sent : someHigh (idsOf ps) ≡ false → Sent level (settingOf W mode k) vs (addSides (take n (packOut W level mode k vs out)) ps)
+    pub accepted-is-sent : someHigh (idsOf ps) ≡ false → Sent level (settingOf W mode k) vs ps (addSides (take n (packOut W level mode k vs out)) ps)
     accepted-is-sent low =
-        subst (λ (b : List ℕ). Sent level (settingOf W mode k) vs (addSides b ps)) (sym accepted-bytes)
+        subst (λ (b : List ℕ). Sent level (settingOf W mode k) vs ps (addSides b ps)) (sym accepted-bytes)
         (low-sent level (settingOf W mode k) vs ps (three-passed .needs) lies low)
 
     pub accepted-is-raised : (needed : ℕ) → needed ≡ streamNeed (settingOf W mode k) (someHigh (idsOf ps)) → needed ≤ level
-        → Sent level (settingOf W mode k) vs (withNeed needed (addSides (take n (packOut W level mode k vs out)) ps))
+        → Sent level (settingOf W mode k) vs ps (withNeed needed (addSides (take n (packOut W level mode k vs out)) ps))
     accepted-is-raised needed is reached =
         record {
-          sides = ps;
           well-formed = lies;
           reached = rw (← is) reached;
           bytes = ap₂ (λ (m : ℕ) (b : List ℕ). withNeed m (addSides b ps)) is accepted-bytes;
@@ -153,31 +155,31 @@ module _ (W level mode : ℕ) (k : ℤ) (vs : List ℕ) (p : Packable W level mo
 
   -- ---- what a reader meets: the plain stream, or one with side parts behind its data
 
-  pub the-plain-stream : Sent level (settingOf W mode k) vs (stream level (settingOf W mode k) vs)
+  pub the-plain-stream : Sent level (settingOf W mode k) vs [] (stream level (settingOf W mode k) vs)
   the-plain-stream = plain-sent level (settingOf W mode k) vs (p .needs)
 
   -- side parts without a high id leave the need as it was
   pub with-side-parts : (ps : List Side) → WellFormedSides (length (stream level (settingOf W mode k) vs) + 12 * length ps) ps → someHigh (idsOf ps) ≡ false
-      → Sent level (settingOf W mode k) vs (addSides (stream level (settingOf W mode k) vs) ps)
+      → Sent level (settingOf W mode k) vs ps (addSides (stream level (settingOf W mode k) vs) ps)
   with-side-parts ps well low = low-sent level (settingOf W mode k) vs ps (p .needs) well low
 
-  module _ (s : List ℕ) (sent : Sent level (settingOf W mode k) vs s) where
+  module _ (ps : List Side) (s : List ℕ) (sent : Sent level (settingOf W mode k) vs ps s) where
     -- the ids of its side parts, and its need
     abbrev ids : List ℕ
-    ids = idsOf (sent .sides)
+    ids = idsOf ps
 
     abbrev needed : ℕ
     needed = streamNeed (settingOf W mode k) (someHigh ids)
 
     -- it is bytes
     pub bytes-only : Below 256 s
-    bytes-only = bytes-sent level (settingOf W mode k) vs (storable W level mode k vs p) s sent
+    bytes-only = bytes-sent level (settingOf W mode k) vs (storable W level mode k vs p) ps s sent
 
     -- the table "at | number" is read as it was written, with that need in the third place
     pub the-header-is-read : (j : ℕ) → j < 12
         → word s (4 * j)
-        ≡ getD (1 ∷ level ∷ needed ∷ drop 3 (headerNumbers level (settingOf W mode k) (length vs) (length (sent .sides)) (endOf (settingOf W mode k) vs (chunksIn (length vs))))) j 0
-    the-header-is-read = header-words level (settingOf W mode k) vs (storable W level mode k vs p) s sent
+        ≡ getD (1 ∷ level ∷ needed ∷ drop 3 (headerNumbers level (settingOf W mode k) (length vs) (length ps) (endOf (settingOf W mode k) vs (chunksIn (length vs))))) j 0
+    the-header-is-read = header-words level (settingOf W mode k) vs (storable W level mode k vs p) ps s sent
 
     -- no rule of the refusals 8, 9 and 10 is broken
     pub every-rule-is-kept :
@@ -186,17 +188,17 @@ module _ (W level mode : ℕ) (k : ℤ) (vs : List ℕ) (p : Packable W level mo
         × (headerOf s .needed ≡ streamNeed (settingIn (headerOf s)) (someHigh (idsIn (headerOf s) s)))
         × ((j : ℕ) → j < chunksIn (length vs) → chunkState (headerOf s) s j ≡ Good)
     every-rule-is-kept = (
-      setting-kept level (settingOf W mode k) vs (storable W level mode k vs p) s sent,
-      layout-kept level (settingOf W mode k) vs (storable W level mode k vs p) s sent,
-      chunk-table-kept level (settingOf W mode k) vs (storable W level mode k vs p) s sent,
-      side-table-kept level (settingOf W mode k) vs (storable W level mode k vs p) s sent,
-      need-is-kept level (settingOf W mode k) vs (storable W level mode k vs p) s sent,
-      chunks-kept level (settingOf W mode k) vs (storable W level mode k vs p) s sent,
+      setting-kept level (settingOf W mode k) vs (storable W level mode k vs p) ps s sent,
+      layout-kept level (settingOf W mode k) vs (storable W level mode k vs p) ps s sent,
+      chunk-table-kept level (settingOf W mode k) vs (storable W level mode k vs p) ps s sent,
+      side-table-kept level (settingOf W mode k) vs (storable W level mode k vs p) ps s sent,
+      need-is-kept level (settingOf W mode k) vs (storable W level mode k vs p) ps s sent,
+      chunks-kept level (settingOf W mode k) vs (storable W level mode k vs p) ps s sent,
     )
 
     -- the values are the patterns of the codes, chunk by chunk
     pub the-values-are-read : values s ≡ comingBack (settingOf W mode k) vs
-    the-values-are-read = values-read level (settingOf W mode k) vs (storable W level mode k vs p) s sent
+    the-values-are-read = values-read level (settingOf W mode k) vs (storable W level mode k vs p) ps s sent
 
     -- as many as there were
     pub as-many-values : length (values s) ≡ length vs
@@ -238,21 +240,21 @@ module _ (W level mode : ℕ) (k : ℤ) (vs : List ℕ) (p : Packable W level mo
       pub check-exactly : first (checkRows L s) ≡ exactly
       check-exactly =
           either-way (first (checkRows L s))
-          (check-read level (settingOf W mode k) vs (storable W level mode k vs p) s sent L known)
-          (check-stop level (settingOf W mode k) vs (storable W level mode k vs p) s sent L known)
+          (check-read level (settingOf W mode k) vs (storable W level mode k vs p) ps s sent L known)
+          (check-stop level (settingOf W mode k) vs (storable W level mode k vs p) ps s sent L known)
 
       pub unpack-exactly : (room : ℕ) → length vs ≤ room → first (unpackRows W L s room) ≡ exactly
       unpack-exactly room l =
           either-way (first (unpackRows W L s room))
-          (unpack-read level (settingOf W mode k) vs (storable W level mode k vs p) s sent L known room l)
-          (unpack-stop level (settingOf W mode k) vs (storable W level mode k vs p) s sent L known room)
+          (unpack-read level (settingOf W mode k) vs (storable W level mode k vs p) ps s sent L known room l)
+          (unpack-stop level (settingOf W mode k) vs (storable W level mode k vs p) ps s sent L known room)
 
       -- probe of each index likewise
       pub probe-exactly : (i : ℕ) → i < length vs → first (probeRows W L s i) ≡ exactly
       probe-exactly i l =
           either-way (first (probeRows W L s i))
-          (probe-read level (settingOf W mode k) vs (storable W level mode k vs p) s sent L known i l)
-          (probe-stop level (settingOf W mode k) vs (storable W level mode k vs p) s sent L known i)
+          (probe-read level (settingOf W mode k) vs (storable W level mode k vs p) ps s sent L known i l)
+          (probe-stop level (settingOf W mode k) vs (storable W level mode k vs p) ps s sent L known i)
 
       -- so where no id is high and the level reaches the need, which is the setting's, check counts the values and unpack hands them out
       pub it-is-read : someHigh ids ≡ false → need (settingOf W mode k) ≤ L → (out : List ℕ) → length vs ≤ length out
@@ -260,10 +262,10 @@ module _ (W level mode : ℕ) (k : ℤ) (vs : List ℕ) (p : Packable W level mo
           × (unpackOut W L s out ≡ values s ++ drop (length vs) out)
       unfolding checkAnswer unpackAnswer unpackOut answer after
       it-is-read low h out l =
-          let n = ap (λ (x : Header). x .count) (header-read level (settingOf W mode k) vs (storable W level mode k vs p) s sent) in
+          let n = ap (λ (x : Header). x .count) (header-read level (settingOf W mode k) vs (storable W level mode k vs p) ps s sent) in
           let reaches : needed ≤ L = rw (low, low-need (settingOf W mode k)) h in
-          let checks = check-read level (settingOf W mode k) vs (storable W level mode k vs p) s sent L known reaches ∙ low-pass ids low in
-          let passes = unpack-read level (settingOf W mode k) vs (storable W level mode k vs p) s sent L known (length out) l reaches ∙ low-pass ids low in
+          let checks = check-read level (settingOf W mode k) vs (storable W level mode k vs p) ps s sent L known reaches ∙ low-pass ids low in
+          let passes = unpack-read level (settingOf W mode k) vs (storable W level mode k vs p) ps s sent L known (length out) l reaches ∙ low-pass ids low in
           (rw checks (ap Done n), rw passes (ap Done n), rw passes (ap (λ (m : ℕ). values s ++ drop m out) n))
 
       -- where it does not reach it, both say which level is needed, and the output stays as it was
@@ -271,14 +273,38 @@ module _ (W level mode : ℕ) (k : ℤ) (vs : List ℕ) (p : Packable W level mo
           → (checkAnswer L s ≡ Refused 7 needed) × (unpackAnswer W L s (length out) ≡ Refused 7 needed) × (unpackOut W L s out ≡ out)
       unfolding checkAnswer unpackAnswer unpackOut answer after
       it-is-too-new h out =
-          let stops = unpack-stop level (settingOf W mode k) vs (storable W level mode k vs p) s sent L known (length out) h in
-          (rw (check-stop level (settingOf W mode k) vs (storable W level mode k vs p) s sent L known h), rw stops, rw stops)
+          let stops = unpack-stop level (settingOf W mode k) vs (storable W level mode k vs p) ps s sent L known (length out) h in
+          (rw (check-stop level (settingOf W mode k) vs (storable W level mode k vs p) ps s sent L known h), rw stops, rw stops)
 
       -- and where it reaches it but some id is high, both name the first such id, and the output stays as it was
       pub it-is-not-skipped : someHigh ids ≡ true → needed ≤ L → (out : List ℕ) → length vs ≤ length out
           → (checkAnswer L s ≡ Refused 15 (firstHigh ids)) × (unpackAnswer W L s (length out) ≡ Refused 15 (firstHigh ids)) × (unpackOut W L s out ≡ out)
       unfolding checkAnswer unpackAnswer unpackOut answer after
       it-is-not-skipped high h out l =
-          let checks = check-read level (settingOf W mode k) vs (storable W level mode k vs p) s sent L known h ∙ high-stop ids high in
-          let stops = unpack-read level (settingOf W mode k) vs (storable W level mode k vs p) s sent L known (length out) l h ∙ high-stop ids high in
+          let checks = check-read level (settingOf W mode k) vs (storable W level mode k vs p) ps s sent L known h ∙ high-stop ids high in
+          let stops = unpack-read level (settingOf W mode k) vs (storable W level mode k vs p) ps s sent L known (length out) l h ∙ high-stop ids high in
           (rw checks, rw stops, rw stops)
+
+      -- the probe of each index, at the stream's own width, says the same
+      module _ (i : ℕ) (l : i < length vs) where
+        too-new : L < needed → first (probeRows W L s i) ≡ Stop 7 needed
+        too-new = probe-stop level (settingOf W mode k) vs (storable W level mode k vs p) ps s sent L known i
+
+        not-skipped : someHigh ids ≡ true → needed ≤ L → first (probeRows W L s i) ≡ Stop 15 (firstHigh ids)
+        not-skipped high h = probe-read level (settingOf W mode k) vs (storable W level mode k vs p) ps s sent L known i l h ∙ high-stop ids high
+
+        pub a-probe-is-too-new32 : W ≡ 32 → L < needed → probeAnswer32 L s i ≡ p32.Refused 7 needed
+        unfolding probeAnswer32 probed32
+        a-probe-is-too-new32 is h = rw (subst (λ (w : ℕ). first (probeRows w L s i) ≡ Stop 7 needed) is (too-new h))
+
+        pub a-probe-is-too-new64 : W ≡ 64 → L < needed → probeAnswer64 L s i ≡ p64.Refused 7 needed
+        unfolding probeAnswer64 probed64
+        a-probe-is-too-new64 is h = rw (subst (λ (w : ℕ). first (probeRows w L s i) ≡ Stop 7 needed) is (too-new h))
+
+        pub a-probe-skips-nothing32 : W ≡ 32 → someHigh ids ≡ true → needed ≤ L → probeAnswer32 L s i ≡ p32.Refused 15 (firstHigh ids)
+        unfolding probeAnswer32 probed32
+        a-probe-skips-nothing32 is high h = rw (subst (λ (w : ℕ). first (probeRows w L s i) ≡ Stop 15 (firstHigh ids)) is (not-skipped high h))
+
+        pub a-probe-skips-nothing64 : W ≡ 64 → someHigh ids ≡ true → needed ≤ L → probeAnswer64 L s i ≡ p64.Refused 15 (firstHigh ids)
+        unfolding probeAnswer64 probed64
+        a-probe-skips-nothing64 is high h = rw (subst (λ (w : ℕ). first (probeRows w L s i) ≡ Stop 15 (firstHigh ids)) is (not-skipped high h))

@@ -25,10 +25,9 @@ pub record Packable (W level mode : ℕ) (k : ℤ) (vs : List ℕ) : Type 0 wher
   pub few : length vs ≤ 1048576
   pub patterns : Below (2 ^ W) vs
 
--- The bytes s of such a list as a reader may meet them: as pack wrote them, or with well-formed side parts added behind the data. With a high id
--- the need is raised, to what the written minor has to reach; without one it is as pack wrote it (`with-side-parts`).
-pub record Sent (level : ℕ) (t : Setting) (vs s : List ℕ) : Type 0 where
-  pub sides : List Side
+-- The bytes s of such a list as a reader may meet them: with these side parts, which are none or well-formed, behind the data, and with the need of
+-- a stream that has them, which the written minor reaches. Without a high id that need is the one that pack wrote (`with-side-parts`).
+pub record Sent (level : ℕ) (t : Setting) (vs : List ℕ) (sides : List Side) (s : List ℕ) : Type 0 where
   pub well-formed : WellFormedSides (length (stream level t vs) + 12 * length sides) sides
   pub reached : streamNeed t (someHigh (idsOf sides)) ≤ level
   pub bytes : s ≡ withNeed (streamNeed t (someHigh (idsOf sides))) (addSides (stream level t vs) sides)

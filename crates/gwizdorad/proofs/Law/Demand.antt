@@ -2,7 +2,7 @@
 use mathlib.Core.Path.{_≡_, refl, sym, ap, subst, _∙_}
 use mathlib.Core.Logic.{_⊎_, inl, inr, _↔_}
 use mathlib.Core.Bool.{Bool, true, false}
-use mathlib.Core.List.{List}
+use mathlib.Core.List.{List, []}
 use Prim.Native.Nat.{ℕ, _+_, _*_, _/_, _^_, _<_}
 use native.Mathlib.Omega.{arith}
 use borrow.Author.Tests.{leb-false, lt-leb, eqb-true}
@@ -21,9 +21,9 @@ use Rattle.numbers.specs.declared.tolerance.CodeAnswer.the-variants as code
 use Rattle.numbers.specs.declared.tolerance.PatternAnswer.the-variants as pattern
 use Rattle.numbers.proofs.Theorems.{format-32, format-64, every-pattern-is-restored, every-list-is-restored, a-coded-k-is-allowed, an-allowed-k-has-a-bin, a-code-is-restored, binary32-returned, binary64-returned, bound-for-binary32, bound-for-binary64}
 use Rattle.blocks.specs.Bytes.{Below}
-use Rattle.stream.specs.Setting.{knownWidth, fractionBits, allowedSetting, settingOf}
+use Rattle.stream.specs.Setting.{knownWidth, fractionBits, allowedSetting, settingOf, someHigh}
 use Rattle.stream.specs.Stream.{values}
-use Rattle.stream.specs.Writing.{WellFormedSides}
+use Rattle.stream.specs.Writing.{Side, idsOf, WellFormedSides}
 use Rattle.stream.specs.Packing.{Packable, Sent}
 use Rattle.stream.specs.Operations.{packAnswer, packOut}
 use Rattle.stream.specs.declared.answers.Answer.the-variants.{Done}
@@ -152,26 +152,34 @@ module _ (W level mode : ℕ) (k : ℤ) (vs out : List ℕ) (size : ℕ) (done :
   whole : length (take size (packOut W level mode k vs out)) ≡ size
   whole = ap length (accepted-bytes W level mode k vs out size done) ∙ sym (accepted-leaves W level mode k vs out size done .0)
 
-  sided-is-sent : (s : List ℕ) → Sided (take size (packOut W level mode k vs out)) s → Sent level (settingOf W mode k) vs s
-  sided-is-sent s (plain is) =
-      subst (λ (b : List ℕ). Sent level (settingOf W mode k) vs b) (sym (is ∙ accepted-bytes W level mode k vs out size done)) (the-plain-stream W level mode k vs packable)
-  sided-is-sent s (with-parts parts well is) =
-      subst (λ (b : List ℕ). Sent level (settingOf W mode k) vs b) (sym is)
-      (accepted-is-sent W level mode k vs out size done parts (subst (λ (n : ℕ). WellFormedSides (n + 12 * length parts) parts) whole well))
+  sided-is-sent : (s : List ℕ) → Sided (take size (packOut W level mode k vs out)) s
+      → (parts : List Side) × (someHigh (idsOf parts) ≡ false) × Sent level (settingOf W mode k) vs parts s
+  unfolding idsOf someHigh
+  sided-is-sent s (plain is) = (
+    [],
+    refl,
+    subst (Sent level (settingOf W mode k) vs []) (sym (is ∙ accepted-bytes W level mode k vs out size done)) (the-plain-stream W level mode k vs packable),
+  )
+  sided-is-sent s (with-parts parts well low is) = (
+    parts,
+    low,
+    subst (Sent level (settingOf W mode k) vs parts) (sym is)
+        (accepted-is-sent W level mode k vs out size done parts (subst (λ (n : ℕ). WellFormedSides (n + 12 * length parts) parts) whole well) low),
+  )
 
 module _ (W level mode : ℕ) (k : ℤ) (vs s : List ℕ) (width : knownWidth W ≡ true) (patterns : Below (2 ^ W) vs) (packed : Packed W level mode k vs s) where
   packable : Packable W level mode k vs
   packable = accepted-list W level mode k vs (packed .out) (packed .size) (packed .done) width patterns
 
-  pub is-sent : Sent level (settingOf W mode k) vs s
+  pub is-sent : (parts : List Side) × (someHigh (idsOf parts) ≡ false) × Sent level (settingOf W mode k) vs parts s
   is-sent = sided-is-sent W level mode k vs (packed .out) (packed .size) (packed .done) packable s (packed .given)
 
   pub as-many : length (values s) ≡ length vs
-  as-many = as-many-values W level mode k vs packable s is-sent
+  as-many = as-many-values W level mode k vs packable (is-sent .0) s (is-sent .2)
 
   pub come-back : (i : ℕ) → i < length vs → ComesBack W mode k (getD vs i 0) (getD (values s) i 0)
   come-back i below =
       record {
-        lossless = λ e. ap (λ (l : List ℕ). getD l i 0) (lossless-values W level mode k vs packable s is-sent e);
-        within = λ e. returned k (getD vs i 0) (getD (values s) i 0) W width (allowed-in-mode-1 W mode k e (packable .allowed)) (tolerance-values W level mode k vs packable s is-sent e i below);
+        lossless = λ e. ap (λ (l : List ℕ). getD l i 0) (lossless-values W level mode k vs packable (is-sent .0) s (is-sent .2) e);
+        within = λ e. returned k (getD vs i 0) (getD (values s) i 0) W width (allowed-in-mode-1 W mode k e (packable .allowed)) (tolerance-values W level mode k vs packable (is-sent .0) s (is-sent .2) e i below);
       }

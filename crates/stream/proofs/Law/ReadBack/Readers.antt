@@ -77,11 +77,10 @@ module _ (level : ℕ) (t : Setting) (vs : List ℕ) (ps : List Side) where
 
   -- without a high id it is the one that stood there
   pub low-sent : need t ≤ level → WellFormedSides (length (stream level t vs) + 12 * length ps) ps → someHigh (idsOf ps) ≡ false
-      → Sent level t vs (addSides (stream level t vs) ps)
+      → Sent level t vs ps (addSides (stream level t vs) ps)
   low-sent reaches well low =
       let is : streamNeed t (someHigh (idsOf ps)) ≡ need t = ap (streamNeed t) low ∙ low-need t in
       record {
-        sides = ps;
         well-formed = well;
         reached = rw is reaches;
         bytes = sym (ap (λ (n : ℕ). withNeed n (addSides (stream level t vs) ps)) is ∙ needing (need t) ∙ sym sided);
@@ -99,10 +98,10 @@ module _ (level : ℕ) (t : Setting) (vs : List ℕ) where
   unfolding increasing entries parts
   no-sides place = record { few = zero-le; ordered = refl; numbers = λ i. lit< tt; are-bytes = λ i. byte }
 
-  pub plain-sent : need t ≤ level → Sent level t vs (stream level t vs)
+  pub plain-sent : need t ≤ level → Sent level t vs [] (stream level t vs)
   unfolding someHigh idsOf
   plain-sent reaches =
-      subst (Sent level t vs) (sym plain-is) (low-sent level t vs [] reaches (no-sides (length (stream level t vs) + 12 * 0)) refl)
+      subst (Sent level t vs []) (sym plain-is) (low-sent level t vs [] reaches (no-sides (length (stream level t vs) + 12 * 0)) refl)
 
 -- rows of which none is given
 all-pass : (f : ℕ → Row) (k i : ℕ) → ((j : ℕ) → i ≤ j → j < i + k → first (f j ∷ []) ≡ Pass) → first (rowsFrom f k i) ≡ Pass
@@ -110,10 +109,7 @@ unfolding rowsFrom first
 all-pass f zero i h = refl
 all-pass f (suc k) i h = passed (f i) (rowsFrom f k (suc i)) (h i (omega arith) (omega arith)) ∙ all-pass f k (suc i) (λ j l m. h j (omega arith) (omega arith))
 
-module _ (level : ℕ) (t : Setting) (vs : List ℕ) (p : Storable level t vs) (s : List ℕ) (sent : Sent level t vs s) where
-  abbrev ps : List Side
-  ps = sent .sides
-
+module _ (level : ℕ) (t : Setting) (vs : List ℕ) (p : Storable level t vs) (ps : List Side) (s : List ℕ) (sent : Sent level t vs ps s) where
   abbrev well : WellFormedSides (endOf t vs (chunksIn (length vs)) + 12 * length ps) ps
   well = subst (λ (n : ℕ). WellFormedSides (n + 12 * length ps) ps) (length-stream level t vs) (sent .well-formed)
 
