@@ -54,6 +54,15 @@
  * is the first in the order that stands with the operation.
  *
  *
+ * SIDE PARTS
+ *
+ * A stream may have up to 64 side parts behind its data, which others put there: bytes with an id. This library writes none,
+ * and hands none out. Ids below 2^31, GWZ_FIRST_HIGH_ID, may be skipped: every reader does. An id from there up says that the
+ * values must not be used by who does not understand it, as where a part holds a datum shift. NONE IS DEFINED YET, so every
+ * reader refuses such a stream: below level 12 by 7, and at 12 by 15 with the first such id. Who adds such a part also raises
+ * the needed minor to 12, and the written one if it is below; docs/FORMAT.md has the bytes.
+ *
+ *
  * PATTERNS, NOT FLOATS
  *
  * Values go in and out as bit patterns, so that no conversion on the way can alter a not-a-number: uint32_t
@@ -66,7 +75,7 @@
 
 /* The format that this header is of: its major number, and the highest level that is known here. */
 #define GWZ_FORMAT_MAJOR 1
-#define GWZ_HIGHEST_LEVEL 11 /* reads every stream that this library can write */
+#define GWZ_HIGHEST_LEVEL 12 /* reads every stream that this library can write */
 
 #ifdef __cplusplus
 extern "C" {
@@ -76,13 +85,15 @@ extern "C" {
  * A level is the minor number of the format that a call acts as. A writer's level is noted in the stream, with
  * the least level that a reader needs: 11 in mode GWZ_DIFFERENCES, else 10 for width 64, else 9 within a tolerance,
  * else 8. A reader of level 10 or below refuses GWZ_DIFFERENCES by 7: for such boats use GWZ_LOSSLESS, whose need is 8, or
- * 10 at width 64.
+ * 10 at width 64. A stream to which somebody added a side part with an id from GWZ_FIRST_HIGH_ID up needs 12, or more if its
+ * setting does: see SIDE PARTS.
  */
 enum gwz_level {
     GWZ_LEVEL_8 = 8,   /* width 32, GWZ_LOSSLESS */
     GWZ_LEVEL_9 = 9,   /* and width 32, GWZ_WITHIN_TOLERANCE */
     GWZ_LEVEL_10 = 10, /* and width 64, in both of these */
-    GWZ_LEVEL_11 = 11  /* and GWZ_DIFFERENCES, both widths */
+    GWZ_LEVEL_11 = 11, /* and GWZ_DIFFERENCES, both widths */
+    GWZ_LEVEL_12 = 12  /* no other setting; knows the ids that must be understood */
 };
 
 enum gwz_mode {
@@ -100,6 +111,9 @@ enum gwz_kind {
     GWZ_INFINITY = 1,
     GWZ_NOT_A_NUMBER = 2
 };
+
+/* The first id of a side part that must be understood; those below may be skipped. */
+#define GWZ_FIRST_HIGH_ID UINT32_C(0x80000000)
 
 enum gwz_limit {
     GWZ_MOST_VALUES = 1048576, /* in one stream: examples/large_field.c has a way to pack more */
@@ -131,7 +145,7 @@ uint32_t gwz_highest_level(void);
  * behind them nothing is altered. Enough room is what gwz_length answers, or GWZ_LONGEST_STREAM, with which
  * there is no measuring pass over the values.
  *
- * level    8, 9, 10 or 11; which allows which setting stands with enum gwz_level
+ * level    8, 9, 10, 11 or 12; which allows which setting stands with enum gwz_level
  * mode     GWZ_LOSSLESS, GWZ_WITHIN_TOLERANCE or GWZ_DIFFERENCES
  * k        within a tolerance its exponent, which gwz_bound finds: -150 to 103 for width 32, -1075 to 970 for
  *          width 64; else 0
@@ -152,7 +166,8 @@ uint64_t gwz_length64(uint32_t level, uint32_t mode, int32_t k, const uint64_t *
 /*
  * Checks a whole stream of either width, and hands out no values. Answers the count of values. What passes here,
  * gwz_unpack of its width reads, given room. That the values are those that were packed, it cannot know: see WHAT IS
- * NOT SEEN. Refusals, in order: 1 5 6 7 8 9 10.
+ * NOT SEEN. Refusals, in order: 1 5 6 7 8 9 8 15 10; the second 8, here and below, is for a needed minor that is above what
+ * the stream needs, or too low for an id from GWZ_FIRST_HIGH_ID up.
  */
 uint64_t gwz_check(uint32_t level, const uint8_t *bytes, size_t len);
 
@@ -161,7 +176,7 @@ uint64_t gwz_check(uint32_t level, const uint8_t *bytes, size_t len);
  * Answers the count of values; behind them nothing is altered. The room needed is what gwz_check answers, or the
  * detail of refusal 4: with room 0, that is a way to ask.
  *
- * Refusals, in order: 1 5 6 7 8 14 4 9 10.
+ * Refusals, in order: 1 5 6 7 8 14 4 9 8 15 10.
  */
 uint64_t gwz_unpack32(uint32_t level, const uint8_t *bytes, size_t len, uint32_t *out, size_t room);
 uint64_t gwz_unpack64(uint32_t level, const uint8_t *bytes, size_t len, uint64_t *out, size_t room);
@@ -171,7 +186,7 @@ uint64_t gwz_unpack64(uint32_t level, const uint8_t *bytes, size_t len, uint64_t
  * GWZ_NOT_A_NUMBER. It reads the header, both tables and the whole of the value's own chunk: damage in another chunk's
  * data does not touch the answer.
  *
- * Refusals, in order: 1 5 6 7 8 14 11 9 10, the last for the value's own chunk only. *pattern is then as it was.
+ * Refusals, in order: 1 5 6 7 8 14 11 9 8 15 10, the last for the value's own chunk only. *pattern is then as it was.
  */
 uint64_t gwz_probe32(uint32_t level, const uint8_t *bytes, size_t len, uint64_t index, uint32_t *pattern);
 uint64_t gwz_probe64(uint32_t level, const uint8_t *bytes, size_t len, uint64_t index, uint64_t *pattern);

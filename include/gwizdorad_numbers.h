@@ -37,9 +37,9 @@
  * means, may change where the second number does.
  */
 #define GWZ_VERSION_MAJOR 0
-#define GWZ_VERSION_MINOR 9
-#define GWZ_VERSION_PATCH 1
-#define GWZ_VERSION "0.9.1"
+#define GWZ_VERSION_MINOR 10
+#define GWZ_VERSION_PATCH 0
+#define GWZ_VERSION "0.10.0"
 
 #ifndef GWZ_HELPER
 #define GWZ_HELPER static inline
@@ -52,23 +52,25 @@ extern "C" {
 /* The version of the library, as GWZ_VERSION is that of the header. */
 const char *gwz_version(void);
 
-/* The refusal numbers. The detail is 0 but for the three that say another. */
+/* The refusal numbers. The detail is 0 but for the four that say another. */
 enum gwz_refusal_number {
     GWZ_DONE = 0,                 /* not refused: the low 32 bits are the answer */
-    GWZ_UNKNOWN_LEVEL = 1,        /* level not 8, 9, 10 or 11 */
+    GWZ_UNKNOWN_LEVEL = 1,        /* level not 8 to 12 */
     GWZ_NOT_ALLOWED = 2,          /* mode or k not allowed, or its need exceeds the level; bound: width not 32 or 64 */
     GWZ_TOO_MANY_VALUES = 3,      /* more than GWZ_MOST_VALUES */
     GWZ_TOO_SHORT = 4,            /* lent output too short; detail: the length needed, in that output's elements */
     GWZ_NO_HEADER = 5,            /* fewer than GWZ_HEADER_BYTES bytes */
     GWZ_OTHER_MAJOR = 6,          /* major not 1: another format */
     GWZ_TOO_NEW = 7,              /* needed minor above the level; detail: the needed minor */
-    GWZ_BROKEN_HEADER = 8,        /* another header rule broken, as when the bytes end before the data */
+    GWZ_BROKEN_HEADER = 8,        /* another header rule broken, as when the bytes end before the data, or the need is not
+                                     that of the stream */
     GWZ_BROKEN_TABLE = 9,         /* chunk table or side table rule broken */
     GWZ_BROKEN_CHUNK = 10,        /* a chunk breaks a rule; detail: chunk * 32 + group (of a code alone: 0) */
     GWZ_NO_SUCH_INDEX = 11,       /* index not below the count of values */
     GWZ_NO_TOLERANCE = 12,        /* tolerance not a finite number above 0 */
     GWZ_TOLERANCE_TOO_SMALL = 13, /* no allowed k is small enough */
-    GWZ_OTHER_WIDTH = 14          /* the stream has the other width */
+    GWZ_OTHER_WIDTH = 14,         /* the stream has the other width */
+    GWZ_MUST_BE_UNDERSTOOD = 15   /* a side part has an id from GWZ_FIRST_HIGH_ID up; detail: the first such id */
 };
 
 /* The exponent k of a tolerance 2^k, for values of each width. */
@@ -113,7 +115,7 @@ GWZ_HELPER const char *gwz_refusal_text(uint32_t number)
     case GWZ_DONE:
         return "Done: nothing was refused.";
     case GWZ_UNKNOWN_LEVEL:
-        return "The level is not known: pass 8, 9, 10 or 11.";
+        return "The level is not known: pass 8, 9, 10, 11 or 12.";
     case GWZ_NOT_ALLOWED:
         return "The setting is not allowed: check mode, k and width, or pass the higher level that the setting needs.";
     case GWZ_TOO_MANY_VALUES:
@@ -141,6 +143,9 @@ GWZ_HELPER const char *gwz_refusal_text(uint32_t number)
         return "The tolerance is smaller than every allowed 2^k: pack lossless.";
     case GWZ_OTHER_WIDTH:
         return "The stream has the other width: call the function for 64 instead of 32, or for 32 instead of 64.";
+    case GWZ_MUST_BE_UNDERSTOOD:
+        return "A side part that must not be skipped, with the id that the detail names, is not understood here: the values "
+               "would mislead without it. Update this program, or ask who wrote the file.";
     default:
         return "The refusal number is not known to this header: use the header that came with the library.";
     }

@@ -48,15 +48,22 @@ static uint64_t number_at(const struct content *content, uint64_t at)
 
 /* ---- Reading */
 
+static uint32_t refusal_of(const struct content *content, size_t length)
+{
+    return gwz_refusal(gwz_check(GWZ_HIGHEST_LEVEL, content->bytes, length));
+}
+
 /*
  * Whether what has come of a file is refused whatever comes behind it, by a rule that does not ask where the bytes end.
- * So a disk that was named by mistake, or a file without an end, does not fill the memory.
+ * So a disk that was named by mistake, or a file without an end, does not fill the memory. A need that the side parts do
+ * not ask for is 8 too, but only where the last of them ends with the bytes: one byte fewer, and it is 9.
  */
 static int is_hopeless(const struct content *content)
 {
-    uint32_t refusal = gwz_refusal(gwz_check(GWZ_HIGHEST_LEVEL, content->bytes, content->length));
+    uint32_t refusal = refusal_of(content, content->length);
     return refusal == GWZ_OTHER_MAJOR || refusal == GWZ_TOO_NEW
-        || (refusal == GWZ_BROKEN_HEADER && number_at(content, END_AT) <= content->length);
+        || (refusal == GWZ_BROKEN_HEADER && number_at(content, END_AT) < content->length
+            && refusal_of(content, content->length - 1) == GWZ_BROKEN_HEADER);
 }
 
 /* Returns NULL, or why it could not be read. Of a pipe nobody knows the length, so the room grows with what comes. */
@@ -160,6 +167,8 @@ static int print_checked(const struct content *content)
     printf("refused %" PRIu32, refusal);
     if (refusal == GWZ_TOO_NEW)
         printf(" (detail: needed level %" PRIu32 ")", gwz_detail(result));
+    if (refusal == GWZ_MUST_BE_UNDERSTOOD)
+        printf(" (detail: id %" PRIu32 ")", gwz_detail(result));
     printf(": ");
     if (refusal == GWZ_BROKEN_CHUNK)
         print_damage(content, gwz_detail(result));

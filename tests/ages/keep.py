@@ -21,8 +21,8 @@ import reader  # noqa: E402  its folder has to be named first
 from caller import Caller  # noqa: E402
 
 # Width, mode, k, and the levels that write it.
-SETTINGS = [(32, 0, 0, (8, 9, 10, 11)), (32, 1, -8, (9, 10, 11)), (64, 0, 0, (10, 11)), (64, 1, -8, (10, 11)),
-            (32, 2, 0, (11,)), (64, 2, 0, (11,))]
+SETTINGS = [(32, 0, 0, (8, 9, 10, 11, 12)), (32, 1, -8, (9, 10, 11, 12)), (64, 0, 0, (10, 11, 12)),
+            (64, 1, -8, (10, 11, 12)), (32, 2, 0, (11, 12)), (64, 2, 0, (11, 12))]
 LIMITS = [(32, 1, -150, 9), (32, 1, 103, 9), (64, 1, -1075, 10), (64, 1, 970, 10)]
 
 # The places of the header's numbers.
@@ -237,6 +237,40 @@ def later(streams):
     yield "64-lossless-33-need-4294967295", with_number(streams["64-lossless-33-by-10"], NEEDED, 2**32 - 1)
 
 
+HIGH = 2**31    # the first id that must be understood
+LOW_SIDES = [(7, b"tide"), (HIGH - 1, b"gauge")]
+HIGH_SIDES = [(7, b"tide"), (HIGH, b"datum"), (2**32 - 1, b"")]
+
+
+def needing(data, needed):
+    """With another need, and a written minor that reaches it."""
+    return with_number(with_number(data, WRITTEN, max(needed, number_at(data, WRITTEN))), NEEDED, needed)
+
+
+def guarded(streams):
+    """Side parts on both sides of 2^31, with the need of the stream, one that is too small and one that is too large; and a
+    high id beside every fault that stands before it or behind it in a reader's order."""
+    for width, mode, k, levels in SETTINGS:
+        name = f"{setting_name(width, mode, k)}-33-by-12"
+        need = levels[0]
+        yield f"{name}-low-ids", with_sides(streams[name], LOW_SIDES)
+        yield f"{name}-low-ids-need-12", needing(with_sides(streams[name], LOW_SIDES), 12)
+        yield f"{name}-high-ids", needing(with_sides(streams[name], HIGH_SIDES), 12)
+        yield f"{name}-high-ids-need-{need}", with_sides(streams[name], HIGH_SIDES)
+        yield f"{name}-high-ids-need-13", needing(with_sides(streams[name], HIGH_SIDES), 13)
+    name = "32-lossless-33-by-12"
+    data = needing(with_sides(streams[name], HIGH_SIDES), 12)
+    yield f"{name}-high-ids-written-11", with_number(data, WRITTEN, 11)
+    yield f"{name}-high-ids-only", needing(with_sides(streams[name], HIGH_SIDES[1:]), 12)
+    yield f"{name}-high-id-last-only", needing(with_sides(streams[name], [(1, b""), (2**32 - 1, b"end")]), 12)
+    yield f"{name}-high-ids-no-values", needing(with_sides(streams["32-lossless-empty-by-12"], HIGH_SIDES), 12)
+    yield f"{name}-high-ids-first-start-1", with_number(data, 48, 1)
+    yield f"{name}-high-ids-exchanged", with_number(with_number(data, number_at(data, END), HIGH), number_at(data, END) + 12, 7)
+    yield f"{name}-high-ids-added-byte", data + bytes(1)
+    yield f"{name}-high-ids-w-255", with_byte(data, number_at(data, START), 255)
+    yield f"{name}-high-ids-need-9", needing(data, 9)
+
+
 # Numbers of the header that are not those of the setting, or not those of 33 values.
 BAD_NUMBERS = {
     (32, 0): [("major-0", MAJOR, 0), ("major-2", MAJOR, 2), ("written-7", WRITTEN, 7), ("need-7", NEEDED, 7),
@@ -370,7 +404,7 @@ def keep(path, data):
 def main():
     folder, streams, status = pathlib.Path(sys.argv[1]), {}, 0
     with Caller(sys.argv[2:]) as library:
-        for some in (written(library), edited(streams), later(streams), damaged(streams)):
+        for some in (written(library), edited(streams), later(streams), guarded(streams), damaged(streams)):
             for name, data in some:
                 streams[name] = data
                 status |= not keep(folder / f"{name}.gwz", data)

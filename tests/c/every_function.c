@@ -49,7 +49,7 @@ static void expect_numbers(struct tally *tally, const struct number_case *cases,
                  (unsigned long)gwz_refusal(got), (unsigned long)gwz_detail(got),
                  (unsigned long)gwz_refusal(wanted), (unsigned long)gwz_detail(wanted));
         record(tally, cases[i].what, got == wanted ? NULL : fault);
-        if (gwz_refusal(got) >= 1 && gwz_refusal(got) <= 14)
+        if (gwz_refusal(got) >= 1 && gwz_refusal(got) <= 15)
             tally->refusals_given |= 1u << gwz_refusal(got);
     }
 }
@@ -276,8 +276,8 @@ static void test_helpers(struct tally *tally)
         {"longest stream of all", GWZ_LONGEST_STREAM(64, GWZ_MOST_VALUES), 8425520},
     };
     expect_numbers(tally, cases, COUNT(cases));
-    for (uint32_t number = 0; number <= 14; number++) {
-        const char *unknown = gwz_refusal_text(15), *next = gwz_refusal_text(number + 1);
+    for (uint32_t number = 0; number <= 15; number++) {
+        const char *unknown = gwz_refusal_text(16), *next = gwz_refusal_text(number + 1);
         int own = strcmp(gwz_refusal_text(number), unknown) != 0 && strcmp(gwz_refusal_text(number), next) != 0;
         record(tally, "a text of its own for each refusal", own ? NULL : gwz_refusal_text(number));
     }
@@ -522,9 +522,9 @@ static void test_levels(struct tally *tally)
     const uint64_t zero = 0;
     const uint8_t no_bits[] = {0};
     for (size_t i = 0; i < COUNT(settings); i++)
-        for (uint32_t level = 0; level <= 12; level++) {
+        for (uint32_t level = 0; level <= 13; level++) {
             uint32_t need = settings[i].need, mode = settings[i].mode;
-            int known = level >= 8 && level <= 11;
+            int known = level >= 8 && level <= 12;
             const struct setting written = {level, settings[i].width, mode, 0};
             const struct setting later = {77, settings[i].width, mode, 0};
             uint8_t stream[53], later_stream[53];
@@ -546,7 +546,7 @@ static void test_packing_refused(struct tally *tally)
 {
     static const struct { const char *what; uint32_t level, mode; int32_t k; uint32_t refusal32, refusal64; } rows[] = {
         {"level 7 before mode 3", 7, 3, 0, 1, 1},
-        {"level 12", 12, 0, 0, 1, 1},
+        {"level 13", 13, 0, 0, 1, 1},
         {"level 2^32 - 1", UINT32_MAX, 0, 0, 1, 1},
         {"mode 3", 11, 3, 0, 2, 2},
         {"mode 2 at level 10", 10, 2, 0, 2, 2},
@@ -653,7 +653,7 @@ static void test_damaged_example(struct tally *tally)
 {
     static const struct damage damages[] = {
         {"major 0", 0, 4, 0, 6, 0}, {"major 2", 0, 4, 2, 6, 0}, {"major 257", 0, 4, 257, 6, 0},
-        {"need 12", 8, 4, 12, 7, 12}, {"need 2^32 - 1", 8, 4, UINT32_MAX, 7, UINT32_MAX},
+        {"need 13", 8, 4, 13, 7, 13}, {"need 2^32 - 1", 8, 4, UINT32_MAX, 7, UINT32_MAX},
         {"need 7", 8, 4, 7, 8, 0}, {"need 9, not the setting's", 8, 4, 9, 8, 0},
         {"need 11, not the setting's", 8, 4, 11, 8, 0},
         {"written 7 below needed 8", 4, 4, 7, 8, 0}, {"width 16", 12, 4, 16, 8, 0},
@@ -760,7 +760,7 @@ static void test_chunk_ends(struct tally *tally)
     expect_places(tally, "no codes for a group", stream, 125, without_codes);
 }
 
-/* Two side parts behind the example: ids 1 and 9, of 2 bytes and none. A reader skips them. */
+/* Two side parts behind the example: ids 1 and 9, of 2 bytes and none. A reader skips them: their ids are low. */
 static void test_side_parts(struct tally *tally)
 {
     static const uint32_t entries[] = {1, 79, 2, 9, 81, 0};
@@ -783,7 +783,76 @@ static void test_side_parts(struct tally *tally)
         expect_damage(tally, stream, sizeof stream, damages[i]);
 }
 
-/* Where several refusals apply, the first of 1 5 6 7 8 14 4 9 10 (unpack) or 1 5 6 7 8 14 11 9 10 (probe). */
+/* The example with three side parts, of 2 bytes, of none and of 1, as a writer of level 12 may leave it. */
+enum { WITH_IDS = 55 + 36 + 3 };
+
+static void put_ids(uint8_t *stream, uint32_t need, uint32_t first, uint32_t second, uint32_t third)
+{
+    const uint32_t entries[] = {first, 91, 2, second, 93, 0, third, 93, 1};
+    memcpy(stream, example, sizeof example);
+    put_number(stream + 4, 12);
+    put_number(stream + 8, need);
+    put_number(stream + 40, 3);
+    for (size_t i = 0; i < COUNT(entries); i++)
+        put_number(stream + 55 + 4 * i, entries[i]);
+    stream[91] = stream[92] = stream[93] = 0xEE;
+}
+
+/* All three readers at a level; `wanted` is the refusal, or done(3) where the values are handed out. */
+static void expect_ids(struct tally *tally, const char *what, uint32_t level, const uint8_t *stream, uint64_t wanted)
+{
+    int read = gwz_refusal(wanted) == GWZ_DONE;
+    expect_call(tally, what, reading(CHECK, level, stream, WITH_IDS, 0), wanted, NULL, 0);
+    expect_call(tally, what, reading(UNPACK32, level, stream, WITH_IDS, 3), wanted, example_values, read ? 3 : 0);
+    expect_call(tally, what, probing(PROBE32, level, stream, WITH_IDS, 2), read ? done(GWZ_FINITE) : wanted,
+                &example_values[2], read ? 1 : 0);
+}
+
+/* Ids from 2^31 up: every level refuses, and names the need or the first such id. */
+static void test_must_be_understood(struct tally *tally)
+{
+    const uint32_t high = GWZ_FIRST_HIGH_ID;
+    uint8_t stream[WITH_IDS];
+    for (uint32_t level = GWZ_LEVEL_8; level <= GWZ_HIGHEST_LEVEL; level++) {
+        int knows = level >= GWZ_LEVEL_12;
+        put_ids(stream, 12, 7, high, UINT32_MAX);
+        expect_ids(tally, "a low id and two high ones", level, stream, knows ? refused(GWZ_MUST_BE_UNDERSTOOD, high) : refused(7, 12));
+        put_ids(stream, 12, 0, 1, high + 5);
+        expect_ids(tally, "the last id alone is high", level, stream, knows ? refused(GWZ_MUST_BE_UNDERSTOOD, high + 5) : refused(7, 12));
+        put_ids(stream, 8, 7, 8, high - 1);
+        expect_ids(tally, "the highest id that is skipped", level, stream, done(3));
+        put_ids(stream, 12, 7, 8, high - 1);
+        expect_ids(tally, "the need of a high id, and none", level, stream, knows ? refused(8, 0) : refused(7, 12));
+        put_ids(stream, 8, 7, 8, high);
+        expect_ids(tally, "a high id, and a need that is too small", level, stream, refused(8, 0));
+        put_ids(stream, 13, 7, 8, high);
+        put_number(stream + 4, 13);
+        expect_ids(tally, "a high id, and a need that is too large", level, stream, refused(7, 13));
+    }
+}
+
+/* The late 8 and 15 come behind 14, 4, 11 and 9 and before 10. */
+static void test_order_of_ids(struct tally *tally)
+{
+    const uint32_t high = GWZ_FIRST_HIGH_ID;
+    uint8_t stream[WITH_IDS];
+    for (int wrong_need = 0; wrong_need < 2; wrong_need++) {
+        uint64_t wanted = wrong_need ? refused(8, 0) : refused(15, high);
+        put_ids(stream, wrong_need ? 9 : 12, 7, high, UINT32_MAX);
+        expect_call(tally, "14 before the ids", reading(UNPACK64, 12, stream, WITH_IDS, 3), refused(14, 0), NULL, 0);
+        expect_call(tally, "14 before the ids", probing(PROBE64, 12, stream, WITH_IDS, 0), refused(14, 0), NULL, 0);
+        expect_call(tally, "4 before the ids", reading(UNPACK32, 12, stream, WITH_IDS, 2), refused(4, 3), NULL, 0);
+        expect_call(tally, "11 before the ids", probing(PROBE32, 12, stream, WITH_IDS, 3), refused(11, 0), NULL, 0);
+        stream[52] = 33;
+        expect_ids(tally, "the ids before 10", 12, stream, wanted);
+        put_number(stream + 48, 1);
+        expect_ids(tally, "9 before the ids: the chunk table", 12, stream, refused(9, 0));
+        put_ids(stream, wrong_need ? 9 : 12, high, 7, UINT32_MAX);
+        expect_ids(tally, "9 before the ids: the side table", 12, stream, refused(9, 0));
+    }
+}
+
+/* Where several refusals apply, the first of 1 5 6 7 8 14 4 9 8 15 10 (unpack) or 1 5 6 7 8 14 11 9 8 15 10 (probe). */
 static void test_reading_order(struct tally *tally)
 {
     uint8_t bad[55];
@@ -1015,8 +1084,8 @@ static void test_no_elements(struct tally *tally)
 
 static void test_each_refusal(struct tally *tally)
 {
-    for (uint32_t number = 1; number <= 14; number++)
-        record(tally, "each refusal 1 to 14 was given by some call above",
+    for (uint32_t number = 1; number <= 15; number++)
+        record(tally, "each refusal 1 to 15 was given by some call above",
                tally->refusals_given >> number & 1 ? NULL : gwz_refusal_text(number));
 }
 
@@ -1042,6 +1111,8 @@ int main(void)
         {"damaged chunks", test_damaged_chunks},
         {"chunks too long and too short", test_chunk_ends},
         {"side parts", test_side_parts},
+        {"side parts that must be understood", test_must_be_understood},
+        {"order of the late 8 and of 15", test_order_of_ids},
         {"order of refusals when reading", test_reading_order},
         {"lengths", test_lengths},
         {"the limit of 1,048,576 values", test_limit},

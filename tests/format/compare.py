@@ -5,7 +5,8 @@
 
 It and the library get the same streams, clean and damaged, and have to answer the same: check, unpack and probe with
 number, detail and every value; and pack, length and bound. One stream in twelve has up to three chunks, most of them
-damaged within, for the place that refusal 10 names. The last line is 'N passed, M failed', a stream each.
+damaged within, for the place that refusal 10 names. Two in twelve have side parts, for the high ids, the need and the
+order 9 8 15 10. The last line is 'N passed, M failed', a stream each.
 """
 
 import itertools
@@ -84,14 +85,34 @@ def words(numbers):
     return b"".join(n.to_bytes(4, "little") for n in numbers)
 
 
-def with_sides(pick, data):
-    parts = [bytes(pick.randrange(256) for _ in range(pick.randrange(4))) for _ in range(pick.choice([1, 2, 3, 64, 65]))]
-    place, ids, table = len(data) + 12 * len(parts), -1, b""
-    for part in parts:
-        ids += 1 + pick.randrange(3)
-        table += words([ids, place, len(part)])
-        place += len(part)
+def some_ids(pick):
+    """Ids that increase strictly: small ones, and mostly some around 2^31 and the last one there is, several high ones too."""
+    count, high = pick.choice([1, 2, 3, 4, 64, 65]), reader.HIGH_ID
+    near = {high - 1, high, high + 1, 2**32 - 1, pick.randrange(2**30, high), pick.randrange(high, 2**32)}
+    chosen = pick.sample(sorted(near), min(pick.choice([0, 0, 1, 1, 2, 3, 5]), count))
+    return sorted(chosen + pick.sample(range(3 * count), count - len(chosen)))
+
+
+def with_need(pick, data, ids=()):
+    """Written and needed in the header: mostly the need of the stream, else any from 7 to 14, and mostly a written minor not below it."""
+    width, mode = reader.word(data, 12), reader.word(data, 16)
+    right = max([reader.need(width, mode)] + [reader.HIGH_ID_NEED] * any(part_id >= reader.HIGH_ID for part_id in ids))
+    needed = pick.choice([right] * 5 + [reader.need(width, mode), pick.randrange(7, 15), pick.randrange(7, 15)])
+    written = pick.choice([needed, needed + 1, max(needed, LEVEL), 2**32 - 1] * 3 + [needed - 1, 0])
+    return data[:4] + words([written, needed]) + data[12:]
+
+
+def with_parts(pick, data, ids):
+    """The stream with a side part of each id. It is in order where nothing lies behind the end of the data yet."""
+    parts = [bytes(pick.randrange(256) for _ in range(pick.randrange(4))) for _ in ids]
+    places = list(itertools.accumulate(map(len, parts), initial=len(data) + 12 * len(parts)))
+    table = b"".join(words([part_id, place, len(part)]) for part_id, place, part in zip(ids, places, parts))
     return data[:40] + words([len(parts)]) + data[44:] + table + b"".join(parts)
+
+
+def with_sides(pick, data):
+    ids = some_ids(pick)
+    return with_need(pick, with_parts(pick, data, ids), ids)
 
 
 def other_word(pick, data):
@@ -105,7 +126,7 @@ def other_mode(pick, data):
     """Another mode, k and need in the header: mostly the need of that mode, so that the codes are read by other rules."""
     needed, width, _, k = (reader.word(data, at) for at in (8, 12, 16, 20))
     mode = pick.choice([0, 1, 2, 2, 3])
-    needed = pick.choice([reader.need(width, mode)] * 4 + [needed, pick.randrange(7, LEVEL + 2)])
+    needed = pick.choice([reader.need(width, mode)] * 4 + [needed, pick.randrange(7, 15)])
     return data[:8] + words([needed, width, mode, pick.choice([k, 0, 0, 1])]) + data[24:]
 
 
@@ -121,7 +142,7 @@ def other_bit(pick, data):
 
 def damaged(pick, data):
     for _ in range(pick.choice([0, 0, 1, 1, 1, 2, 3])):
-        how = pick.choice([other_word, other_mode, other_byte, other_bit, other_bit, with_sides,
+        how = pick.choice([other_word, other_mode, other_byte, other_bit, other_bit, with_sides, with_need,
                            lambda pick, data: data[:pick.randrange(len(data) + 1)],
                            lambda pick, data: data + bytes(pick.randrange(1, 4))])
         if data:
@@ -171,8 +192,36 @@ def damaged_within(pick, width, data):
     chunks = chunks_of(data)
     for groups in pick.sample(chunks, min(pick.choice([0, 1, 1, 1, 2, 3]), len(chunks))):
         other_groups(pick, width, groups)
-    data = with_chunks(data, chunks)
-    return with_sides(pick, data) if pick.random() < 0.2 else data
+    return with_chunks(data, chunks)
+
+
+# ---- what is damaged in the tables
+
+def other_start(pick, data):
+    """Another first start of a chunk, or where there is no chunk whatever stands there."""
+    return data[:48] + words([pick.choice([1, 2**32 - 1])]) + data[52:]
+
+
+def other_entry(pick, data):
+    """One number of one entry of the side table, altered a little, by its highest bit, or to that of another entry."""
+    h = reader.header_of(data)
+    number = 4 * pick.randrange(3)
+    at, other = (h.end + 12 * pick.randrange(h.s) + number for _ in range(2))
+    old = reader.word(data, at)
+    new = pick.choice([old + 1, old - 1, old ^ reader.HIGH_ID, reader.word(data, other)]) % 2**32
+    return data[:at] + words([new]) + data[at + 4:]
+
+
+def damaged_in_tables(pick, data):
+    """Mostly a wrong table, at times both; a number of side parts that is not theirs; bytes missing or added behind the parts."""
+    for _ in range(pick.choice([1, 1, 1, 2])):
+        how = pick.choice([other_start, other_entry, other_entry, other_entry,
+                           lambda pick, data: data[:40] + words([pick.choice([0, reader.word(data, 40) - 1])]) + data[44:],
+                           lambda pick, data: data[:-pick.randrange(1, 14)],
+                           lambda pick, data: data + bytes(pick.randrange(1, 4))])
+        if reader.word(data, 40) and len(data) > 60:
+            data = how(pick, data)
+    return data
 
 
 # ---- the comparison
@@ -201,13 +250,35 @@ def calls_of_chunks(pick, library):
     values = list(itertools.islice(itertools.cycle(some_values(pick, width, k) or [0]), n))
     packing = ("pack", width, LEVEL, mode, k, values, 2**15)
     data = damaged_within(pick, width, library.pack(*packing[1:])[2])
+    if pick.random() < 0.2:
+        data = with_sides(pick, data)
     return [packing, ("check", LEVEL, data), ("unpack", width, LEVEL, data, n)] + [
         ("probe", width, LEVEL, data, index) for index in (pick.randrange(n), n - 1)]
 
 
+def calls_of_sides(pick, library):
+    """The calls for one more stream with side parts, which have high ids or not: its need, its tables and its chunks can be wrong, and
+    the reader can be that of the other width, lack room or look behind the values."""
+    width, mode, k = some_setting(pick)
+    values = some_values(pick, width, k)
+    data, n = library.pack(width, LEVEL, mode, k, values, 2**14)[2], len(values)
+    if pick.random() < 0.3:
+        data = damaged_within(pick, width, data)
+    data = with_sides(pick, data)
+    if pick.random() < 0.3:
+        data = damaged_in_tables(pick, data)
+    acting = pick.choice([LEVEL] * 10 + [*range(7, LEVEL + 2)])
+    other = width if pick.random() < 0.85 else 96 - width
+    return [("check", acting, data), ("unpack", other, acting, data, max(n + pick.choice([0, 0, 0, 0, 1, -1]), 0))] + [
+        ("probe", other, acting, data, index) for index in (pick.randrange(n + 1), pick.choice([0, max(n - 1, 0), n]))]
+
+
+KINDS = [calls_of_any] * 9 + [calls_of_sides] * 2 + [calls_of_chunks]
+
+
 def differences(pick, library):
     """What differs for one more stream, each as the call and both answers."""
-    calls = (calls_of_any if pick.randrange(12) else calls_of_chunks)(pick, library)
+    calls = pick.choice(KINDS)(pick, library)
     answers = [(call, getattr(reader, call[0])(*call[1:]), getattr(library, call[0])(*call[1:])) for call in calls]
     return [answer for answer in answers if answer[1] != answer[2]]
 

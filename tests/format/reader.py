@@ -7,13 +7,15 @@ the bytes at hand and by the page's limits, never by what a header claims.
 
 from collections import namedtuple
 
-LEVELS = (8, 9, 10, 11)                       # "knownLevel"
+LEVELS = (8, 9, 10, 11, 12)                   # "knownLevel"
 WIDTHS = (32, 64)                             # "knownWidth"
 FRACTION_BITS = {32: 23, 64: 52}              # "fractionBits": m
 BIN_OFFSET = {32: 150, 64: 1075}              # "binOf": j = k + this
 ALLOWED_K = {32: (-150, 103), 64: (-1075, 970)}   # "allowedK"
 MOST_VALUES = 1048576                         # "tooMany"
 MOST_PARTS = 64
+HIGH_ID = 1 << 31                             # "highId": from here up a part must be understood
+HIGH_ID_NEED = 12                             # what a high id needs
 CHUNK = 1024                                  # values in a chunk
 GROUP = 32                                    # codes in a group
 GROUPS = 32                                   # groups in a full chunk
@@ -162,7 +164,7 @@ def allowed_setting(width, mode, k):
 
 
 def need(width, mode):
-    """11 for mode 2, else 10 for width 64, else 9 for mode 1, else 8."""
+    """That of width and mode: 11 in mode 2, else 10 at width 64, else 9 in mode 1, else 8 ("need")."""
     if mode == 2:
         return 11
     if width == 64:
@@ -187,15 +189,21 @@ def header_of(data):
     return h._replace(k=h.k - (1 << 32)) if h.k >= 1 << 31 else h
 
 
+def need_right(h):
+    """Needed not below the need of width and mode, written not below needed ("needRight").
+
+    Whether needed is above the need of the stream is not asked here: the ids are not known yet.
+    """
+    return need(h.width, h.mode) <= h.needed <= h.written
+
+
 def setting_right(h):
-    """Refusal 8, first half: width, mode, k, needed and written."""
-    return (allowed_setting(h.width, h.mode, h.k)
-            and h.needed == need(h.width, h.mode)
-            and h.written >= h.needed)
+    """Refusal 8 at its first place, first half: width, mode, k, needed and written."""
+    return allowed_setting(h.width, h.mode, h.k) and need_right(h)
 
 
 def layout_right(h, count):
-    """Refusal 8, second half: n, c, both places, s and end."""
+    """Refusal 8 at its first place, second half: n, c, both places, s and end."""
     data_at = HEADER_BYTES + 4 * h.c
     return (h.n <= MOST_VALUES
             and h.c == chunks_in(h.n)
@@ -254,6 +262,36 @@ def tables_refusal(h, data):
     if chunk_table_right(h, data) and side_table_right(h, data):
         return None
     return (9, 0)
+
+
+def high_ids(h, data):
+    """The ids from 2^31 up, in order, of a side table that is right ("highId")."""
+    ids = (word(data, h.end + ENTRY_BYTES * i) for i in range(h.s))
+    return [part_id for part_id in ids if part_id >= HIGH_ID]
+
+
+def stream_need(h, high):
+    """The need of the stream: that of width and mode, with a high id 12 at least ("streamNeed")."""
+    return max(need(h.width, h.mode), HIGH_ID_NEED if high else 0)
+
+
+def sides_refusal(h, data):
+    """Tests 8 and 15 behind the tables, in every reader, probe too ("sideRows").
+
+    8 again: needed is not the need of the stream ("needRow"). Only where it is right, 15
+    follows, with the first high id ("idRow"): no high id is defined yet.
+    """
+    high = high_ids(h, data)
+    if h.needed != stream_need(h, high):
+        return (8, 0)
+    if high:
+        return (15, high[0])
+    return None
+
+
+def behind_opening(h, data):
+    """Tests 9 8 15: both tables, and what they say of the need and of the ids."""
+    return tables_refusal(h, data) or sides_refusal(h, data)
 
 
 # --- Groups and chunks ------------------------------------------------------
@@ -325,24 +363,24 @@ def all_codes(h, data):
 # --- The readers ------------------------------------------------------------
 
 def check(level, data):
-    """Order 1 5 6 7 8 9 10. Gives (0, n), or the refusal and its detail."""
+    """Order 1 5 6 7 8 9 8 15 10. Gives (0, n), or the refusal and its detail."""
     refusal, h = opening(level, data)
     if refusal is None:
-        refusal = tables_refusal(h, data)
+        refusal = behind_opening(h, data)
     if refusal is None:
         refusal, _ = all_codes(h, data)
     return (0, h.n) if refusal is None else refusal
 
 
 def unpack(width, level, data, room):
-    """Order 1 5 6 7 8 14 4 9 10. Gives (0, n, patterns), or (number, detail, None)."""
+    """Order 1 5 6 7 8 14 4 9 8 15 10. Gives (0, n, patterns), or (number, detail, None)."""
     refusal, h = opening(level, data)
     if refusal is None and h.width != width:
         refusal = (14, 0)
     if refusal is None and room < h.n:
         refusal = (4, h.n)
     if refusal is None:
-        refusal = tables_refusal(h, data)
+        refusal = behind_opening(h, data)
     if refusal is None:
         refusal, chunks = all_codes(h, data)
     if refusal is not None:
@@ -359,7 +397,7 @@ def kind_of(width, p):
 
 
 def probe(width, level, data, index):
-    """Order 1 5 6 7 8 14 11 9 10. Gives (0, kind, pattern), or (number, detail, None).
+    """Order 1 5 6 7 8 14 11 9 8 15 10. Gives (0, kind, pattern), or (number, detail, None).
 
     By 10 it tests its own chunk alone, but that one whole: the detail has the chunk's
     first bad group, whichever group the index lies in.
@@ -370,7 +408,7 @@ def probe(width, level, data, index):
     if refusal is None and index >= h.n:
         refusal = (11, 0)
     if refusal is None:
-        refusal = tables_refusal(h, data)
+        refusal = behind_opening(h, data)
     if refusal is None:
         refusal, codes = chunk_codes(h, data, index // CHUNK)
     if refusal is not None:

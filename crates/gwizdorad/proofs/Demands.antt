@@ -133,7 +133,7 @@ module _ (W level mode : ℕ) (k : ℤ) (vs : List ℕ) (parts : List Side) (s :
       rw (g .bytes)
       (accepted-is-raised W level mode k vs (g .out) (g .size) (g .done) parts (g .well-formed) raised (ap (streamNeed (settingOf W mode k)) (sym (g .high))) (g .reached))
 
-  module _ (L : ℕ) (known : knownLevel L ≡ true) (back : List ℕ) (room : length vs ≤ length back) (i : ℕ) (below : i < length vs) where
+  module _ (L : ℕ) (known : knownLevel L ≡ true) (back : List ℕ) (room : length vs ≤ length back) where
     -- the need is raised
     abbrev asked : ℕ
     asked = streamNeed (settingOf W mode k) (someHigh (idsOf parts))
@@ -141,20 +141,20 @@ module _ (W level mode : ℕ) (k : ℤ) (vs : List ℕ) (parts : List Side) (s :
     asked-is : asked ≡ raised
     asked-is = ap (streamNeed (settingOf W mode k)) (g .high)
 
-    older : L < raised → RefusedBy W L s back i 7 raised
+    older : L < raised → RefusedBy W L s back (length vs) 7 raised
     older less =
         let too-low : L < asked = rw asked-is less in
         let refused = it-is-too-new W level mode k vs p parts s sent L known too-low back in
-        subst (RefusedBy W L s back i 7) asked-is
+        subst (RefusedBy W L s back (length vs) 7) asked-is
         record {
           check = refused .0;
           unpack = refused .1;
           untouched = refused .2;
-          probe32 = λ is. a-probe-is-too-new32 W level mode k vs p parts s sent L known i below is too-low;
-          probe64 = λ is. a-probe-is-too-new64 W level mode k vs p parts s sent L known i below is too-low;
+          probe32 = λ is i below. a-probe-is-too-new32 W level mode k vs p parts s sent L known i below is too-low;
+          probe64 = λ is i below. a-probe-is-too-new64 W level mode k vs p parts s sent L known i below is too-low;
         }
 
-    newer : raised ≤ L → RefusedBy W L s back i 15 (firstHigh (idsOf parts))
+    newer : raised ≤ L → RefusedBy W L s back (length vs) 15 (firstHigh (idsOf parts))
     newer reaches =
         let enough : asked ≤ L = rw asked-is reaches in
         let refused = it-is-not-skipped W level mode k vs p parts s sent L known (g .high) enough back room in
@@ -162,14 +162,14 @@ module _ (W level mode : ℕ) (k : ℤ) (vs : List ℕ) (parts : List Side) (s :
           check = refused .0;
           unpack = refused .1;
           untouched = refused .2;
-          probe32 = λ is. a-probe-skips-nothing32 W level mode k vs p parts s sent L known i below is (g .high) enough;
-          probe64 = λ is. a-probe-skips-nothing64 W level mode k vs p parts s sent L known i below is (g .high) enough;
+          probe32 = λ is i below. a-probe-skips-nothing32 W level mode k vs p parts s sent L known i below is (g .high) enough;
+          probe64 = λ is i below. a-probe-skips-nothing64 W level mode k vs p parts s sent L known i below is (g .high) enough;
         }
 
 pub not-skipped : NotSkipped
 not-skipped =
     record {
-      packed = λ W level mode k vs parts s width patterns g L known back room i below.
-          (older W level mode k vs parts s width patterns g L known back room i below, newer W level mode k vs parts s width patterns g L known back room i below);
+      packed = λ W level mode k vs parts s width patterns g L known back room.
+          (older W level mode k vs parts s width patterns g L known back room, newer W level mode k vs parts s width patterns g L known back room);
       never = a-high-id-is-never-skipped;
     }

@@ -195,19 +195,19 @@ pub record Guarded (W level mode : ℕ) (k : ℤ) (vs : List ℕ) (parts : List 
   pub reached : streamNeed (settingOf W mode k) true ≤ level
   pub bytes : s ≡ withNeed (streamNeed (settingOf W mode k) true) (addSides (take size (packOut W level mode k vs out)) parts)
 
--- check, unpack into `back`, and probe of the index i all refuse s at the level L so, and nothing that was lent is altered
-pub record RefusedBy (W L : ℕ) (s back : List ℕ) (i number detail : ℕ) : Type 0 where
+-- check, unpack into `back`, and probe of each of n indices all refuse s at the level L so, and nothing that was lent is altered
+pub record RefusedBy (W L : ℕ) (s back : List ℕ) (n number detail : ℕ) : Type 0 where
   pub check : checkAnswer L s ≡ Refused number detail
   pub unpack : unpackAnswer W L s (length back) ≡ Refused number detail
   pub untouched : unpackOut W L s back ≡ back
-  pub probe32 : W ≡ 32 → probeAnswer32 L s i ≡ p32.Refused number detail
-  pub probe64 : W ≡ 64 → probeAnswer64 L s i ≡ p64.Refused number detail
+  pub probe32 : W ≡ 32 → (i : ℕ) → i < n → probeAnswer32 L s i ≡ p32.Refused number detail
+  pub probe64 : W ≡ 64 → (i : ℕ) → i < n → probeAnswer64 L s i ≡ p64.Refused number detail
 
 pub record NotSkipped : Type 0 where
   -- every level refuses such a stream: by 7 with the need below it, and from it on by 15 with the first high id
   pub packed : (W level mode : ℕ) (k : ℤ) (vs : List ℕ) (parts : List Side) (s : List ℕ) → knownWidth W ≡ true → Below (2 ^ W) vs → Guarded W level mode k vs parts s
-      → (L : ℕ) → knownLevel L ≡ true → (back : List ℕ) → length vs ≤ length back → (i : ℕ) → i < length vs
-      → (L < streamNeed (settingOf W mode k) true → RefusedBy W L s back i 7 (streamNeed (settingOf W mode k) true))
-      × (streamNeed (settingOf W mode k) true ≤ L → RefusedBy W L s back i 15 (firstHigh (idsOf parts)))
+      → (L : ℕ) → knownLevel L ≡ true → (back : List ℕ) → length vs ≤ length back
+      → (L < streamNeed (settingOf W mode k) true → RefusedBy W L s back (length vs) 7 (streamNeed (settingOf W mode k) true))
+      × (streamNeed (settingOf W mode k) true ≤ L → RefusedBy W L s back (length vs) 15 (firstHigh (idsOf parts)))
   -- of any bytes with a high id, whatever else they are, no reader at any level hands out a value
   pub never : (L : ℕ) (s : List ℕ) → someHigh (idsIn (headerOf s) s) ≡ true → Accepts L s → ⊥
