@@ -1,5 +1,5 @@
 -- The three demands, a theorem each, and what document 02, R-4, adds to the third. What they say stands in specs/Demands.antt; the proofs are citations.
-use mathlib.Core.Path.{_≡_, sym, ap, subst, _∙_}
+use mathlib.Core.Path.{_≡_, refl, sym, ap, subst, _∙_}
 use mathlib.Core.Logic.{_⊎_, inl, inr}
 use mathlib.Core.Bool.{true, false}
 use mathlib.Core.List.{List}
@@ -17,17 +17,17 @@ use Rattle.stream.specs.Chunk.{groupsIn}
 use Rattle.stream.specs.Stream.{values}
 use Rattle.stream.specs.Writing.{stream, Side, idsOf}
 use Rattle.stream.specs.Packing.{Packable, Sent}
+use Rattle.stream.specs.Theorem.{RefusedBy}
 use Rattle.stream.specs.Operations.{unpackAnswer, unpackOut}
-use Rattle.stream.specs.declared.answers.Answer.the-variants.{Done, Refused}
+use Rattle.stream.specs.declared.answers.Answer.the-variants.{Done}
 use Rattle.stream.specs.declared.answers.Probe32.{Probe32}
 use Rattle.stream.specs.declared.answers.Probe64.{Probe64}
 use Rattle.stream.proofs.Readers.{check-order, unpack-order, probe-order, refused-check, refused-unpack, refused-probe32, refused-probe64, refused-untouched, written-values, probe-as-unpack32, probe-as-unpack64, check-higher, unpack-higher, probe-higher32, probe-higher64}
-use Rattle.stream.proofs.Written.{length-order, pack-order, refused-length, refused-pack, refused-pack-untouched, accepted-list, accepted-leaves, accepted-is-raised, length-is-answered, packed-length-bound, the-stream-is-packed, it-is-read, it-is-too-new, it-is-not-skipped, a-probe-is-too-new32, a-probe-is-too-new64, a-probe-skips-nothing32, a-probe-skips-nothing64}
+use Rattle.stream.proofs.Written.{length-order, pack-order, refused-length, refused-pack, refused-pack-untouched, accepted-list, accepted-leaves, accepted-is-raised, the-need-as-it-was, length-is-answered, packed-length-bound, the-stream-is-packed, it-is-read, it-is-too-new, refused-by-7, refused-by-15, refused-by-8}
 use Rattle.stream.proofs.Understood.{a-high-id-is-never-skipped}
-use Rattle.stream.proofs.Law.Setting.Widths.{low-need}
 use Rattle.gwizdorad_numbers.proofs.Theorems.{a-refused-code-is-not-written, a-refused-pattern-is-not-written}
 use Rattle.gwizdorad.specs.Result.{probeOut32, probeOut64}
-use Rattle.gwizdorad.specs.Demands.{Demand1, ComesBack, Packed, Demand2, Offered, ReadBack, given-back, too-new, Demand3, Guarded, RefusedBy, NotSkipped}
+use Rattle.gwizdorad.specs.Demands.{Demand1, ComesBack, Packed, Demand2, Offered, ReadBack, given-back, too-new, Demand3, Guarded, NotSkipped}
 use Rattle.gwizdorad.proofs.Theorems.{probe32-leaves-what-unpack-leaves, probe64-leaves-what-unpack-leaves}
 use Rattle.gwizdorad.proofs.Law.Demand.{coded-at, code-refused, pattern-refused, pattern-above, bound-detail, unknown-width, lossless-at, differences-at, within-at, bound-at, offered, is-sent, as-many, come-back}
 
@@ -82,22 +82,18 @@ module _ (W level mode : ℕ) (k : ℤ) (vs s : List ℕ) (o : Offered W level m
   read-back : ReadBack W mode k vs s L back
   read-back = go (le-or-lt (need (settingOf W mode k)) L)
     where
-      sent : (parts : List Side) × (someHigh (idsOf parts) ≡ false) × Sent level (settingOf W mode k) vs parts s
+      sent : (parts : List Side) × (someHigh (idsOf parts) ≡ false) × Sent level (settingOf W mode k) vs parts (need (settingOf W mode k)) s
       sent = is-sent W level mode k vs s (o .width) (o .patterns) packed
-
-      -- the need is the setting's
-      lowest : streamNeed (settingOf W mode k) (someHigh (idsOf (sent .0))) ≡ need (settingOf W mode k)
-      lowest = ap (streamNeed (settingOf W mode k)) (sent .1) ∙ low-need (settingOf W mode k)
 
       go : (need (settingOf W mode k) ≤ L) ⊎ (L < need (settingOf W mode k)) → ReadBack W mode k vs s L back
       go (inl reaches) =
-          let read = it-is-read W level mode k vs (offered W level mode k vs o) (sent .0) s (sent .2) L known (sent .1) reaches back room in
+          let read = it-is-read W level mode k vs (offered W level mode k vs o) (sent .0) (need (settingOf W mode k)) s (sent .2) L known (sent .1) refl reaches back room in
           given-back reaches (read .1)
           (unpacked W level mode k vs s (o .width) (o .patterns) packed L (length vs) back (read .1))
           (ap (drop (length vs)) (read .2) ∙ drop-at (values s) (drop (length vs) back) (length vs) (as-many W level mode k vs s (o .width) (o .patterns) packed))
       go (inr exceeds) =
-          let refused = it-is-too-new W level mode k vs (offered W level mode k vs o) (sent .0) s (sent .2) L known (rw lowest exceeds) back in
-          too-new exceeds (refused .1 ∙ ap (Refused 7) lowest) (refused .2)
+          let refused = it-is-too-new W level mode k vs (offered W level mode k vs o) (sent .0) (need (settingOf W mode k)) s (sent .2) L known exceeds back in
+          too-new exceeds (refused .1) (refused .2)
 
 pub demand-3 : Demand3
 unfolding groupsIn groupSize
@@ -120,56 +116,33 @@ demand-3 =
     }
 
 -- a stream that must be understood
-module _ (W level mode : ℕ) (k : ℤ) (vs : List ℕ) (parts : List Side) (s : List ℕ) (width : knownWidth W ≡ true) (patterns : Below (2 ^ W) vs)
-    (g : Guarded W level mode k vs parts s) where
-  abbrev raised : ℕ
-  raised = streamNeed (settingOf W mode k) true
-
+module _ (W level mode : ℕ) (k : ℤ) (vs : List ℕ) (parts : List Side) (needed : ℕ) (s : List ℕ) (width : knownWidth W ≡ true) (patterns : Below (2 ^ W) vs)
+    (g : Guarded W level mode k vs parts needed s) where
   p : Packable W level mode k vs
   p = accepted-list W level mode k vs (g .out) (g .size) (g .done) width patterns
 
-  sent : Sent level (settingOf W mode k) vs parts s
-  sent =
-      rw (g .bytes)
-      (accepted-is-raised W level mode k vs (g .out) (g .size) (g .done) parts (g .well-formed) raised (ap (streamNeed (settingOf W mode k)) (sym (g .high))) (g .reached))
+  sent : Sent level (settingOf W mode k) vs parts needed s
+  sent = rw (g .bytes) (accepted-is-raised W level mode k vs (g .out) (g .size) (g .done) parts (g .well-formed) needed (g .least) (g .reached))
 
   module _ (L : ℕ) (known : knownLevel L ≡ true) (back : List ℕ) (room : length vs ≤ length back) where
-    -- the need is raised
-    abbrev asked : ℕ
-    asked = streamNeed (settingOf W mode k) (someHigh (idsOf parts))
+    older : L < needed → RefusedBy W L s back (length vs) 7 needed
+    older = refused-by-7 W level mode k vs p parts needed s sent L known back room
 
-    asked-is : asked ≡ raised
-    asked-is = ap (streamNeed (settingOf W mode k)) (g .high)
+    newer : needed ≤ L → needed ≡ streamNeed (settingOf W mode k) true → RefusedBy W L s back (length vs) 15 (firstHigh (idsOf parts))
+    newer reaches right = refused-by-15 W level mode k vs p parts needed s sent L known back room reaches (g .high) right
 
-    older : L < raised → RefusedBy W L s back (length vs) 7 raised
-    older less =
-        let too-low : L < asked = rw asked-is less in
-        let refused = it-is-too-new W level mode k vs p parts s sent L known too-low back in
-        subst (RefusedBy W L s back (length vs) 7) asked-is
-        record {
-          check = refused .0;
-          unpack = refused .1;
-          untouched = refused .2;
-          probe32 = λ is i below. a-probe-is-too-new32 W level mode k vs p parts s sent L known i below is too-low;
-          probe64 = λ is i below. a-probe-is-too-new64 W level mode k vs p parts s sent L known i below is too-low;
-        }
-
-    newer : raised ≤ L → RefusedBy W L s back (length vs) 15 (firstHigh (idsOf parts))
-    newer reaches =
-        let enough : asked ≤ L = rw asked-is reaches in
-        let refused = it-is-not-skipped W level mode k vs p parts s sent L known (g .high) enough back room in
-        record {
-          check = refused .0;
-          unpack = refused .1;
-          untouched = refused .2;
-          probe32 = λ is i below. a-probe-skips-nothing32 W level mode k vs p parts s sent L known i below is (g .high) enough;
-          probe64 = λ is i below. a-probe-skips-nothing64 W level mode k vs p parts s sent L known i below is (g .high) enough;
-        }
+    wrong : needed ≤ L → (needed ≡ streamNeed (settingOf W mode k) true → ⊥) → RefusedBy W L s back (length vs) 8 0
+    wrong reaches other =
+        refused-by-8 W level mode k vs p parts needed s sent L known back room reaches (λ e. other (e ∙ ap (streamNeed (settingOf W mode k)) (g .high)))
 
 pub not-skipped : NotSkipped
 not-skipped =
     record {
-      packed = λ W level mode k vs parts s width patterns g L known back room.
-          (older W level mode k vs parts s width patterns g L known back room, newer W level mode k vs parts s width patterns g L known back room);
+      packed = λ W level mode k vs parts needed s width patterns g L known back room. (
+        older W level mode k vs parts needed s width patterns g L known back room,
+        newer W level mode k vs parts needed s width patterns g L known back room,
+        wrong W level mode k vs parts needed s width patterns g L known back room,
+      );
+      unraised = the-need-as-it-was;
       never = a-high-id-is-never-skipped;
     }

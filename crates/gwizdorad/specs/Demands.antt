@@ -30,7 +30,7 @@ use Rattle.stream.specs.Tables.{idsIn}
 use Rattle.stream.specs.Writing.{stream, Side, addSides, idsOf, withNeed, WellFormedSides}
 use Rattle.stream.specs.Probe.{shown32, shown64}
 use Rattle.stream.specs.Operations.{checkRows, checkAnswer, unpackRows, unpackAnswer, unpackOut, probeRows, probeAnswer32, probeAnswer64, lengthRows, lengthAnswer, packRows, packAnswer, packOut}
-use Rattle.stream.specs.Theorem.{Accepts}
+use Rattle.stream.specs.Theorem.{Accepts, RefusedBy}
 use Rattle.stream.specs.declared.answers.Answer.the-variants.{Done, Refused}
 use Rattle.stream.specs.declared.answers.Probe32.the-variants as p32
 use Rattle.stream.specs.declared.answers.Probe64.the-variants as p64
@@ -184,30 +184,29 @@ pub record Demand3 : Type 0 where
 -- ---- Document 02, R-4: a reader must never skip what it must understand. "Ids from 2^31 up now mean 'must be understood'. No such id is defined
 -- yet, so a reader that meets one refuses. A stream with such an id needs level 12, which older readers refuse by 7."
 
--- s is what pack has left of the values vs at a level, with these side parts added, of which some id is high, and with the need of a stream that has them,
--- which the level reaches: 12, or the setting's if that is greater
-pub record Guarded (W level mode : ℕ) (k : ℤ) (vs : List ℕ) (parts : List Side) (s : List ℕ) : Type 0 where
+-- s is what pack has left of the values vs at a level, with these side parts added, of which some id is high, and with a needed minor in its place that the
+-- setting and the level allow: 12, or the setting's need if that is greater (`streamNeed`), is the right one
+pub record Guarded (W level mode : ℕ) (k : ℤ) (vs : List ℕ) (parts : List Side) (needed : ℕ) (s : List ℕ) : Type 0 where
   pub out : List ℕ
   pub size : ℕ
   pub done : packAnswer W level mode k vs (length out) ≡ Done size
   pub well-formed : WellFormedSides (size + 12 * length parts) parts
   pub high : someHigh (idsOf parts) ≡ true
-  pub reached : streamNeed (settingOf W mode k) true ≤ level
-  pub bytes : s ≡ withNeed (streamNeed (settingOf W mode k) true) (addSides (take size (packOut W level mode k vs out)) parts)
-
--- check, unpack into `back`, and probe of each of n indices all refuse s at the level L so, and nothing that was lent is altered
-pub record RefusedBy (W L : ℕ) (s back : List ℕ) (n number detail : ℕ) : Type 0 where
-  pub check : checkAnswer L s ≡ Refused number detail
-  pub unpack : unpackAnswer W L s (length back) ≡ Refused number detail
-  pub untouched : unpackOut W L s back ≡ back
-  pub probe32 : W ≡ 32 → (i : ℕ) → i < n → probeAnswer32 L s i ≡ p32.Refused number detail
-  pub probe64 : W ≡ 64 → (i : ℕ) → i < n → probeAnswer64 L s i ≡ p64.Refused number detail
+  pub least : need (settingOf W mode k) ≤ needed
+  pub reached : needed ≤ level
+  pub bytes : s ≡ withNeed needed (addSides (take size (packOut W level mode k vs out)) parts)
 
 pub record NotSkipped : Type 0 where
-  -- every level refuses such a stream: by 7 with the need below it, and from it on by 15 with the first high id
-  pub packed : (W level mode : ℕ) (k : ℤ) (vs : List ℕ) (parts : List Side) (s : List ℕ) → knownWidth W ≡ true → Below (2 ^ W) vs → Guarded W level mode k vs parts s
+  -- every level refuses such a stream, by check, unpack and probe alike (`RefusedBy`): by 7 with the needed minor below that, and from it on by 15 with the
+  -- first high id, or, where the needed minor is not the right one, by 8
+  pub packed : (W level mode : ℕ) (k : ℤ) (vs : List ℕ) (parts : List Side) (needed : ℕ) (s : List ℕ) → knownWidth W ≡ true → Below (2 ^ W) vs
+      → Guarded W level mode k vs parts needed s
       → (L : ℕ) → knownLevel L ≡ true → (back : List ℕ) → length vs ≤ length back
-      → (L < streamNeed (settingOf W mode k) true → RefusedBy W L s back (length vs) 7 (streamNeed (settingOf W mode k) true))
-      × (streamNeed (settingOf W mode k) true ≤ L → RefusedBy W L s back (length vs) 15 (firstHigh (idsOf parts)))
+      → (L < needed → RefusedBy W L s back (length vs) 7 needed)
+      × (needed ≤ L → needed ≡ streamNeed (settingOf W mode k) true → RefusedBy W L s back (length vs) 15 (firstHigh (idsOf parts)))
+      × (needed ≤ L → (needed ≡ streamNeed (settingOf W mode k) true → ⊥) → RefusedBy W L s back (length vs) 8 0)
+  -- who adds the parts alone leaves the setting's need in its place, so `packed` speaks of that stream too
+  pub unraised : (W level mode : ℕ) (k : ℤ) (vs out : List ℕ) (size : ℕ) → packAnswer W level mode k vs (length out) ≡ Done size → (parts : List Side)
+      → withNeed (need (settingOf W mode k)) (addSides (take size (packOut W level mode k vs out)) parts) ≡ addSides (take size (packOut W level mode k vs out)) parts
   -- of any bytes with a high id, whatever else they are, no reader at any level hands out a value
   pub never : (L : ℕ) (s : List ℕ) → someHigh (idsIn (headerOf s) s) ≡ true → Accepts L s → ⊥

@@ -18,10 +18,12 @@ use Rattle.stream.specs.Rows.{rowsFrom, first, answer, after}
 use Rattle.stream.specs.Header.{word, headerOf, kOf, chunksIn, tooMany, needRight, settingRight, layoutRight}
 use Rattle.stream.specs.Tables.{every, startAt, startRight, chunkTableRight, sideId, sidePlace, sideLength, idFloor, partAt, entryRight, sideTableRight, idsFrom, idsIn}
 use Rattle.stream.specs.Stream.{joined, countOf, chunkOf, chunkState, chunkValues, valuesIn, values}
-use Rattle.stream.specs.Writing.{spell, piece, pieceBytes, dataOf, startsOf, headerNumbers, endOf, body, stream}
-use Rattle.stream.specs.Operations.{headerRows, openingRows, needRow, idRow, sideRows, tableRows, faultDetail, faultRow, chunkRow, chunkRows, contentRows, widthRow, checkRows, checkAnswer, roomRow, unpackRows, unpackOut}
+use Rattle.stream.specs.Writing.{spell, piece, pieceBytes, dataOf, startsOf, headerNumbers, endOf, body, stream, Side, entries, parts, addSides, withNeed}
+use Rattle.stream.specs.Probe.{probed32}
+use Rattle.stream.specs.Operations.{headerRows, openingRows, needRow, idRow, sideRows, tableRows, faultDetail, faultRow, chunkRow, chunkRows, contentRows, widthRow, checkRows, checkAnswer, roomRow, unpackRows, unpackAnswer, unpackOut, indexRow, ownRows, probeRows, probeAnswer32}
 use Rattle.stream.specs.declared.answers.Answer.{Answer}
 use Rattle.stream.specs.declared.answers.Answer.the-variants.{Done, Refused}
+use Rattle.stream.specs.declared.answers.Probe32.the-variants as p32
 
 pub threeValues : List ℕ
 threeValues = 0 ∷ 0x8000_0000 ∷ 1 ∷ []
@@ -76,21 +78,42 @@ pub high-needs-known : map (λ (t : ℕ × ℕ). streamNeed (settingOf (t .0) (t
 unfolding streamNeed need widthNeed modeNeed
 high-needs-known = refl
 
--- ---- side parts: document 01's list with two of them, an id below 2^31 and the first from there on. With the need 12 it is refused by every level, by 7
--- and at 12 by 15; with the setting's own need, 8, that need is found to be too small once the tables have passed.
+-- ---- side parts: document 01's list with two of them, the id 7 and another. With an id of 2^31 and the need 12 it is refused by every level, by 7 and at 12
+-- by 15; with the setting's own need, 8, that need is found to be too small once the tables have passed, as 12 is found to be too great where the id is lower.
 
 pub withIds : ℕ → ℕ → List ℕ
-withIds needed high =
+withIds needed other =
     spell (1 ∷ 12 ∷ needed ∷ 32 ∷ 0 ∷ 0 ∷ 3 ∷ 1 ∷ 48 ∷ 52 ∷ 2 ∷ 55 ∷ 0 ∷ []) ++ (0x03 ∷ 0x10 ∷ 0x01 ∷ [])
-    ++ spell (7 ∷ 79 ∷ 2 ∷ high ∷ 81 ∷ 1 ∷ []) ++ (1 ∷ 2 ∷ 3 ∷ [])
+    ++ spell (7 ∷ 79 ∷ 2 ∷ other ∷ 81 ∷ 1 ∷ []) ++ (1 ∷ 2 ∷ 3 ∷ [])
 
-pub answersTo : List ℕ → List Answer
-answersTo s = map (λ (level : ℕ). checkAnswer level s) (8 ∷ 9 ∷ 10 ∷ 11 ∷ 12 ∷ [])
+pub checkedAll : List ℕ → List Answer
+checkedAll s = map (λ (level : ℕ). checkAnswer level s) (8 ∷ 9 ∷ 10 ∷ 11 ∷ 12 ∷ [])
 
-pub high-id-checked : map answersTo (withIds 12 0x8000_0000 ∷ withIds 8 0x8000_0000 ∷ withIds 8 0x7FFF_FFFF ∷ [])
-    ≡ (Refused 7 12 ∷ Refused 7 12 ∷ Refused 7 12 ∷ Refused 7 12 ∷ Refused 15 0x8000_0000 ∷ []) ∷ replicate 5 (Refused 8 0) ∷ replicate 5 (Done 3) ∷ []
-unfolding size signedView folded bitsOf number digits bytesFor largest widthOf givenWidth groupLength groupNumber groupCodes within goodGroup highestLevel knownLevel knownWidth fractionBits widthNeed modeNeed need highId someHigh streamNeed losslessMode isZero allowedSetting binFor groupSize limitOf groupsIn firstFault chunkAnswer first answer word headerOf kOf chunksIn tooMany needRight settingRight layoutRight every startAt startRight chunkTableRight sideId sidePlace sideLength idFloor partAt entryRight sideTableRight idsFrom idsIn countOf chunkOf chunkState spell headerRows openingRows needRow idRow sideRows tableRows faultDetail faultRow rowsFrom chunkRow chunkRows contentRows checkRows checkAnswer answersTo withIds
+pub high-id-checked : map checkedAll (withIds 12 0x8000_0000 ∷ withIds 8 0x8000_0000 ∷ withIds 8 0x7FFF_FFFF ∷ withIds 12 0x7FFF_FFFF ∷ [])
+    ≡ (replicate 4 (Refused 7 12) ++ (Refused 15 0x8000_0000 ∷ [])) ∷ replicate 5 (Refused 8 0) ∷ replicate 5 (Done 3) ∷ (replicate 4 (Refused 7 12) ++ (Refused 8 0 ∷ [])) ∷ []
+unfolding size signedView folded bitsOf number digits bytesFor largest widthOf givenWidth groupLength groupNumber groupCodes within goodGroup highestLevel knownLevel knownWidth fractionBits widthNeed modeNeed need highId someHigh streamNeed losslessMode isZero allowedSetting binFor groupSize limitOf groupsIn firstFault chunkAnswer first answer word headerOf kOf chunksIn tooMany needRight settingRight layoutRight every startAt startRight chunkTableRight sideId sidePlace sideLength idFloor partAt entryRight sideTableRight idsFrom idsIn countOf chunkOf chunkState spell headerRows openingRows needRow idRow sideRows tableRows faultDetail faultRow rowsFrom chunkRow chunkRows contentRows checkRows checkAnswer checkedAll withIds
 high-id-checked = refl
+
+-- that is what pack at level 12 has written, with the parts added and the need put in its place
+twoParts : List Side
+twoParts = record { id = 7; bytes = 1 ∷ 2 ∷ [] } ∷ record { id = 0x8000_0000; bytes = 3 ∷ [] } ∷ []
+
+high-id-added : withNeed 12 (addSides (stream 12 (settingOf 32 0 (pos 0)) threeValues) twoParts) ≡ withIds 12 0x8000_0000
+unfolding size signedView folded bitsOf rotated field minus lowered stepped losslessCode number digits bytesFor largest widthOf packed groupBytes fractionBits widthNeed modeNeed need kBits binFor groupSize codeAt codesAfter groupsIn groupsBytes chunkBytes chunksIn joined spell piece pieceBytes dataOf startsOf headerNumbers endOf body stream threeValues withNeed addSides entries parts twoParts withIds
+high-id-added = refl
+
+-- a need above that of the stream, read by each reader at level 10: the other width, too little room, an index past the end, and then the need
+needNine : List ℕ
+needNine = spell (1 ∷ 9 ∷ 9 ∷ 32 ∷ 0 ∷ 0 ∷ 3 ∷ 1 ∷ 48 ∷ 52 ∷ 0 ∷ 55 ∷ 0 ∷ []) ++ (0x03 ∷ 0x10 ∷ 0x01 ∷ [])
+
+need-nine-read : checkAnswer 10 needNine ∷ unpackAnswer 64 10 needNine 3 ∷ unpackAnswer 32 10 needNine 2 ∷ unpackAnswer 32 10 needNine 3 ∷ []
+    ≡ Refused 8 0 ∷ Refused 14 0 ∷ Refused 4 3 ∷ Refused 8 0 ∷ []
+unfolding size signedView folded bitsOf number digits bytesFor largest widthOf givenWidth groupLength groupNumber groupCodes within goodGroup highestLevel knownLevel knownWidth fractionBits widthNeed modeNeed need highId someHigh streamNeed losslessMode isZero allowedSetting binFor groupSize limitOf groupsIn firstFault chunkAnswer first answer word headerOf kOf chunksIn tooMany needRight settingRight layoutRight every startAt startRight chunkTableRight sideId sidePlace sideLength idFloor partAt entryRight sideTableRight idsFrom idsIn countOf chunkOf chunkState spell headerRows openingRows needRow idRow sideRows tableRows faultDetail faultRow rowsFrom chunkRow chunkRows contentRows checkRows checkAnswer widthRow roomRow unpackRows unpackAnswer needNine
+need-nine-read = refl
+
+need-nine-probed : probeAnswer32 10 needNine 0 ∷ probeAnswer32 10 needNine 3 ∷ [] ≡ p32.Refused 8 0 ∷ p32.Refused 11 0 ∷ []
+unfolding size signedView folded bitsOf number digits bytesFor largest widthOf givenWidth groupLength groupNumber groupCodes within goodGroup highestLevel knownLevel knownWidth fractionBits widthNeed modeNeed need highId someHigh streamNeed losslessMode isZero allowedSetting binFor groupSize limitOf groupsIn firstFault chunkAnswer first answer word headerOf kOf chunksIn tooMany needRight settingRight layoutRight every startAt startRight chunkTableRight sideId sidePlace sideLength idFloor partAt entryRight sideTableRight idsFrom idsIn countOf chunkOf chunkState spell headerRows openingRows needRow idRow sideRows tableRows faultDetail faultRow rowsFrom chunkRow chunkRows contentRows checkRows checkAnswer widthRow indexRow ownRows probeRows probeAnswer32 probed32 needNine
+need-nine-probed = refl
 
 -- The difference restarts at each chunk, and not at each group: of 1,025 sevens the first of each chunk has a code of 4 bits, in a group of 1 + 16 bytes
 -- and in one of 1 + 1, and the 31 other groups have no bits.

@@ -1,5 +1,5 @@
 -- Document 02, R-4: "a reader that meets one refuses". Whatever the bytes, no reader accepts a stream with a high id, at any level: none hands out a
--- value of it. What a packed stream with such an id is refused by is said in Written.antt (`it-is-not-skipped`, `it-is-too-new`).
+-- value of it. What a packed stream with such an id is refused by is said in Written.antt (`refused-by-7`, `refused-by-8`, `refused-by-15`).
 use mathlib.Core.Path.{_≡_, sym, _∙_}
 use mathlib.Core.Bool.{true, false}
 use mathlib.Core.List.{List}

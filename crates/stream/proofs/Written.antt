@@ -1,12 +1,12 @@
 -- What is written, and that it is read back: the theorems on packed streams, plain or with well-formed side parts behind the data, for
 -- any width that document 01 knows. The proofs are citations of the laws in proofs/Law/. The words are those of specs/.
-use mathlib.Core.Path.{_≡_, refl, sym, ap, ap₂, subst, _∙_}
+use mathlib.Core.Path.{_≡_, refl, sym, ap, subst, _∙_}
 use mathlib.Core.Logic.{_⊎_, inl, inr, _↔_}
-use mathlib.Core.Bool.{true, false, cond}
+use mathlib.Core.Bool.{true, false, not, cond}
 use mathlib.Core.List.{List, [], _∷_, _++_, map}
 use Prim.Native.Nat.{ℕ, _+_, _-_, _*_, _/_, _^_, _≤_, _<_}
 use borrow.Author.Tests.{eq-eqb, lt-ltb, le-ltb}
-use lib.Dec.{ltb}
+use lib.Dec.{ltb, eqb}
 use lib.IntN.{ℤ}
 use lib.ListN.{length, take, drop, getD}
 use lib.Seq.{take-at}
@@ -16,17 +16,15 @@ use Rattle.blocks.specs.Bytes.{Below}
 use Rattle.stream.specs.Setting.{knownLevel, knownWidth, fractionBits, losslessMode, binFor, settingOf, need, someHigh, firstHigh, streamNeed, groupSize}
 use Rattle.stream.specs.Chunk.{groupsIn}
 use Rattle.stream.specs.Rows.{row, first, Decides, numbersOf, answer, after}
-use Rattle.stream.specs.Header.{word, headerOf, settingIn, chunksIn, settingRight, layoutRight}
+use Rattle.stream.specs.Header.{word, headerOf, chunksIn, settingRight, layoutRight}
 use Rattle.stream.specs.Tables.{chunkTableRight, sideTableRight, idsIn}
 use Rattle.stream.specs.Stream.{chunkState, values}
 use Rattle.stream.specs.Writing.{headerNumbers, endOf, stream, Side, addSides, idsOf, withNeed, WellFormedSides}
 use Rattle.stream.specs.Packing.{Packable, Sent, mostBytes}
-use Rattle.stream.specs.Theorem.{comingBack}
+use Rattle.stream.specs.Theorem.{comingBack, RefusedBy}
 use Rattle.stream.specs.Probe.{probed32, probed64}
 use Rattle.stream.specs.Operations.{idRow, checkRows, checkAnswer, unpackRows, unpackAnswer, unpackOut, probeRows, probeAnswer32, probeAnswer64, lengthRows, lengthAnswer, packRows, packAnswer, packOut}
 use Rattle.stream.specs.declared.answers.Answer.the-variants.{Done, Refused}
-use Rattle.stream.specs.declared.answers.Probe32.the-variants as p32
-use Rattle.stream.specs.declared.answers.Probe64.the-variants as p64
 use Rattle.stream.specs.declared.answers.Step.{Step}
 use Rattle.stream.specs.declared.answers.Step.the-variants.{Pass, Stop}
 use Rattle.stream.specs.declared.chunk.ChunkAnswer.the-variants.{Good}
@@ -35,11 +33,9 @@ use Rattle.blocks.proofs.Law.Truth.{le-or-lt}
 use Rattle.stream.proofs.Law.Rows.First.{opened-both, decides, decided}
 use Rattle.stream.proofs.Law.Values.ThreeReaders.{done-pass, refused-stop}
 use Rattle.stream.proofs.Law.Written.Pieces.{end-most}
-use Rattle.stream.proofs.Law.Rows.Ids.{low-pass, high-stop}
 use Rattle.stream.proofs.Law.Rows.Packing.{Passed, length-passed, rows-pass, room-enough, length-stream, length-done, pack-done}
-use Rattle.stream.proofs.Law.ReadBack.Readers.{low-sent, plain-sent, bytes-sent, header-words, header-read, setting-kept, layout-kept, chunk-table-kept, side-table-kept, need-is-kept, chunks-kept, values-read, check-read, check-stop, unpack-read, unpack-stop, probe-read, probe-stop}
+use Rattle.stream.proofs.Law.ReadBack.Readers.{same-need, sided-sent, plain-sent, bytes-sent, header-words, header-read, setting-kept, layout-kept, chunk-table-kept, side-table-kept, ids-kept, chunks-kept, values-read, told-low, told-high, told-wrong, check-read, check-stop, unpack-read, unpack-stop, probe-read, probe-stop}
 use Rattle.stream.proofs.Law.Setting.Allowed.{level-small, made-allowed, storable}
-use Rattle.stream.proofs.Law.Setting.Widths.{low-need}
 use Rattle.stream.proofs.Law.ReadBack.Values.{lossless-back, length-back, tolerance-back, special-back}
 
 -- Demand 1: a refused pack leaves its output as it was.
@@ -110,24 +106,25 @@ module _ (W level mode : ℕ) (k : ℤ) (vs out : List ℕ) (n : ℕ) (done : pa
   unfolding packOut after
   accepted-leaves = (sym (passes .1), rw (passes .0, passes .1))
 
-  -- and what a reader may meet of it: with side parts of which no id is high, and with any others and the need that they ask for
+  -- and what a reader may meet of it: side parts added, and a need in its place
   module _ (ps : List Side) (well : WellFormedSides (n + 12 * length ps) ps) where
     lies : WellFormedSides (length (stream level (settingOf W mode k) vs) + 12 * length ps) ps
     lies = subst (λ (m : ℕ). WellFormedSides (m + 12 * length ps) ps) (sym (passes .1)) well
 
-    pub accepted-is-sent : someHigh (idsOf ps) ≡ false → Sent level (settingOf W mode k) vs ps (addSides (take n (packOut W level mode k vs out)) ps)
-    accepted-is-sent low =
-        subst (λ (b : List ℕ). Sent level (settingOf W mode k) vs ps (addSides b ps)) (sym accepted-bytes)
-        (low-sent level (settingOf W mode k) vs ps (three-passed .needs) lies low)
+    pub accepted-is-sent : Sent level (settingOf W mode k) vs ps (need (settingOf W mode k)) (addSides (take n (packOut W level mode k vs out)) ps)
+    accepted-is-sent =
+        subst (λ (b : List ℕ). Sent level (settingOf W mode k) vs ps (need (settingOf W mode k)) (addSides b ps)) (sym accepted-bytes)
+        (sided-sent level (settingOf W mode k) vs ps (three-passed .needs) lies)
 
-    pub accepted-is-raised : (needed : ℕ) → needed ≡ streamNeed (settingOf W mode k) (someHigh (idsOf ps)) → needed ≤ level
-        → Sent level (settingOf W mode k) vs ps (withNeed needed (addSides (take n (packOut W level mode k vs out)) ps))
-    accepted-is-raised needed is reached =
-        record {
-          well-formed = lies;
-          reached = rw (← is) reached;
-          bytes = ap₂ (λ (m : ℕ) (b : List ℕ). withNeed m (addSides b ps)) is accepted-bytes;
-        }
+    pub accepted-is-raised : (needed : ℕ) → need (settingOf W mode k) ≤ needed → needed ≤ level
+        → Sent level (settingOf W mode k) vs ps needed (withNeed needed (addSides (take n (packOut W level mode k vs out)) ps))
+    accepted-is-raised needed least reached =
+        record { well-formed = lies; least = least; reached = reached; bytes = ap (λ (b : List ℕ). withNeed needed (addSides b ps)) accepted-bytes }
+
+  -- side parts alone leave the need as pack wrote it
+  pub the-need-as-it-was : (ps : List Side)
+      → withNeed (need (settingOf W mode k)) (addSides (take n (packOut W level mode k vs out)) ps) ≡ addSides (take n (packOut W level mode k vs out)) ps
+  the-need-as-it-was ps = rw accepted-bytes (same-need level (settingOf W mode k) vs ps)
 
 -- for a list that a stream may hold
 module _ (W level mode : ℕ) (k : ℤ) (vs : List ℕ) (p : Packable W level mode k vs) where
@@ -155,50 +152,44 @@ module _ (W level mode : ℕ) (k : ℤ) (vs : List ℕ) (p : Packable W level mo
 
   -- ---- what a reader meets: the plain stream, or one with side parts behind its data
 
-  pub the-plain-stream : Sent level (settingOf W mode k) vs [] (stream level (settingOf W mode k) vs)
+  pub the-plain-stream : Sent level (settingOf W mode k) vs [] (need (settingOf W mode k)) (stream level (settingOf W mode k) vs)
   the-plain-stream = plain-sent level (settingOf W mode k) vs (p .needs)
 
-  -- side parts without a high id leave the need as it was
-  pub with-side-parts : (ps : List Side) → WellFormedSides (length (stream level (settingOf W mode k) vs) + 12 * length ps) ps → someHigh (idsOf ps) ≡ false
-      → Sent level (settingOf W mode k) vs ps (addSides (stream level (settingOf W mode k) vs) ps)
-  with-side-parts ps well low = low-sent level (settingOf W mode k) vs ps (p .needs) well low
+  pub with-side-parts : (ps : List Side) → WellFormedSides (length (stream level (settingOf W mode k) vs) + 12 * length ps) ps
+      → Sent level (settingOf W mode k) vs ps (need (settingOf W mode k)) (addSides (stream level (settingOf W mode k) vs) ps)
+  with-side-parts ps = sided-sent level (settingOf W mode k) vs ps (p .needs)
 
-  module _ (ps : List Side) (s : List ℕ) (sent : Sent level (settingOf W mode k) vs ps s) where
-    -- the ids of its side parts, and its need
-    abbrev ids : List ℕ
-    ids = idsOf ps
-
-    abbrev needed : ℕ
-    needed = streamNeed (settingOf W mode k) (someHigh ids)
-
+  module _ (ps : List Side) (needed : ℕ) (s : List ℕ) (sent : Sent level (settingOf W mode k) vs ps needed s) where
     -- it is bytes
     pub bytes-only : Below 256 s
-    bytes-only = bytes-sent level (settingOf W mode k) vs (storable W level mode k vs p) ps s sent
+    bytes-only = bytes-sent level (settingOf W mode k) vs (storable W level mode k vs p) ps needed s sent
 
     -- the table "at | number" is read as it was written, with that need in the third place
     pub the-header-is-read : (j : ℕ) → j < 12
         → word s (4 * j)
         ≡ getD (1 ∷ level ∷ needed ∷ drop 3 (headerNumbers level (settingOf W mode k) (length vs) (length ps) (endOf (settingOf W mode k) vs (chunksIn (length vs))))) j 0
-    the-header-is-read = header-words level (settingOf W mode k) vs (storable W level mode k vs p) ps s sent
+    the-header-is-read = header-words level (settingOf W mode k) vs (storable W level mode k vs p) ps needed s sent
 
-    -- no rule of the refusals 8, 9 and 10 is broken
+    -- no rule of the refusals 8 (but for the late one), 9 and 10 is broken
     pub every-rule-is-kept :
         (settingRight (headerOf s) ≡ true) × (layoutRight (length s) (headerOf s) ≡ true)
         × (chunkTableRight (headerOf s) s ≡ true) × (sideTableRight (headerOf s) s ≡ true)
-        × (headerOf s .needed ≡ streamNeed (settingIn (headerOf s)) (someHigh (idsIn (headerOf s) s)))
         × ((j : ℕ) → j < chunksIn (length vs) → chunkState (headerOf s) s j ≡ Good)
     every-rule-is-kept = (
-      setting-kept level (settingOf W mode k) vs (storable W level mode k vs p) ps s sent,
-      layout-kept level (settingOf W mode k) vs (storable W level mode k vs p) ps s sent,
-      chunk-table-kept level (settingOf W mode k) vs (storable W level mode k vs p) ps s sent,
-      side-table-kept level (settingOf W mode k) vs (storable W level mode k vs p) ps s sent,
-      need-is-kept level (settingOf W mode k) vs (storable W level mode k vs p) ps s sent,
-      chunks-kept level (settingOf W mode k) vs (storable W level mode k vs p) ps s sent,
+      setting-kept level (settingOf W mode k) vs (storable W level mode k vs p) ps needed s sent,
+      layout-kept level (settingOf W mode k) vs (storable W level mode k vs p) ps needed s sent,
+      chunk-table-kept level (settingOf W mode k) vs (storable W level mode k vs p) ps needed s sent,
+      side-table-kept level (settingOf W mode k) vs (storable W level mode k vs p) ps needed s sent,
+      chunks-kept level (settingOf W mode k) vs (storable W level mode k vs p) ps needed s sent,
     )
+
+    -- the ids of the side table are those of the side parts
+    pub the-ids-are-read : idsIn (headerOf s) s ≡ idsOf ps
+    the-ids-are-read = ids-kept level (settingOf W mode k) vs (storable W level mode k vs p) ps needed s sent
 
     -- the values are the patterns of the codes, chunk by chunk
     pub the-values-are-read : values s ≡ comingBack (settingOf W mode k) vs
-    the-values-are-read = values-read level (settingOf W mode k) vs (storable W level mode k vs p) ps s sent
+    the-values-are-read = values-read level (settingOf W mode k) vs (storable W level mode k vs p) ps needed s sent
 
     -- as many as there were
     pub as-many-values : length (values s) ≡ length vs
@@ -223,14 +214,18 @@ module _ (W level mode : ℕ) (k : ℤ) (vs : List ℕ) (p : Packable W level mo
         → (2 ^ (W - 1 - fractionBits W) - 1) * 2 ^ fractionBits W ≤ ordinal W (getD vs i 0) → getD (values s) i 0 ≡ getD vs i 0
     special-values e i h l = rw the-values-are-read (special-back (settingOf W mode k) (made-allowed W mode k (p .width) (p .allowed)) vs (p .patterns) e i h l)
 
-    -- ---- each level refuses by 7, with the need, what it does not reach; of the rest the ids of the side parts decide
+    -- ---- each level refuses by 7, with the need, what it does not reach; of the rest the need and the ids of the side parts decide
+
+    -- by 8 where they ask for another need, by 15 where one is high
+    abbrev said : Step
+    said = cond (not (eqb needed (streamNeed (settingOf W mode k) (someHigh (idsOf ps))))) (Stop 8 0) (first (map idRow (idsOf ps)))
 
     module _ (L : ℕ) (known : knownLevel L ≡ true) where
-      -- 7 with the need, or what the ids say
+      -- 7 with the need, or what they say
       abbrev exactly : Step
-      exactly = cond (ltb L needed) (Stop 7 needed) (first (map idRow ids))
+      exactly = cond (ltb L needed) (Stop 7 needed) said
 
-      either-way : (x : Step) → (needed ≤ L → x ≡ first (map idRow ids)) → (L < needed → x ≡ Stop 7 needed) → x ≡ exactly
+      either-way : (x : Step) → (needed ≤ L → x ≡ said) → (L < needed → x ≡ Stop 7 needed) → x ≡ exactly
       either-way x reads stops = go (le-or-lt needed L)
         where
           go : (needed ≤ L) ⊎ (L < needed) → x ≡ exactly
@@ -240,71 +235,69 @@ module _ (W level mode : ℕ) (k : ℤ) (vs : List ℕ) (p : Packable W level mo
       pub check-exactly : first (checkRows L s) ≡ exactly
       check-exactly =
           either-way (first (checkRows L s))
-          (check-read level (settingOf W mode k) vs (storable W level mode k vs p) ps s sent L known)
-          (check-stop level (settingOf W mode k) vs (storable W level mode k vs p) ps s sent L known)
+          (check-read level (settingOf W mode k) vs (storable W level mode k vs p) ps needed s sent L known)
+          (check-stop level (settingOf W mode k) vs (storable W level mode k vs p) ps needed s sent L known)
 
       pub unpack-exactly : (room : ℕ) → length vs ≤ room → first (unpackRows W L s room) ≡ exactly
       unpack-exactly room l =
           either-way (first (unpackRows W L s room))
-          (unpack-read level (settingOf W mode k) vs (storable W level mode k vs p) ps s sent L known room l)
-          (unpack-stop level (settingOf W mode k) vs (storable W level mode k vs p) ps s sent L known room)
+          (unpack-read level (settingOf W mode k) vs (storable W level mode k vs p) ps needed s sent L known room l)
+          (unpack-stop level (settingOf W mode k) vs (storable W level mode k vs p) ps needed s sent L known room)
 
       -- probe of each index likewise
       pub probe-exactly : (i : ℕ) → i < length vs → first (probeRows W L s i) ≡ exactly
       probe-exactly i l =
           either-way (first (probeRows W L s i))
-          (probe-read level (settingOf W mode k) vs (storable W level mode k vs p) ps s sent L known i l)
-          (probe-stop level (settingOf W mode k) vs (storable W level mode k vs p) ps s sent L known i)
+          (probe-read level (settingOf W mode k) vs (storable W level mode k vs p) ps needed s sent L known i l)
+          (probe-stop level (settingOf W mode k) vs (storable W level mode k vs p) ps needed s sent L known i)
 
-      -- so where no id is high and the level reaches the need, which is the setting's, check counts the values and unpack hands them out
-      pub it-is-read : someHigh ids ≡ false → need (settingOf W mode k) ≤ L → (out : List ℕ) → length vs ≤ length out
+      -- so where no id is high and the need is the setting's and reached, check counts the values and unpack hands them out
+      pub it-is-read : someHigh (idsOf ps) ≡ false → needed ≡ need (settingOf W mode k) → needed ≤ L → (out : List ℕ) → length vs ≤ length out
           → (checkAnswer L s ≡ Done (length vs)) × (unpackAnswer W L s (length out) ≡ Done (length vs))
           × (unpackOut W L s out ≡ values s ++ drop (length vs) out)
       unfolding checkAnswer unpackAnswer unpackOut answer after
-      it-is-read low h out l =
-          let n = ap (λ (x : Header). x .count) (header-read level (settingOf W mode k) vs (storable W level mode k vs p) ps s sent) in
-          let reaches : needed ≤ L = rw (low, low-need (settingOf W mode k)) h in
-          let checks = check-read level (settingOf W mode k) vs (storable W level mode k vs p) ps s sent L known reaches ∙ low-pass ids low in
-          let passes = unpack-read level (settingOf W mode k) vs (storable W level mode k vs p) ps s sent L known (length out) l reaches ∙ low-pass ids low in
+      it-is-read low own h out l =
+          let n = ap (λ (x : Header). x .count) (header-read level (settingOf W mode k) vs (storable W level mode k vs p) ps needed s sent) in
+          let nothing = told-low level (settingOf W mode k) vs (storable W level mode k vs p) ps needed s sent low own in
+          let checks = check-read level (settingOf W mode k) vs (storable W level mode k vs p) ps needed s sent L known h ∙ nothing in
+          let passes = unpack-read level (settingOf W mode k) vs (storable W level mode k vs p) ps needed s sent L known (length out) l h ∙ nothing in
           (rw checks (ap Done n), rw passes (ap Done n), rw passes (ap (λ (m : ℕ). values s ++ drop m out) n))
 
-      -- where it does not reach it, both say which level is needed, and the output stays as it was
+      -- and where the need is not reached, both say which level is needed, and the output stays as it was, whatever room it has
       pub it-is-too-new : L < needed → (out : List ℕ)
           → (checkAnswer L s ≡ Refused 7 needed) × (unpackAnswer W L s (length out) ≡ Refused 7 needed) × (unpackOut W L s out ≡ out)
       unfolding checkAnswer unpackAnswer unpackOut answer after
       it-is-too-new h out =
-          let stops = unpack-stop level (settingOf W mode k) vs (storable W level mode k vs p) ps s sent L known (length out) h in
-          (rw (check-stop level (settingOf W mode k) vs (storable W level mode k vs p) ps s sent L known h), rw stops, rw stops)
+          let stops = unpack-stop level (settingOf W mode k) vs (storable W level mode k vs p) ps needed s sent L known (length out) h in
+          (rw (check-stop level (settingOf W mode k) vs (storable W level mode k vs p) ps needed s sent L known h), rw stops, rw stops)
 
-      -- and where it reaches it but some id is high, both name the first such id, and the output stays as it was
-      pub it-is-not-skipped : someHigh ids ≡ true → needed ≤ L → (out : List ℕ) → length vs ≤ length out
-          → (checkAnswer L s ≡ Refused 15 (firstHigh ids)) × (unpackAnswer W L s (length out) ≡ Refused 15 (firstHigh ids)) × (unpackOut W L s out ≡ out)
-      unfolding checkAnswer unpackAnswer unpackOut answer after
-      it-is-not-skipped high h out l =
-          let checks = check-read level (settingOf W mode k) vs (storable W level mode k vs p) ps s sent L known h ∙ high-stop ids high in
-          let stops = unpack-read level (settingOf W mode k) vs (storable W level mode k vs p) ps s sent L known (length out) l h ∙ high-stop ids high in
-          (rw checks, rw stops, rw stops)
+      -- what all readers refuse it by
+      module _ (back : List ℕ) (room : length vs ≤ length back) where
+        all-readers : (number detail : ℕ) → exactly ≡ Stop number detail → RefusedBy W L s back (length vs) number detail
+        unfolding checkAnswer unpackAnswer unpackOut answer after probeAnswer32 probeAnswer64 probed32 probed64
+        all-readers number detail e =
+            let unpacks = unpack-exactly (length back) room ∙ e in
+            let probes : (i : ℕ) → i < length vs → first (probeRows W L s i) ≡ Stop number detail = λ i l. probe-exactly i l ∙ e in
+            record {
+              check = rw (check-exactly ∙ e);
+              unpack = rw unpacks;
+              untouched = rw unpacks;
+              probe32 = λ is i l. rw (subst (λ (w : ℕ). first (probeRows w L s i) ≡ Stop number detail) is (probes i l));
+              probe64 = λ is i l. rw (subst (λ (w : ℕ). first (probeRows w L s i) ≡ Stop number detail) is (probes i l));
+            }
 
-      -- the probe of each index, at the stream's own width, says the same
-      module _ (i : ℕ) (l : i < length vs) where
-        too-new : L < needed → first (probeRows W L s i) ≡ Stop 7 needed
-        too-new = probe-stop level (settingOf W mode k) vs (storable W level mode k vs p) ps s sent L known i
+        -- 7: the level does not reach the need
+        pub refused-by-7 : L < needed → RefusedBy W L s back (length vs) 7 needed
+        refused-by-7 h = all-readers 7 needed (rw (lt-ltb L needed h))
 
-        not-skipped : someHigh ids ≡ true → needed ≤ L → first (probeRows W L s i) ≡ Stop 15 (firstHigh ids)
-        not-skipped high h = probe-read level (settingOf W mode k) vs (storable W level mode k vs p) ps s sent L known i l h ∙ high-stop ids high
+        -- 15: the need is that of a stream with a high id, and there is one
+        pub refused-by-15 : needed ≤ L → someHigh (idsOf ps) ≡ true → needed ≡ streamNeed (settingOf W mode k) true
+            → RefusedBy W L s back (length vs) 15 (firstHigh (idsOf ps))
+        refused-by-15 h high right =
+            all-readers 15 (firstHigh (idsOf ps))
+            (rw (le-ltb L needed h) (told-high level (settingOf W mode k) vs (storable W level mode k vs p) ps needed s sent high right))
 
-        pub a-probe-is-too-new32 : W ≡ 32 → L < needed → probeAnswer32 L s i ≡ p32.Refused 7 needed
-        unfolding probeAnswer32 probed32
-        a-probe-is-too-new32 is h = rw (subst (λ (w : ℕ). first (probeRows w L s i) ≡ Stop 7 needed) is (too-new h))
-
-        pub a-probe-is-too-new64 : W ≡ 64 → L < needed → probeAnswer64 L s i ≡ p64.Refused 7 needed
-        unfolding probeAnswer64 probed64
-        a-probe-is-too-new64 is h = rw (subst (λ (w : ℕ). first (probeRows w L s i) ≡ Stop 7 needed) is (too-new h))
-
-        pub a-probe-skips-nothing32 : W ≡ 32 → someHigh ids ≡ true → needed ≤ L → probeAnswer32 L s i ≡ p32.Refused 15 (firstHigh ids)
-        unfolding probeAnswer32 probed32
-        a-probe-skips-nothing32 is high h = rw (subst (λ (w : ℕ). first (probeRows w L s i) ≡ Stop 15 (firstHigh ids)) is (not-skipped high h))
-
-        pub a-probe-skips-nothing64 : W ≡ 64 → someHigh ids ≡ true → needed ≤ L → probeAnswer64 L s i ≡ p64.Refused 15 (firstHigh ids)
-        unfolding probeAnswer64 probed64
-        a-probe-skips-nothing64 is high h = rw (subst (λ (w : ℕ). first (probeRows w L s i) ≡ Stop 15 (firstHigh ids)) is (not-skipped high h))
+        -- 8: it is the need of another stream
+        pub refused-by-8 : needed ≤ L → (needed ≡ streamNeed (settingOf W mode k) (someHigh (idsOf ps)) → ⊥) → RefusedBy W L s back (length vs) 8 0
+        refused-by-8 h other =
+            all-readers 8 0 (rw (le-ltb L needed h) (told-wrong level (settingOf W mode k) vs (storable W level mode k vs p) ps needed s sent other))

@@ -1,4 +1,4 @@
--- The words that the theorems of proofs/Theorems.antt, Readers.antt, Place.antt and Cut.antt are stated in.
+-- The words that the theorems of proofs/Theorems.antt, Readers.antt, Place.antt, Cut.antt, Written.antt and Understood.antt are stated in.
 use mathlib.Core.Path.{_≡_}
 use mathlib.Core.Logic.{_⊎_}
 use mathlib.Core.Bool.{Bool, true, false, cond, not}
@@ -15,9 +15,11 @@ use Rattle.stream.specs.Tables.{startAt}
 use Rattle.stream.specs.Stream.{joined, countOf, chunkOf, chunkState}
 use Rattle.stream.specs.Writing.{piece}
 use Rattle.stream.specs.Probe.{shown32, shown64}
-use Rattle.stream.specs.Operations.{checkAnswer, unpackAnswer, probeAnswer32, probeAnswer64}
+use Rattle.stream.specs.Operations.{checkAnswer, unpackAnswer, unpackOut, probeAnswer32, probeAnswer64}
 use Rattle.stream.specs.declared.answers.Answer.{Answer}
 use Rattle.stream.specs.declared.answers.Answer.the-variants.{Done, Refused}
+use Rattle.stream.specs.declared.answers.Probe32.the-variants as p32
+use Rattle.stream.specs.declared.answers.Probe64.the-variants as p64
 use Rattle.stream.specs.declared.chunk.ChunkAnswer.the-variants.{Good}
 use Rattle.stream.specs.declared.header.Header.{Header}
 use Rattle.stream.specs.declared.setting.Setting.{Setting}
@@ -122,3 +124,11 @@ pub data Accepts (level : ℕ) (s : List ℕ) : Type 0 where
   by-unpack : (W room n : ℕ) → unpackAnswer W level s room ≡ Done n → Accepts level s
   by-probe32 : (i p : ℕ) → probeAnswer32 level s i ≡ shown32 p → Accepts level s
   by-probe64 : (i p : ℕ) → probeAnswer64 level s i ≡ shown64 p → Accepts level s
+
+-- check, unpack into `back`, and probe of each of n indices all refuse s at the level L so, and unpack's output stays as it was
+pub record RefusedBy (W L : ℕ) (s back : List ℕ) (n number detail : ℕ) : Type 0 where
+  pub check : checkAnswer L s ≡ Refused number detail
+  pub unpack : unpackAnswer W L s (length back) ≡ Refused number detail
+  pub untouched : unpackOut W L s back ≡ back
+  pub probe32 : W ≡ 32 → (i : ℕ) → i < n → probeAnswer32 L s i ≡ p32.Refused number detail
+  pub probe64 : W ≡ 64 → (i : ℕ) → i < n → probeAnswer64 L s i ≡ p64.Refused number detail

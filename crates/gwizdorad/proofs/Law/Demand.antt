@@ -21,7 +21,7 @@ use Rattle.numbers.specs.declared.tolerance.CodeAnswer.the-variants as code
 use Rattle.numbers.specs.declared.tolerance.PatternAnswer.the-variants as pattern
 use Rattle.numbers.proofs.Theorems.{format-32, format-64, every-pattern-is-restored, every-list-is-restored, a-coded-k-is-allowed, an-allowed-k-has-a-bin, a-code-is-restored, binary32-returned, binary64-returned, bound-for-binary32, bound-for-binary64}
 use Rattle.blocks.specs.Bytes.{Below}
-use Rattle.stream.specs.Setting.{knownWidth, fractionBits, allowedSetting, settingOf, someHigh}
+use Rattle.stream.specs.Setting.{knownWidth, fractionBits, allowedSetting, settingOf, need, someHigh}
 use Rattle.stream.specs.Stream.{values}
 use Rattle.stream.specs.Writing.{Side, idsOf, WellFormedSides}
 use Rattle.stream.specs.Packing.{Packable, Sent}
@@ -153,33 +153,33 @@ module _ (W level mode : ℕ) (k : ℤ) (vs out : List ℕ) (size : ℕ) (done :
   whole = ap length (accepted-bytes W level mode k vs out size done) ∙ sym (accepted-leaves W level mode k vs out size done .0)
 
   sided-is-sent : (s : List ℕ) → Sided (take size (packOut W level mode k vs out)) s
-      → (parts : List Side) × (someHigh (idsOf parts) ≡ false) × Sent level (settingOf W mode k) vs parts s
+      → (parts : List Side) × (someHigh (idsOf parts) ≡ false) × Sent level (settingOf W mode k) vs parts (need (settingOf W mode k)) s
   unfolding idsOf someHigh
   sided-is-sent s (plain is) = (
     [],
     refl,
-    subst (Sent level (settingOf W mode k) vs []) (sym (is ∙ accepted-bytes W level mode k vs out size done)) (the-plain-stream W level mode k vs packable),
+    subst (Sent level (settingOf W mode k) vs [] (need (settingOf W mode k))) (sym (is ∙ accepted-bytes W level mode k vs out size done)) (the-plain-stream W level mode k vs packable),
   )
   sided-is-sent s (with-parts parts well low is) = (
     parts,
     low,
-    subst (Sent level (settingOf W mode k) vs parts) (sym is)
-        (accepted-is-sent W level mode k vs out size done parts (subst (λ (n : ℕ). WellFormedSides (n + 12 * length parts) parts) whole well) low),
+    subst (Sent level (settingOf W mode k) vs parts (need (settingOf W mode k))) (sym is)
+        (accepted-is-sent W level mode k vs out size done parts (subst (λ (n : ℕ). WellFormedSides (n + 12 * length parts) parts) whole well)),
   )
 
 module _ (W level mode : ℕ) (k : ℤ) (vs s : List ℕ) (width : knownWidth W ≡ true) (patterns : Below (2 ^ W) vs) (packed : Packed W level mode k vs s) where
   packable : Packable W level mode k vs
   packable = accepted-list W level mode k vs (packed .out) (packed .size) (packed .done) width patterns
 
-  pub is-sent : (parts : List Side) × (someHigh (idsOf parts) ≡ false) × Sent level (settingOf W mode k) vs parts s
+  pub is-sent : (parts : List Side) × (someHigh (idsOf parts) ≡ false) × Sent level (settingOf W mode k) vs parts (need (settingOf W mode k)) s
   is-sent = sided-is-sent W level mode k vs (packed .out) (packed .size) (packed .done) packable s (packed .given)
 
   pub as-many : length (values s) ≡ length vs
-  as-many = as-many-values W level mode k vs packable (is-sent .0) s (is-sent .2)
+  as-many = as-many-values W level mode k vs packable (is-sent .0) (need (settingOf W mode k)) s (is-sent .2)
 
   pub come-back : (i : ℕ) → i < length vs → ComesBack W mode k (getD vs i 0) (getD (values s) i 0)
   come-back i below =
       record {
-        lossless = λ e. ap (λ (l : List ℕ). getD l i 0) (lossless-values W level mode k vs packable (is-sent .0) s (is-sent .2) e);
-        within = λ e. returned k (getD vs i 0) (getD (values s) i 0) W width (allowed-in-mode-1 W mode k e (packable .allowed)) (tolerance-values W level mode k vs packable (is-sent .0) s (is-sent .2) e i below);
+        lossless = λ e. ap (λ (l : List ℕ). getD l i 0) (lossless-values W level mode k vs packable (is-sent .0) (need (settingOf W mode k)) s (is-sent .2) e);
+        within = λ e. returned k (getD vs i 0) (getD (values s) i 0) W width (allowed-in-mode-1 W mode k e (packable .allowed)) (tolerance-values W level mode k vs packable (is-sent .0) (need (settingOf W mode k)) s (is-sent .2) e i below);
       }

@@ -1,37 +1,37 @@
--- A written stream, with any well-formed side parts, before every reader: row 7 is given where the level does not reach the need. Where it does, what
--- the ids of its side parts say is all that is left: row 15 for the first high one, and no row where none is high.
+-- A written stream, with any well-formed side parts and a need, before every reader: row 7 is given where the level does not reach that need. Where it
+-- does, what the ids of its side parts say is all that is left: row 8 where they ask for another need, row 15 for the first high one, and else no row.
 use mathlib.Core.Path.{_≡_, refl, sym, ap, ap₂, subst, _∙_}
-use mathlib.Core.Bool.{true, false}
+use mathlib.Core.Bool.{true, false, not, cond}
 use mathlib.Core.List.{List, [], _∷_, _++_, append-assoc, append-nil, map}
 use Prim.Native.Nat.{ℕ, zero, suc, _+_, _*_, _/_, _^_, _≤_, _<_, zero-le}
 use native.Mathlib.Nat.{lt-of-le-of-lt}
 use native.Mathlib.Omega.{arith}
-use borrow.Author.Tests.{lt-ltb, le-ltb}
-use lib.Dec.{lit<}
+use borrow.Author.Tests.{lt-ltb, le-ltb, eq-eqb, ne-eqb}
+use lib.Dec.{eqb, lit<}
 use lib.ListN.{length, drop, getD, length-append, List·getD-append}
 use Rattle.blocks.specs.Bytes.{Below}
-use Rattle.stream.specs.Setting.{knownLevel, need, someHigh, streamNeed, kBits, groupSize, codesOf}
+use Rattle.stream.specs.Setting.{knownLevel, need, someHigh, firstHigh, streamNeed, kBits, groupSize, codesOf}
 use Rattle.stream.specs.Rows.{Row, rowsFrom, first}
-use Rattle.stream.specs.Header.{word, headerOf, kOf, settingIn, chunksIn, settingRight, layoutRight}
+use Rattle.stream.specs.Header.{word, headerOf, kOf, chunksIn, settingRight, layoutRight}
 use Rattle.stream.specs.Tables.{chunkTableRight, sideTableRight, idsIn}
 use Rattle.stream.specs.Stream.{chunkState, valuesIn, values}
 use Rattle.stream.specs.Writing.{spell, piece, pieceBytes, dataOf, startsOf, headerNumbers, endOf, body, stream, Side, entries, parts, addSides, idsOf, withNeed, increasing, WellFormedSides}
 use Rattle.stream.specs.Packing.{Sent}
 use Rattle.stream.specs.Theorem.{comingBack}
-use Rattle.stream.specs.Operations.{headerRows, openingRows, idRow, tableRows, chunkRow, chunkRows, contentRows, ownRows, checkRows, unpackRows, probeRows}
+use Rattle.stream.specs.Operations.{headerRows, openingRows, needRow, idRow, sideRows, tableRows, chunkRow, chunkRows, contentRows, ownRows, checkRows, unpackRows, probeRows}
 use Rattle.stream.specs.declared.answers.Step.{Step}
 use Rattle.stream.specs.declared.answers.Step.the-variants.{Pass, Stop}
 use Rattle.stream.specs.declared.chunk.ChunkAnswer.the-variants.{Good}
 use Rattle.stream.specs.declared.header.Header.{Header}
 use Rattle.stream.specs.declared.setting.Setting.{Setting}
 use Rattle.stream.proofs.Law.Rows.First.{andThen, then-none, first-append, passed}
-use Rattle.stream.proofs.Law.Rows.Ids.{need-kept}
+use Rattle.stream.proofs.Law.Rows.Ids.{low-pass, high-stop}
 use Rattle.stream.proofs.Law.Rows.Chunks.{good-row, tables-pass}
 use Rattle.stream.proofs.Law.Rows.Given.{check-shut, unpack-shut, probe-shut, check-content, unpack-content, probe-own}
 use Rattle.blocks.proofs.Law.Digits.{byte, below-append}
 use Rattle.stream.proofs.Law.Setting.Codes.{codes-under}
 use Rattle.stream.proofs.Law.Setting.Allowed.{Storable, width-most}
-use Rattle.stream.proofs.Law.Setting.Widths.{width-bytes, stream-need-least, low-need}
+use Rattle.stream.proofs.Law.Setting.Widths.{width-bytes, low-need}
 use Rattle.stream.proofs.Law.Setting.Exponent.{setting-back}
 use Rattle.stream.proofs.Law.Plain.Joined.{joined-below}
 use Rattle.stream.proofs.Law.Written.Numbers.{length-spell, spell-below, spell-put}
@@ -75,16 +75,13 @@ module _ (level : ℕ) (t : Setting) (vs : List ℕ) (ps : List Side) where
       ap (withNeed needed) sided
       ∙ spell-put (1 ∷ level ∷ []) (drop 3 (headerNumbers level t (length vs) (length ps) (endOf t vs c)) ++ startsOf t vs c) (dataOf t vs c ++ behindData t vs ps) 8 refl (need t) needed
 
-  -- without a high id it is the one that stood there
-  pub low-sent : need t ≤ level → WellFormedSides (length (stream level t vs) + 12 * length ps) ps → someHigh (idsOf ps) ≡ false
-      → Sent level t vs ps (addSides (stream level t vs) ps)
-  low-sent reaches well low =
-      let is : streamNeed t (someHigh (idsOf ps)) ≡ need t = ap (streamNeed t) low ∙ low-need t in
-      record {
-        well-formed = well;
-        reached = rw is reaches;
-        bytes = sym (ap (λ (n : ℕ). withNeed n (addSides (stream level t vs) ps)) is ∙ needing (need t) ∙ sym sided);
-      }
+  -- where it is the one that stood there, nothing changes
+  pub same-need : withNeed (need t) (addSides (stream level t vs) ps) ≡ addSides (stream level t vs) ps
+  same-need = needing (need t) ∙ sym sided
+
+  pub sided-sent : need t ≤ level → WellFormedSides (length (stream level t vs) + 12 * length ps) ps
+      → Sent level t vs ps (need t) (addSides (stream level t vs) ps)
+  sided-sent reaches well = record { well-formed = well; least = omega arith; reached = reaches; bytes = sym same-need }
 
 -- the plain stream has none
 module _ (level : ℕ) (t : Setting) (vs : List ℕ) where
@@ -98,10 +95,9 @@ module _ (level : ℕ) (t : Setting) (vs : List ℕ) where
   unfolding increasing entries parts
   no-sides place = record { few = zero-le; ordered = refl; numbers = λ i. lit< tt; are-bytes = λ i. byte }
 
-  pub plain-sent : need t ≤ level → Sent level t vs [] (stream level t vs)
-  unfolding someHigh idsOf
+  pub plain-sent : need t ≤ level → Sent level t vs [] (need t) (stream level t vs)
   plain-sent reaches =
-      subst (Sent level t vs []) (sym plain-is) (low-sent level t vs [] reaches (no-sides (length (stream level t vs) + 12 * 0)) refl)
+      subst (Sent level t vs [] (need t)) (sym plain-is) (sided-sent level t vs [] reaches (no-sides (length (stream level t vs) + 12 * 0)))
 
 -- rows of which none is given
 all-pass : (f : ℕ → Row) (k i : ℕ) → ((j : ℕ) → i ≤ j → j < i + k → first (f j ∷ []) ≡ Pass) → first (rowsFrom f k i) ≡ Pass
@@ -109,7 +105,7 @@ unfolding rowsFrom first
 all-pass f zero i h = refl
 all-pass f (suc k) i h = passed (f i) (rowsFrom f k (suc i)) (h i (omega arith) (omega arith)) ∙ all-pass f k (suc i) (λ j l m. h j (omega arith) (omega arith))
 
-module _ (level : ℕ) (t : Setting) (vs : List ℕ) (p : Storable level t vs) (ps : List Side) (s : List ℕ) (sent : Sent level t vs ps s) where
+module _ (level : ℕ) (t : Setting) (vs : List ℕ) (p : Storable level t vs) (ps : List Side) (needed : ℕ) (s : List ℕ) (sent : Sent level t vs ps needed s) where
   abbrev well : WellFormedSides (endOf t vs (chunksIn (length vs)) + 12 * length ps) ps
   well = subst (λ (n : ℕ). WellFormedSides (n + 12 * length ps) ps) (length-stream level t vs) (sent .well-formed)
 
@@ -119,14 +115,11 @@ module _ (level : ℕ) (t : Setting) (vs : List ℕ) (p : Storable level t vs) (
   abbrev behind : List ℕ
   behind = behindData t vs ps
 
-  abbrev needed : ℕ
-  needed = streamNeed t (someHigh (idsOf ps))
-
   abbrev numbers : List ℕ
   numbers = frontNumbers level needed t vs (length ps)
 
   fits : Front level needed t vs (length ps)
-  fits = record { list = p; least = stream-need-least t (someHigh (idsOf ps)); reached = sent .reached; few = well .few }
+  fits = record { list = p; least = sent .least; reached = sent .reached; few = well .few }
 
   -- the parts of the stream, as the header and the tables see them
   after-front : s ≡ spell numbers ++ (dataOf t vs chunks ++ behind)
@@ -191,10 +184,6 @@ module _ (level : ℕ) (t : Setting) (vs : List ℕ) (p : Storable level t vs) (
       ap₂ idsIn header-read after-data
       ∙ ids-read (headerFor level needed t vs (length ps)) (spell numbers ++ dataOf t vs chunks) ps well data-ends refl
 
-  pub need-is-kept : headerOf s .needed ≡ streamNeed (settingIn (headerOf s)) (someHigh (idsIn (headerOf s) s))
-  unfolding kOf
-  need-is-kept = rw (ids-kept, header-read, setting-back t (p .setting))
-
   pub chunks-kept : (j : ℕ) → j < chunks → chunkState (headerOf s) s j ≡ Good
   chunks-kept j h = ap₂ (λ (x : Header) (l : List ℕ). chunkState x l j) header-read after-front ∙ chunk-good level needed t vs (length ps) fits behind j h
 
@@ -208,26 +197,38 @@ module _ (level : ℕ) (t : Setting) (vs : List ℕ) (p : Storable level t vs) (
   -- ---- the rows
 
   -- what the tables and the chunks say is what the ids say
-  tables-read : first (tableRows (headerOf s) s) ≡ first (map idRow (idsOf ps))
+  abbrev pub told : Step
+  told = cond (not (eqb needed (streamNeed t (someHigh (idsOf ps))))) (Stop 8 0) (first (map idRow (idsOf ps)))
+
+  tables-read : first (tableRows (headerOf s) s) ≡ told
+  unfolding sideRows needRow first kOf
   tables-read =
       sym (tables-pass (headerOf s) s true true (sym chunk-table-kept) (sym side-table-kept) refl)
-      ∙ need-kept (headerOf s) (idsIn (headerOf s) s) need-is-kept
-      ∙ ap (λ (ids : List ℕ). first (map idRow ids)) ids-kept
+      ∙ rw (ids-kept, header-read, setting-back t (p .setting))
 
-  then-good : (rows : List Row) → first rows ≡ Pass → first (tableRows (headerOf s) s ++ rows) ≡ first (map idRow (idsOf ps))
+  pub told-low : someHigh (idsOf ps) ≡ false → needed ≡ need t → told ≡ Pass
+  told-low low is = rw (low, eq-eqb needed (streamNeed t false) (is ∙ sym (low-need t))) (low-pass (idsOf ps) low)
+
+  pub told-high : someHigh (idsOf ps) ≡ true → needed ≡ streamNeed t true → told ≡ Stop 15 (firstHigh (idsOf ps))
+  told-high high is = rw (high, eq-eqb needed (streamNeed t true) is) (high-stop (idsOf ps) high)
+
+  pub told-wrong : (needed ≡ streamNeed t (someHigh (idsOf ps)) → ⊥) → told ≡ Stop 8 0
+  told-wrong other = rw (ne-eqb needed (streamNeed t (someHigh (idsOf ps))) other)
+
+  then-good : (rows : List Row) → first rows ≡ Pass → first (tableRows (headerOf s) s ++ rows) ≡ told
   then-good rows good =
       first-append (tableRows (headerOf s) s) rows
       ∙ ap₂ andThen tables-read good
-      ∙ then-none (first (map idRow (idsOf ps)))
+      ∙ then-none told
 
-  content-read : first (contentRows (headerOf s) s) ≡ first (map idRow (idsOf ps))
+  content-read : first (contentRows (headerOf s) s) ≡ told
   unfolding contentRows chunkRows
   content-read =
       then-good (chunkRows (headerOf s) s)
       (all-pass (chunkRow (headerOf s) s) (headerOf s .chunks) 0
       (λ j l m. sym (good-row (headerOf s) s j (chunks-kept j (let e = ap (λ (x : Header). x .chunks) header-read in omega arith)))))
 
-  own-read : (i : ℕ) → i < length vs → first (ownRows (headerOf s) s i) ≡ first (map idRow (idsOf ps))
+  own-read : (i : ℕ) → i < length vs → first (ownRows (headerOf s) s i) ≡ told
   unfolding ownRows chunksIn
   own-read i l = then-good (chunkRow (headerOf s) s (i / 1024) ∷ []) (sym (good-row (headerOf s) s (i / 1024) (chunks-kept (i / 1024) (omega arith))))
 
@@ -242,13 +243,13 @@ module _ (level : ℕ) (t : Setting) (vs : List ℕ) (p : Storable level t vs) (
     opening-stop h =
         rw (known, le-ltb (length s) 48 long) (rw (header-read, lt-ltb L needed h))
 
-    pub check-read : needed ≤ L → first (checkRows L s) ≡ first (map idRow (idsOf ps))
+    pub check-read : needed ≤ L → first (checkRows L s) ≡ told
     check-read h = sym (check-content L s (opening-pass h) (headerOf s) refl) ∙ content-read
 
     pub check-stop : L < needed → first (checkRows L s) ≡ Stop 7 needed
     check-stop h = sym (check-shut L s 7 needed (opening-stop h))
 
-    pub unpack-read : (room : ℕ) → length vs ≤ room → needed ≤ L → first (unpackRows (t .width) L s room) ≡ first (map idRow (idsOf ps))
+    pub unpack-read : (room : ℕ) → length vs ≤ room → needed ≤ L → first (unpackRows (t .width) L s room) ≡ told
     unpack-read room l h =
         let width = ap (λ (x : Header). x .width) header-read in
         let count = ap (λ (x : Header). x .count) header-read in
@@ -257,7 +258,7 @@ module _ (level : ℕ) (t : Setting) (vs : List ℕ) (p : Storable level t vs) (
     pub unpack-stop : (room : ℕ) → L < needed → first (unpackRows (t .width) L s room) ≡ Stop 7 needed
     unpack-stop room h = sym (unpack-shut L s 7 needed (opening-stop h) (t .width) room)
 
-    pub probe-read : (i : ℕ) → i < length vs → needed ≤ L → first (probeRows (t .width) L s i) ≡ first (map idRow (idsOf ps))
+    pub probe-read : (i : ℕ) → i < length vs → needed ≤ L → first (probeRows (t .width) L s i) ≡ told
     probe-read i l h =
         let width = ap (λ (x : Header). x .width) header-read in
         let count = ap (λ (x : Header). x .count) header-read in

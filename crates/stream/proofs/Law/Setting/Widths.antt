@@ -56,11 +56,7 @@ need-small t = go (eqb (t .width) 64) (eqb (t .mode) 1) (eqb (t .mode) 2)
     go false false true = lit≤ tt
     go false false false = lit≤ tt
 
--- a stream needs what its setting does, and no more where no id is high
-pub stream-need-least : (t : Setting) (high : Bool) → need t ≤ streamNeed t high
-unfolding streamNeed
-stream-need-least t high = omega arith
-
+-- a stream needs what its setting does where no id is high
 pub low-need : (t : Setting) → streamNeed t false ≡ need t
 unfolding streamNeed
 low-need t = omega (arith, need-least t)
