@@ -58,9 +58,11 @@
  *
  * A stream may have up to 64 side parts behind its data, which others put there: bytes with an id. This library writes none,
  * and hands none out. Ids below 2^31, GWZ_FIRST_HIGH_ID, may be skipped: every reader does. An id from there up says that the
- * values must not be used by who does not understand it, as where a part holds a datum shift. NONE IS DEFINED YET, so every
- * reader refuses such a stream: below level 12 by 7, and at 12 by 15 with the first such id. Who adds such a part also raises
- * the needed minor to 12, and the written one if it is below; docs/FORMAT.md has the bytes.
+ * values must not be used by who does not understand it, as where a part holds a datum shift. NONE IS DEFINED YET, so at every
+ * level such a stream is refused. Who adds such a part also raises the needed minor to 12, and the written one if it is below
+ * (docs/FORMAT.md has the bytes): then readers of this library refuse the stream by 7 below level 12 and by 15, with the
+ * first such id, at 12; and older ones by 7, which knew no such ids. Where the need was not raised, readers of this library
+ * refuse the stream by 8, and older ones skip the part.
  *
  *
  * PATTERNS, NOT FLOATS
@@ -93,7 +95,7 @@ enum gwz_level {
     GWZ_LEVEL_9 = 9,   /* and width 32, GWZ_WITHIN_TOLERANCE */
     GWZ_LEVEL_10 = 10, /* and width 64, in both of these */
     GWZ_LEVEL_11 = 11, /* and GWZ_DIFFERENCES, both widths */
-    GWZ_LEVEL_12 = 12  /* no other setting; knows the ids that must be understood */
+    GWZ_LEVEL_12 = 12  /* no other setting; refuses ids that must be understood by 15 */
 };
 
 enum gwz_mode {

@@ -1,7 +1,7 @@
 #!/bin/sh
 # Tries the comparison harness on the mock: it must pass on the clean one and
 # find every fault that can be planted. Arguments go to `compare`; without
-# any, the quick run is taken. Needs some twenty minutes.
+# any, the quick run is taken. Needs some forty minutes.
 set -eu
 cd "$(dirname "$0")/.."
 [ $# -gt 0 ] || set -- --quick

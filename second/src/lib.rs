@@ -1,5 +1,5 @@
 //! The second program: packed float fields written again, from the scope
-//! document and change requests alone, to judge another
+//! document and change requests alone, to judge another
 //! implementation.
 //!
 //! * [`numbers`]: the lossless, tolerance and difference codes, and bound.
@@ -35,7 +35,8 @@ impl Refusal {
 
     /// A refusal for which the table states a detail. Every detail of the
     /// table fits 32 bits: lengths are bounded by the value limit, the needed
-    /// minor is a header number, and of groups there are at most 32,768.
+    /// minor and an id are numbers of the stream, and of groups there are at
+    /// most 32,768.
     pub const fn with_detail(number: u32, detail: u64) -> Refusal {
         Refusal { number, detail: detail as u32 }
     }

@@ -174,8 +174,9 @@ struct stream {
     struct header header;
 };
 
-static int level_known(uint32_t level) { return 8 <= level && level <= 11; }
+static int level_known(uint32_t level) { return 8 <= level && level <= 12; }
 
+/* The need of a setting, which a side part that must be understood may raise. */
 static uint32_t need(uint32_t width, uint32_t mode) { return mode == 2 ? 11 : width == 64 ? 10 : mode == 1 ? 9 : 8; }
 
 static int setting_allowed(uint32_t width, uint32_t mode, int32_t k)
@@ -196,7 +197,7 @@ static uint64_t admit(uint32_t level, uint32_t width, uint32_t mode, int32_t k, 
 static int header_holds(const struct header *h, size_t length)
 {
     return (h->width == 32 || h->width == 64) && setting_allowed(h->width, h->mode, h->k)
-        && h->needed == need(h->width, h->mode) && h->written >= h->needed && h->n <= MOST_VALUES
+        && h->needed >= need(h->width, h->mode) && h->written >= h->needed && h->n <= MOST_VALUES
         && h->c == chunks_of(h->n) && h->table == HEADER && h->data == HEADER + 4 * h->c && h->sides <= 64
         && h->data <= h->end && h->end <= length;
 }
@@ -250,10 +251,24 @@ static int side_table_holds(const struct stream *stream)
     return part == stream->length;
 }
 
-/* Refusal 9, or 0. */
+/* The first id that must be understood, none of which is known yet, or 0: ids from 2^31 up are such. */
+static uint32_t first_high_id(const struct stream *stream)
+{
+    const uint8_t *entry = stream->bytes + stream->header.end;
+    for (uint32_t side = 0; side < stream->header.sides; side++, entry += 12)
+        if (number_at(entry) >> 31)
+            return number_at(entry);
+    return 0;
+}
+
+/* Refusals 9 8 15, or 0: both tables, the exact need, and ids that must be understood. They need more than settings. */
 static uint64_t check_tables(const struct stream *stream)
 {
-    return refused_if(!chunk_table_holds(stream) || !side_table_holds(stream), 9);
+    const struct header *h = &stream->header;
+    TRY(refused_if(!chunk_table_holds(stream) || !side_table_holds(stream), 9));
+    uint32_t high_id = first_high_id(stream);
+    TRY(refused_if(h->needed != (high_id != 0 ? 12 : need(h->width, h->mode)), 8));
+    return high_id != 0 ? refused(15, high_id) : 0;
 }
 
 /* Where 32 codes at a place of a stream are read: where they lie or, of the last groups, in a copy with zeros after. */
@@ -277,7 +292,7 @@ INLINED const uint8_t *window_at(const struct stream *stream, size_t place, uint
 #include "plain.c"
 #undef WIDTH
 
-/* Refusals 1 5 6 7 8 9 10, or n: a stream of either width. */
+/* Refusals 1 5 6 7 8 9 8 15 10, or n: a stream of either width. */
 uint64_t plain_check(uint32_t level, const uint8_t *bytes, size_t length)
 {
     struct stream stream;
@@ -625,7 +640,7 @@ INLINED void NAME(restore_data)(const struct stream *stream, uint32_t mode, BIN 
     }
 }
 
-/* Refusals 1 5 6 7 8 14 4 9 10, or n. */
+/* Refusals 1 5 6 7 8 14 4 9 8 15 10, or n. */
 uint64_t NAME(plain_unpack)(uint32_t level, const uint8_t *bytes, size_t length, WORD *out, size_t room)
 {
     struct stream stream;
@@ -677,7 +692,7 @@ static WORD NAME(pattern_at)(const struct stream *stream, size_t chunk, size_t i
     return NAME(restored)(NAME(code_at)(stream, chunk, index), header->mode, NAME(bin_of)(header->k));
 }
 
-/* Refusals 1 5 6 7 8 14 11 9 10, or the kind: 0 finite, 1 infinite, 2 not-a-number. Of the chunks its own is read. */
+/* Refusals 1 5 6 7 8 14 11 9 8 15 10, or the kind: 0 finite, 1 infinite, 2 not-a-number. No other chunk is read. */
 uint64_t NAME(plain_probe)(uint32_t level, const uint8_t *bytes, size_t length, uint64_t index, WORD *pattern)
 {
     struct stream stream;

@@ -395,9 +395,10 @@ macro_rules! by_rule {
 
 // ------------------------------------------------------- pack and length
 
-const LEVELS: RangeInclusive<u32> = 8..=11;
+const LEVELS: RangeInclusive<u32> = 8..=12;
 
-/// Mode 2 needs 11; else width 64 needs 10; else mode 1 needs 9; else 8.
+/// Mode 2 needs 11; else width 64 needs 10; else mode 1 needs 9; else 8. A side
+/// part that must be understood may raise it.
 fn need(width: u32, mode: u32) -> u32 {
     match (width, mode) {
         (_, 2) => 11,
@@ -539,8 +540,14 @@ fn put_codes<P: Lane, const W: usize>(codes: &[P; GROUP], bytes: &mut [u8]) {
 
 // --------------------------------------------------------------- reading
 
+/// Side parts from this id up must be understood, and none is known yet. They
+/// need more than any setting.
+const FIRST_HIGH_ID: u32 = 1 << 31;
+const NEED_OF_HIGH_ID: u32 = 12;
+
 /// What the header of a stream that passed refusals 1 5 6 7 8 says.
 struct Header {
+    needed: u32,
     width: u32,
     mode: u32,
     k: i32,
@@ -582,7 +589,7 @@ fn read_header(level: u32, stream: &[u8]) -> Result<Header, Refusal> {
     let c = n.div_ceil(CHUNK);
     let (data_place, data_end) = (number(9) as usize, number(11) as usize);
     let kept = setting_allowed(mode, k, least_k, greatest_k)
-        && needed == need(width, mode)
+        && needed >= need(width, mode)
         && number(1) >= needed
         && n <= MOST_VALUES
         && number(7) as usize == c
@@ -594,15 +601,24 @@ fn read_header(level: u32, stream: &[u8]) -> Result<Header, Refusal> {
     if !kept {
         return Err(Refusal::bare(8));
     }
-    Ok(Header { width, mode, k, n, c, sides: number(10) as usize, data_place, data_end })
+    let sides = number(10) as usize;
+    Ok(Header { needed, width, mode, k, n, c, sides, data_place, data_end })
 }
 
-/// Refusal 9: both tables.
+/// Refusals 9 8 15: both tables, the exact need, and ids that must be
+/// understood.
 fn check_tables(stream: &[u8], header: &Header) -> Result<(), Refusal> {
-    if chunk_table_holds(stream, header) && side_table_holds(stream, header) {
-        Ok(())
-    } else {
-        Err(Refusal::bare(9))
+    if !chunk_table_holds(stream, header) || !side_table_holds(stream, header) {
+        return Err(Refusal::bare(9));
+    }
+    let mut ids = side_table(stream, header).chunks_exact(12).map(|entry| number_at(entry, 0));
+    let high_id = ids.find(|&id| id >= FIRST_HIGH_ID);
+    if header.needed != high_id.map_or(need(header.width, header.mode), |_| NEED_OF_HIGH_ID) {
+        return Err(Refusal::bare(8));
+    }
+    match high_id {
+        Some(id) => Err(Refusal::with_detail(15, id as u64)),
+        None => Ok(()),
     }
 }
 
@@ -622,16 +638,23 @@ fn chunk_table_holds(stream: &[u8], header: &Header) -> bool {
     rising && chunk_start(stream, 0) == 0 && chunk_start(stream, header.c - 1) < data_length
 }
 
+fn side_table_end(header: &Header) -> usize {
+    header.data_end + 12 * header.sides
+}
+
+/// The bytes of the side table, which must be there.
+fn side_table<'a>(stream: &'a [u8], header: &Header) -> &'a [u8] {
+    &stream[header.data_end..side_table_end(header)]
+}
+
 fn side_table_holds(stream: &[u8], header: &Header) -> bool {
-    let table_end = header.data_end + 12 * header.sides;
-    if table_end > stream.len() {
+    if side_table_end(header) > stream.len() {
         return false;
     }
-    let table = &stream[header.data_end..table_end];
     // Lengths add up in u64, where 64 of them cannot overflow.
-    let mut part = table_end as u64;
+    let mut part = side_table_end(header) as u64;
     let mut least_id = 0u64;
-    for entry in table.chunks_exact(12) {
+    for entry in side_table(stream, header).chunks_exact(12) {
         let id = number_at(entry, 0) as u64;
         if id < least_id || number_at(entry, 4) as u64 != part {
             return false;

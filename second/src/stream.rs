@@ -9,12 +9,16 @@ use crate::{Answer, Refusal};
 use std::ops::Range;
 
 pub const MOST_VALUES: u64 = 1_048_576;
-pub const HIGHEST_LEVEL: u32 = 11;
+pub const HIGHEST_LEVEL: u32 = 12;
 
 const HEADER_BYTES: u64 = 48;
 const TABLE_ENTRY_BYTES: u64 = 4;
 const SIDE_ENTRY_BYTES: u64 = 12;
 const MOST_SIDES: u64 = 64;
+/// Ids from here up mean "must be understood". None is defined yet.
+const FIRST_HIGH_ID: u32 = 1 << 31;
+/// What a stream with such an id needs.
+const NEED_OF_HIGH_ID: u32 = 12;
 const VALUES_IN_CHUNK: u64 = 1024;
 const VALUES_IN_GROUP: u64 = 32;
 const GROUPS_IN_CHUNK: u64 = 32;
@@ -100,7 +104,7 @@ impl Setting {
     }
 
     /// Mode 2 needs 11, width 64 needs 10, mode 1 needs 9, and all need 8: the
-    /// largest stands.
+    /// largest stands. It is the need of a stream without high ids.
     fn need(self) -> u32 {
         let of_mode = match self {
             Setting::Lossless(_) => 8,
@@ -308,7 +312,8 @@ fn read_header(level: u32, stream: &[u8]) -> Result<Header, Refusal> {
         data_end: end as u64,
     };
     let rules = [
-        needed == setting.need(), // so it is not below 8 either
+        // So it is not below 8 either. Whether it is exact, the ids decide.
+        needed >= setting.need(),
         written >= needed,
         header.n <= MOST_VALUES,
         header.c == header.n.div_ceil(VALUES_IN_CHUNK),
@@ -324,14 +329,29 @@ fn read_header(level: u32, stream: &[u8]) -> Result<Header, Refusal> {
     Ok(header)
 }
 
-// -------------------------------------------------------- the tables, 9
+// ------------------------------------------ the tables, 9 8 (late) 15
 
-/// The chunks as stretches of the data, if both tables keep their rules.
+/// The chunks as stretches of the data, if both tables keep their rules, the
+/// need is exact, and every side part may be skipped.
 fn read_tables(stream: &[u8], header: &Header) -> Result<Vec<Range<u64>>, Refusal> {
-    if !side_table_holds(stream, header) {
-        return Err(Refusal::bare(9));
+    let ids = side_ids(stream, header).ok_or(Refusal::bare(9))?;
+    let stretches = chunk_stretches(stream, header).ok_or(Refusal::bare(9))?;
+    let high_id = ids.into_iter().find(|&id| id >= FIRST_HIGH_ID);
+    if header.needed != need_of_stream(header.setting, high_id) {
+        return Err(Refusal::bare(8));
     }
-    chunk_stretches(stream, header).ok_or(Refusal::bare(9))
+    match high_id {
+        Some(id) => Err(Refusal::with_detail(15, id as u64)),
+        None => Ok(stretches),
+    }
+}
+
+/// The need of a stream whose first high id, if it has one, is told.
+fn need_of_stream(setting: Setting, high_id: Option<u32>) -> u32 {
+    match high_id {
+        Some(_) => setting.need().max(NEED_OF_HIGH_ID),
+        None => setting.need(),
+    }
 }
 
 /// Each chunk's stretch of the data, counted from the data, or nothing if the
@@ -356,25 +376,25 @@ fn chunk_stretches(stream: &[u8], header: &Header) -> Option<Vec<Range<u64>>> {
     Some(starts.iter().zip(ends).map(|(&start, end)| start..end).collect())
 }
 
-/// Ids increase strictly; the parts follow the table and each other without a
-/// gap; the last, or with none the data, ends with the stream.
-fn side_table_holds(stream: &[u8], header: &Header) -> bool {
+/// The ids of the side parts, or nothing if the side table breaks a rule: ids
+/// increase strictly; the parts follow the table and each other without a gap;
+/// the last, or with none the data, ends with the stream.
+fn side_ids(stream: &[u8], header: &Header) -> Option<Vec<u32>> {
     let mut next_place = header.data_end + SIDE_ENTRY_BYTES * header.sides;
-    let mut last_id = None;
+    let mut ids: Vec<u32> = Vec::new();
     for side in 0..header.sides {
         let entry = header.data_end + SIDE_ENTRY_BYTES * side;
-        let (Some(id), Some(place), Some(length)) =
-            (number_at(stream, entry), number_at(stream, entry + 4), number_at(stream, entry + 8))
-        else {
-            return false; // the table runs past the bytes
-        };
-        if last_id.is_some_and(|last| id <= last) || place as u64 != next_place {
-            return false;
+        // Nothing where the table runs past the bytes.
+        let id = number_at(stream, entry)?;
+        let place = number_at(stream, entry + 4)?;
+        let length = number_at(stream, entry + 8)?;
+        if ids.last().is_some_and(|&last| id <= last) || place as u64 != next_place {
+            return None;
         }
-        last_id = Some(id);
+        ids.push(id);
         next_place += length as u64;
     }
-    next_place == stream.len() as u64
+    (next_place == stream.len() as u64).then_some(ids)
 }
 
 // -------------------------------------------------------- the chunks, 10
@@ -448,7 +468,7 @@ fn codes_of_group(bytes: &[u8], count: usize, width: Width) -> Option<(Vec<u64>,
 // ------------------------------------------------ check, unpack and probe
 
 /// A whole stream's header and chunk stretches, every rule checked. Order
-/// 1 5 6 7 8 9 10.
+/// 1 5 6 7 8 9 8 15 10.
 pub(crate) fn checked(level: u32, stream: &[u8]) -> Result<(Header, Vec<Range<u64>>), Refusal> {
     level_known(level)?;
     let header = read_header(level, stream)?;
@@ -465,7 +485,7 @@ pub fn check(level: u32, stream: &[u8]) -> Answer {
 }
 
 /// Writes the n values to the front of the output and answers n. Order
-/// 1 5 6 7 8 14 4 9 10. The output is written only once nothing can be
+/// 1 5 6 7 8 14 4 9 8 15 10. The output is written only once nothing can be
 /// refused any more.
 pub fn unpack<P: Pattern>(level: u32, stream: &[u8], output: &mut [P]) -> Answer {
     level_known(level)?;
@@ -487,8 +507,8 @@ pub fn unpack<P: Pattern>(level: u32, stream: &[u8], output: &mut [P]) -> Answer
     Ok(header.n)
 }
 
-/// One value by index. Order 1 5 6 7 8 14 11 9 10, the last for the index's
-/// own chunk only.
+/// One value by index. Order 1 5 6 7 8 14 11 9 8 15 10, the last for the
+/// index's own chunk only.
 pub fn probe<P: Pattern>(level: u32, stream: &[u8], index: u64) -> Probed<P> {
     match pattern_at(level, stream, index, P::WIDTH) {
         Ok(pattern) => told_apart(pattern),

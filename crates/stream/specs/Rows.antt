@@ -1,5 +1,5 @@
 -- Document 01, "Refusal numbers" and "Order". A row is a line of that table, in its columns' order: the number, whether it is given, and
--- its detail. An operation is a list of rows, in the order in which document 01 lists its numbers, and the first row that is given decides.
+-- its detail. An operation is a list of rows, in the order in which documents 01 and 02 list its numbers, and the first row that is given decides.
 -- A later row may speak of bytes that an earlier one refused: every definition is total, and then it does not count.
 use mathlib.Core.Path.{_≡_}
 use Prim.Native.Nat.{ℕ, zero, suc}

@@ -1,4 +1,5 @@
--- Document 01, "The stream": the chunk table and the side table, which are refusal 9. All sums are of natural numbers: none wraps.
+-- Document 01, "The stream": the chunk table and the side table, which are refusal 9, and the ids that the late 8 and 15 look at. All sums are of natural
+-- numbers: none wraps.
 use Prim.Native.Nat.{ℕ, zero, suc, _+_, _-_, _*_}
 use mathlib.Core.Bool.{Bool, true, _&&_, cond}
 use mathlib.Core.List.{List, [], _∷_}

@@ -79,11 +79,41 @@ faults! {
     /// Any k is read in mode 2.
     any_k_read,
 
+    // The need, and ids that must be understood.
+    /// Level 12 is not known.
+    level_12_unknown,
+    /// The need is compared for equality with the other header rules.
+    need_exact_in_header,
+    /// The need is compared for equality before the tables.
+    order_late_8_before_9,
+    /// The need is not compared for equality.
+    late_need_ignored,
+    /// A need of 12 is read without a high id.
+    need_12_without_high_id,
+    /// A high id needs 11.
+    high_id_needs_11,
+    /// A high id is refused 15 where the need is too small, too.
+    small_need_is_15,
+    /// The id 2^31 may be skipped.
+    id_2_31_skipped,
+    /// All ids may be skipped, as before there were high ones.
+    high_ids_skipped,
+    /// Probe skips all side parts where the need is right.
+    probe_skips_high_ids,
+    /// Refusal 15 has the last high id as its detail.
+    last_high_id_told,
+    /// Refusal 15 has detail 0.
+    detail_of_15,
+    /// A high id is refused before the tables.
+    order_15_before_9,
+    /// The chunks are refused before a high id.
+    order_10_before_15,
+
     // Pack and length.
     /// Refusal 4 has the room as its detail.
     detail_of_4,
-    /// The written minor is 11 at any level.
-    written_is_11,
+    /// The written minor is the highest level at any level.
+    written_is_highest,
     /// The needed minor is the level.
     need_is_level,
     /// 1,048,576 values are refused.
@@ -94,11 +124,11 @@ faults! {
     order_4_before_3,
 
     // Reading.
-    /// Level 12 is known.
-    level_12_known,
-    /// A need of 10 or 11 counts as its last digit.
+    /// Level 13 is known.
+    level_13_known,
+    /// A need of 10, 11 or 12 counts as its last digit.
     minor_by_last_digit,
-    /// A written minor above 11 is refused 8.
+    /// A written minor above the highest level is refused 8.
     written_limited,
     /// Padding bits are not looked at.
     padding_ignored,

@@ -6,6 +6,7 @@ mod codes;
 mod differences;
 mod faults;
 mod naming;
+mod needs;
 mod packing;
 mod reading;
 

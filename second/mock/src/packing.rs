@@ -2,7 +2,7 @@
 
 use crate::faults::{planted, Fault};
 use crate::reading::numbers_of;
-use crate::{codes, differences, tolerance, Word};
+use crate::{codes, differences, needs, tolerance, Word};
 use second::numbers::{self, Tolerance};
 use second::stream::{self, HIGHEST_LEVEL};
 use second::{Answer, Refusal};
@@ -51,8 +51,7 @@ fn faced<P: Word>(level: u32, mode: u32, k: i32) -> (u32, i32) {
     let at_10 = planted(Fault::difference_packed_at_10) || differences::need(P::WIDTH) == 10;
     let level = match level {
         10 if mode == 2 && at_10 => 11,
-        12 if planted(Fault::level_12_known) => 11,
-        _ => level,
+        _ => needs::faced_level(level),
     };
     let any_k = planted(Fault::any_k_packed) && mode == 2;
     (level, if any_k { 0 } else { k })
@@ -87,7 +86,7 @@ pub fn pack<P: Word>(level: u32, mode: u32, k: i32, values: &[P], out: &mut [u8]
 
 /// What planted faults do to a packed stream and the room after it.
 fn touch_packed(level: u32, need: u32, out: &mut [u8], length: usize) {
-    out[4] = if planted(Fault::written_is_11) { 11 } else { level as u8 };
+    out[4] = if planted(Fault::written_is_highest) { HIGHEST_LEVEL as u8 } else { level as u8 };
     out[8] = if planted(Fault::need_is_level) { level as u8 } else { need as u8 };
     if planted(Fault::past_n_written) && out.len() > length {
         out[length] = 0;

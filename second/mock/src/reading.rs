@@ -4,7 +4,7 @@
 //! first; one that refuses otherwise, by changing the refusal afterwards.
 
 use crate::faults::{planted, Fault};
-use crate::{codes, differences, naming, Word};
+use crate::{codes, differences, naming, needs, Word};
 use second::numbers::{self, bit_length, Tolerance, Width};
 use second::stream::{self, Probed, HIGHEST_LEVEL};
 use second::{Answer, Refusal};
@@ -77,6 +77,7 @@ pub fn unpack<P: Word>(level: u32, stream: &[u8], out: &mut [P]) -> Answer {
 /// The answer with the pattern, or the refusal.
 pub fn probe<P: Word>(level: u32, stream: &[u8], index: u64) -> Result<(u64, u64), Refusal> {
     let (level, mended) = faced(level, stream);
+    let mended = needs::faced_by_probe(level, mended);
     let index = if planted(Fault::index_in_32_bits) { index as u32 as u64 } else { index };
     let answer = pattern_at::<P>(level, &mended, index).and_then(|pattern| {
         let pattern = match number(&mended, 4) {
@@ -157,7 +158,7 @@ fn changed(level: u32, stream: &[u8], answer: Answer) -> Answer {
             equal_starts(stream).map_or(refusal, |chunk| Refusal::with_detail(10, 32 * chunk))
         }
         10 => Refusal::with_detail(10, naming::named(stream, refusal.detail as usize) as u64),
-        _ => refusal,
+        _ => needs::changed(level, stream, refusal),
     };
     Err(changed)
 }
@@ -266,6 +267,7 @@ fn checked<P: Word>(level: u32, stream: &[u8]) -> Answer {
 /// Level and stream as a planted fault sees them.
 fn faced(level: u32, stream: &[u8]) -> (u32, Vec<u8>) {
     let (level, stream) = faced_header(faced_level(level, number(stream, 2)), stream);
+    let (level, stream) = needs::faced(level, stream);
     let mended = match stream::check(level, &stream).map_err(|refusal| refusal.number) {
         Err(9) => without_sides(&stream),
         Err(10) => rebuilt(&stream),
@@ -275,12 +277,16 @@ fn faced(level: u32, stream: &[u8]) -> (u32, Vec<u8>) {
 }
 
 fn faced_level(level: u32, need: u32) -> u32 {
-    let of_two_digits = (8..=11).contains(&level) && (10..=11).contains(&need);
-    match level {
-        12 if planted(Fault::level_12_known) => 11,
-        _ if planted(Fault::minor_by_last_digit) && of_two_digits => level.max(need),
-        _ => level,
+    let of_two_digits = is_known(level) && (10..=HIGHEST_LEVEL).contains(&need);
+    if planted(Fault::minor_by_last_digit) && of_two_digits {
+        level.max(need)
+    } else {
+        needs::faced_level(level)
     }
+}
+
+fn is_known(level: u32) -> bool {
+    (8..=HIGHEST_LEVEL).contains(&level)
 }
 
 /// Level and stream such that a mode 2 of another need, or of any k, is read.
@@ -294,12 +300,12 @@ fn faced_header(level: u32, stream: &[u8]) -> (u32, Vec<u8>) {
         put(&mut stream, 5, 0);
     }
     let (written, need) = (number(&stream, 1), number(&stream, 2));
-    let known = (8..=11).contains(&level) && need <= level;
+    let known = is_known(level) && need <= level;
     match need {
         10 if known && differences::need(width) == 10 => {
             put(&mut stream, 1, if written == 10 { 11 } else { written });
             put(&mut stream, 2, 11);
-            (11, stream)
+            (level.max(11), stream)
         }
         11 if known && differences::need(width) == 10 => {
             put(&mut stream, 2, 10);

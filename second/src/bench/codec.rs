@@ -6,11 +6,12 @@ use super::timing::Who;
 use crate::compare::operations::Operations;
 use crate::compare::outcome::answered;
 use crate::plain;
+use crate::stream::HIGHEST_LEVEL;
 use std::ops::Range;
 use std::slice::from_mut;
 
 /// All settings are allowed at the highest level.
-pub const LEVEL: u32 = 11;
+pub const LEVEL: u32 = HIGHEST_LEVEL;
 /// The tolerance of mode 1 is 2^K: about a millimetre per second.
 pub const K: i32 = -10;
 

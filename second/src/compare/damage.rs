@@ -28,8 +28,9 @@ fn doubles<const N: usize>(values: [f64; N]) -> [u64; N] {
     values.map(f64::to_bits)
 }
 
-/// Sound streams of at most some 150 bytes: every setting, no values, one
-/// group and more, one chunk and more, and side parts.
+/// Streams of at most some 150 bytes: every setting, no values, one group and
+/// more, one chunk and more, and side parts. All are sound, but that the last
+/// two have ids that must be understood.
 pub fn small_streams() -> Vec<Vec<u8>> {
     let below_threshold = f32::from_bits(0x4A7F_FFFF); // 4194303.75
     let mixed = singles([0.25, -0.75, below_threshold, f32::INFINITY, f32::NAN, -0.0]);
@@ -59,13 +60,17 @@ pub fn small_streams() -> Vec<Vec<u8>> {
         packed(WIDTH_32, 2, 0, &equal_but_last(70)),
         packed(WIDTH_64, 2, 0, &equal_but_last(1026)),
     ];
-    let sided = [(0, vec![]), (5, vec![1, 2, 3]), (u32::MAX, vec![])];
-    for plain in [0, 1, 8, 18] {
-        let mut stream = streams[plain].clone();
-        append_sides(&mut stream, &sided);
-        streams.push(stream);
-    }
+    let low = vec![(0, vec![]), (5, vec![1, 2, 3]), (FIRST_HIGH_ID - 1, vec![])];
+    let high = vec![(6, vec![4]), (FIRST_HIGH_ID, vec![]), (u32::MAX, vec![1, 2])];
+    let sided = [(0, &low), (1, &low), (8, &low), (18, &low), (0, &high), (18, &high)];
+    streams.extend(sided.map(|(plain, sides)| with_sides(&streams[plain], sides)));
     streams
+}
+
+fn with_sides(stream: &[u8], sides: &[Side]) -> Vec<u8> {
+    let mut stream = stream.to_vec();
+    append_sides(&mut stream, sides);
+    stream
 }
 
 /// The pattern 3 so many times, but for the last one.
@@ -75,23 +80,29 @@ fn equal_but_last(n: usize) -> Vec<u64> {
     patterns
 }
 
-/// A sound stream of any kind, now and then with side parts.
+/// A stream of any kind, now and then with side parts; sound, but for ids that
+/// must be understood.
 pub fn some_stream(rng: &mut XorShift) -> Vec<u8> {
     let (width, mode) = (rng.one_of(&WIDTHS), rng.below(3) as u32);
     let k = some_k_of_mode(rng, width, mode);
     let n = some_length(rng);
     let patterns = some_patterns_of_mode(rng, width, mode, k, n);
-    let mut stream = packed(width, mode, k, &patterns);
+    let stream = packed(width, mode, k, &patterns);
     if rng.chance(3) {
-        append_sides(&mut stream, &some_sides(rng));
+        with_sides(&stream, &some_sides(rng))
+    } else {
+        stream
     }
-    stream
 }
 
-/// Sound side parts: few or 64, many of them empty.
+/// Well-formed side parts: few or 64, many of them empty, now and then with
+/// ids that must be understood, after others or alone.
 pub fn some_sides(rng: &mut XorShift) -> Vec<Side> {
     let count = rng.one_of(&[1, 1, 2, 3, 5, 64]);
-    let mut id = rng.below(3) as u32;
+    let small = rng.below(3) as u32;
+    let below_high = FIRST_HIGH_ID - 1 - rng.below(1 << 21) as u32;
+    let high = FIRST_HIGH_ID + rng.below(1 << 30) as u32;
+    let mut id = rng.one_of(&[small, small, small, small, below_high, FIRST_HIGH_ID - 1, high]);
     let mut sides = Vec::new();
     for _ in 0..count {
         sides.push((id, vec![0xEE; rng.below(4) as usize]));
@@ -111,7 +122,7 @@ pub fn bytes_altered(judge: &mut Judge, rng: &mut XorShift, extent: Extent) {
                 stream[place] = other;
                 read(judge, HIGHEST_LEVEL, &stream);
                 if (4..12).contains(&place) {
-                    read_at_levels(judge, &[8, 9, 10], &stream);
+                    read_at_levels(judge, &[8, 9, 10, 11], &stream);
                 }
             }
             stream[place] = byte;
@@ -167,7 +178,7 @@ pub fn cuts_and_additions(judge: &mut Judge, rng: &mut XorShift, extent: Extent)
 /// Every header number of the small streams set to many others, read at every
 /// level.
 pub fn header_numbers(judge: &mut Judge, _: &mut XorShift, extent: Extent) {
-    let levels: &[u32] = if extent == Extent::Quick { &[11] } else { &[8, 9, 10, 11] };
+    let levels: &[u32] = if extent == Extent::Quick { &[HIGHEST_LEVEL] } else { &LEVELS };
     for stream in small_streams() {
         for order in MAJOR..=DATA_END {
             for number in other_numbers(&stream, order) {
@@ -187,8 +198,8 @@ fn other_numbers(stream: &[u8], order: usize) -> Vec<u32> {
     let length = stream.len() as u32;
     #[rustfmt::skip]
     let mut numbers = vec![
-        0, 1, 2, 3, 7, 8, 9, 10, 11, 12, 31, 32, 33, 47, 48, 49, 63, 64, 65, 100, 108, 256, 257, 1023,
-        1024, 1025, 1 << 20, (1 << 20) + 1, 1 << 30, 1 << 31, u32::MAX - 1023, u32::MAX,
+        0, 1, 2, 3, 7, 8, 9, 10, 11, 12, 13, 31, 32, 33, 47, 48, 49, 63, 64, 65, 100, 108, 256, 257,
+        1023, 1024, 1025, 1 << 20, (1 << 20) + 1, 1 << 30, 1 << 31, u32::MAX - 1023, u32::MAX,
         length - 1, length, length + 1,
     ];
     for step in [1, 2, 4, 12, 256, 1 << 16, 1 << 24, 1 << 30, 1 << 31] {
@@ -211,7 +222,7 @@ fn other_settings(judge: &mut Judge, stream: &[u8]) {
         for (mode, k) in MODES.into_iter().chain(others) {
             let numbers =
                 [(WIDTH, width.bits()), (MODE, mode), (K, k as u32), (NEEDED, need(width, mode))];
-            read_at_levels(judge, &[8, 9, 10, 11], &with(stream, &numbers));
+            read_at_levels(judge, &LEVELS, &with(stream, &numbers));
         }
     }
 }
@@ -226,7 +237,7 @@ pub fn several_header_numbers(judge: &mut Judge, rng: &mut XorShift, extent: Ext
             let number = some_number(rng, &stream, order);
             put(&mut stream, order, number);
         }
-        let level = rng.one_of(&[8, 9, 10, 11, 11, 11]);
+        let level = rng.one_of(&[8, 9, 10, 11, 12, 12, 12]);
         read(judge, level, &stream);
     }
 }
@@ -235,7 +246,7 @@ pub fn several_header_numbers(judge: &mut Judge, rng: &mut XorShift, extent: Ext
 fn some_number(rng: &mut XorShift, stream: &[u8], order: usize) -> u32 {
     let likely: &[u32] = match order {
         MAJOR => &[1],
-        WRITTEN | NEEDED => &[7, 8, 9, 10, 11, 12],
+        WRITTEN | NEEDED => &[7, 8, 9, 10, 11, 12, 13],
         WIDTH => &[32, 64],
         MODE => &[0, 1, 2, 3],
         K => &[0, -2i32 as u32, -150i32 as u32, 103, 970, -1075i32 as u32],
@@ -256,7 +267,7 @@ fn some_number(rng: &mut XorShift, stream: &[u8], order: usize) -> u32 {
 pub fn random_damage(judge: &mut Judge, rng: &mut XorShift, extent: Extent) {
     for _ in 0..extent.rounds(12_000) {
         let stream = damaged_stream(rng);
-        let level = rng.one_of(&[11, 11, 11, 11, 10, 9, 8, 7, 12]);
+        let level = rng.one_of(&[12, 12, 12, 12, 12, 11, 10, 9, 8, 7, 13]);
         read(judge, level, &stream);
     }
 }

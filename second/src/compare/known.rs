@@ -5,7 +5,7 @@ use super::call::{Call, List};
 use super::judge::Judge;
 use super::outcome::refused;
 use super::random::XorShift;
-use super::streams::{bytes_of, stream_of_codes};
+use super::streams::{bytes_of, stream_of_codes, LEVELS};
 use super::Extent;
 use crate::numbers::{Width, WIDTH_32, WIDTH_64};
 use crate::stream::HIGHEST_LEVEL;
@@ -89,6 +89,7 @@ pub fn known_values(judge: &mut Judge, _: &mut XorShift, _: Extent) {
     differences(judge, WIDTH_32, &DIFFERENCES_32);
     differences(judge, WIDTH_64, &DIFFERENCES_64);
     example_of_differences(judge);
+    example_of_high_ids(judge);
 }
 
 fn lossless_codes(judge: &mut Judge) {
@@ -158,7 +159,7 @@ fn difference_levels(judge: &mut Judge, width: Width) {
     let list = List::of(width, [5, 7]);
     let values = list.values();
     for (level, k, number) in
-        [(7, 0, 1), (8, 0, 2), (9, 0, 2), (10, 0, 2), (11, 1, 2), (11, -2, 2), (12, 0, 1)]
+        [(7, 0, 1), (8, 0, 2), (9, 0, 2), (10, 0, 2), (11, 1, 2), (12, -2, 2), (13, 0, 1)]
     {
         let refusal = refused(Refusal::bare(number));
         judge.compare_known(Call::Length { level, mode: 2, k, values }, refusal, &[]);
@@ -170,6 +171,27 @@ fn difference_levels(judge: &mut Judge, width: Width) {
         judge.compare_known(Call::Check { level, stream }, refusal, &[]);
         judge.compare_known(Call::Unpack { width, level, stream, room: 2 }, refusal, &[]);
         judge.compare_known(Call::Probe { width, level, stream, index: 0 }, refusal, &[]);
+    }
+}
+
+/// The example with two empty side parts that must be understood after one that
+/// may be skipped, at each level with each need.
+fn example_of_high_ids(judge: &mut Judge) {
+    for needed in LEVELS {
+        let mut stream = bytes_of(&[1, 12, needed, 32, 0, 0, 3, 1, 48, 52, 3, 55, 0]);
+        stream.extend([0x03, 0x10, 0x01]);
+        stream.extend(bytes_of(&[0x7FFF_FFFF, 91, 0, 0x8000_0000, 91, 0, 0x8000_0001, 91, 0]));
+        for level in LEVELS {
+            let refusal = refused(match needed {
+                _ if needed > level => Refusal::with_detail(7, needed as u64),
+                12 => Refusal::with_detail(15, 0x8000_0000),
+                _ => Refusal::bare(8),
+            });
+            let (stream, width) = (&stream, WIDTH_32);
+            judge.compare_known(Call::Check { level, stream }, refusal, &[]);
+            judge.compare_known(Call::Unpack { width, level, stream, room: 3 }, refusal, &[]);
+            judge.compare_known(Call::Probe { width, level, stream, index: 2 }, refusal, &[]);
+        }
     }
 }
 

@@ -1,7 +1,9 @@
 //! Inputs for the listing program: sound streams, their cuts, damaged ones,
-//! one for each bad group, and some about as long as a listing takes.
+//! one for each bad group, some with right and with wrong needs, and some about
+//! as long as a listing takes.
 
 use super::damage::{damaged_stream, small_streams, some_stream};
+use super::needs::streams_with_needs;
 use super::places::streams_with_bad_group;
 use super::random::XorShift;
 use super::streams::append_sides;
@@ -24,6 +26,7 @@ pub fn inputs(seed: u64, extent: Extent) -> Vec<Vec<u8>> {
         inputs.push(damaged_stream(&mut rng));
     }
     inputs.extend(streams_with_bad_group());
+    inputs.extend(streams_with_needs());
     inputs
 }
 

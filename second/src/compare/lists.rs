@@ -6,7 +6,7 @@ use super::judge::Judge;
 use super::random::{allowed_k, some_length, XorShift, WIDTHS};
 use super::readings::{probe_at, read, read_at_levels};
 use super::rules::edge_patterns;
-use super::streams::{bytes_of, need, MODES};
+use super::streams::{bytes_of, need, LEVELS, MODES};
 use super::walks::{some_k_of_mode, some_patterns_of_mode};
 use super::{reference, Extent};
 use crate::numbers::Width;
@@ -87,7 +87,7 @@ pub fn settings(judge: &mut Judge, rng: &mut XorShift, _: Extent) {
 
 /// Every mode at every level that there is: refused 2 below its need.
 fn needs(judge: &mut Judge, rng: &mut XorShift) {
-    for level in 8..=HIGHEST_LEVEL {
+    for level in LEVELS {
         for width in WIDTHS {
             for (mode, k) in MODES {
                 let setting = Setting { width, level, mode, k };
@@ -144,9 +144,9 @@ fn there_and_back(judge: &mut Judge, rng: &mut XorShift, setting: Setting, list:
         return;
     };
     if list.values().count() <= 70 {
-        read_at_levels(judge, &[7, 8, 9, 10, 11, 12], &stream);
+        read_at_levels(judge, &[7, 8, 9, 10, 11, 12, 13], &stream);
     } else {
-        let other = rng.one_of(&[7, 8, 9, 10, 12, 20, 1 << 31, u32::MAX]);
+        let other = rng.one_of(&[7, 8, 9, 10, 11, 13, 20, 1 << 31, u32::MAX]);
         read_at_levels(judge, &[HIGHEST_LEVEL, other], &stream);
     }
     let n = list.values().count() as u64;

@@ -8,7 +8,7 @@
 //! * [`random`]: the seeded generator of patterns and lists; [`walks`]: lists
 //!   that suit mode 2.
 //! * `known`, `rules`, `lists`, `orders`, `damage`, `tables`, `groups`,
-//!   `places`, `differences`: the sections, each a source of calls.
+//!   `places`, `differences`, `needs`: the sections, each a source of calls.
 //! * [`listings`]: the inputs for the listing program, which is run apart.
 
 pub mod call;
@@ -26,6 +26,7 @@ mod damage;
 mod differences;
 mod groups;
 mod lists;
+mod needs;
 mod orders;
 mod places;
 mod readings;
@@ -68,7 +69,7 @@ pub struct Options {
 
 type Section = (&'static str, fn(&mut Judge, &mut XorShift, Extent));
 
-const SECTIONS: [Section; 23] = [
+const SECTIONS: [Section; 24] = [
     ("known values", known::known_values),
     ("lossless codes", rules::lossless_codes),
     ("tolerance codes", rules::tolerance_codes),
@@ -92,14 +93,16 @@ const SECTIONS: [Section; 23] = [
     ("random damage", damage::random_damage),
     ("the first bad group", places::places),
     ("differences", differences::differences),
+    ("needs and high ids", needs::needs),
 ];
 
-const BRIEF_SECTIONS: [Section; 5] = [
+const BRIEF_SECTIONS: [Section; 6] = [
     ("lists for every k", lists::every_k),
     ("random lists", lists::random_lists),
     ("random damage", damage::random_damage),
     ("the first bad group", places::places),
     ("differences", differences::differences),
+    ("needs and high ids", needs::needs),
 ];
 
 /// Runs every section and writes what was compared; answers whether nothing
@@ -110,7 +113,7 @@ pub fn run(options: &Options, library: Library, out: &mut dyn Write) -> bool {
     judge.finish()
 }
 
-/// Puts some 130,000 calls with random lists and damaged streams to an
+/// Puts some 190,000 calls with random lists and damaged streams to an
 /// implementation of the operations, in a second or two; writes how it differs
 /// from the reference, and answers whether it never does.
 pub fn run_briefly(library: Library, out: &mut dyn Write) -> bool {

@@ -26,7 +26,7 @@ type PackingBreak = (u32, fn(&mut Packing));
 /// Each breaks the rule of the refusal with its number, in the order of pack.
 const PACKING_BREAKS: [PackingBreak; 17] = [
     (1, |packing| packing.level = 7),
-    (1, |packing| packing.level = 12),
+    (1, |packing| packing.level = 13),
     (1, |packing| packing.level = 0),
     (1, |packing| packing.level = u32::MAX),
     (2, |packing| packing.mode = 3),
@@ -91,12 +91,27 @@ struct Reading {
     index: u64,
 }
 
-type ReadingBreak = (u32, fn(&mut Reading));
+/// A rule of the readers, by the number of its refusal. The late use of 8, after
+/// the tables, has a number of its own here.
+type Rule = u32;
 
-/// Each breaks one rule of the refusal with its number in a sound reading.
-const READING_BREAKS: [ReadingBreak; 55] = [
+const LATE_8: Rule = 208;
+
+fn refusal_of(rule: Rule) -> u32 {
+    if rule == LATE_8 {
+        8
+    } else {
+        rule
+    }
+}
+
+type ReadingBreak = (Rule, fn(&mut Reading));
+
+/// Each breaks one rule in a sound reading, or in one whose later rules are
+/// broken.
+const READING_BREAKS: [ReadingBreak; 61] = [
     (1, |r| r.level = 7),
-    (1, |r| r.level = 12),
+    (1, |r| r.level = 13),
     (1, |r| r.level = 0),
     (1, |r| r.level = u32::MAX),
     (5, |r| r.stream.truncate(47)),
@@ -106,15 +121,21 @@ const READING_BREAKS: [ReadingBreak; 55] = [
     (6, |r| put(&mut r.stream, MAJOR, 2)),
     (6, |r| put(&mut r.stream, MAJOR, 257)),
     (6, |r| put(&mut r.stream, MAJOR, (1 << 31) + 1)),
-    (7, |r| put(&mut r.stream, NEEDED, 12)),
+    (7, |r| put(&mut r.stream, NEEDED, 13)),
     (7, |r| put(&mut r.stream, NEEDED, 100)),
     (7, |r| put(&mut r.stream, NEEDED, u32::MAX)),
     (7, |r| {
         r.level = 10;
         put(&mut r.stream, NEEDED, 11);
     }),
-    (8, |r| add(&mut r.stream, NEEDED, u32::MAX)), // one less
-    (8, |r| put_other(&mut r.stream, NEEDED, [11, 10])),
+    (7, |r| {
+        r.level = 11;
+        put(&mut r.stream, NEEDED, 12);
+    }),
+    (8, |r| {
+        let need = need_of_setting(&r.stream);
+        put(&mut r.stream, NEEDED, need - 1);
+    }),
     (8, |r| put(&mut r.stream, NEEDED, 7)),
     (8, |r| put(&mut r.stream, NEEDED, 0)),
     (8, |r| {
@@ -128,8 +149,8 @@ const READING_BREAKS: [ReadingBreak; 55] = [
     (8, |r| put(&mut r.stream, WIDTH, 96)),
     (8, |r| put(&mut r.stream, MODE, 3)),
     (8, |r| put(&mut r.stream, MODE, u32::MAX)),
-    // The need is then not that of the mode.
-    (8, |r| put_other(&mut r.stream, MODE, [2, 0])),
+    // The need is then below that of the mode.
+    (8, |r| r.stream = with(&r.stream, &[(NEEDED, 10), (MODE, 2), (K, 0)])),
     (8, |r| r.stream = with(&r.stream, &[(NEEDED, 11), (MODE, 2), (K, 1)])),
     (8, |r| put(&mut r.stream, K, 971)),
     (8, |r| put(&mut r.stream, K, -1076i32 as u32)),
@@ -151,6 +172,16 @@ const READING_BREAKS: [ReadingBreak; 55] = [
     (9, |r| put(&mut r.stream, STARTS, u32::MAX)),
     (9, |r| r.stream.push(0)),
     (9, |r| add(&mut r.stream, DATA_END, u32::MAX)), // one byte earlier
+    // A need above the setting's without a high id, or below 12 with one.
+    (LATE_8, |r| put_other(&mut r.stream, NEEDED, [12, 11])),
+    (LATE_8, |r| put_high_id(&mut r.stream, FIRST_HIGH_ID, 11)),
+    (LATE_8, |r| {
+        let need = need_of_setting(&r.stream);
+        put_high_id(&mut r.stream, u32::MAX, need);
+    }),
+    (15, |r| put_high_id(&mut r.stream, FIRST_HIGH_ID, 12)),
+    (15, |r| put_high_id(&mut r.stream, FIRST_HIGH_ID + 1, 12)),
+    (15, |r| put_high_id(&mut r.stream, u32::MAX, 12)),
     (10, |r| put_width_byte(&mut r.stream, FIRST_GROUP, 255)),
     (10, |r| put_width_byte(&mut r.stream, FIRST_GROUP, 65)),
     (10, |r| put_width_byte(&mut r.stream, FIRST_GROUP, 0)),
@@ -175,6 +206,23 @@ fn put_other(stream: &mut [u8], order: usize, [first, second]: [u32; 2]) {
     put(stream, order, if stands { second } else { first });
 }
 
+/// What width and mode of the stream need.
+fn need_of_setting(stream: &[u8]) -> u32 {
+    let number = |order| number_at(stream, order).unwrap_or(0);
+    let width = if number(WIDTH) == 64 { WIDTH_64 } else { WIDTH_32 };
+    need(width, number(MODE))
+}
+
+/// Makes the last side part, or a new one, one that must be understood, and
+/// puts the need.
+fn put_high_id(stream: &mut Vec<u8>, id: u32, need: u32) {
+    match number_at(stream, SIDES).zip(number_at(stream, DATA_END)) {
+        Some((sides @ 1.., table)) => put_at(stream, (table + 12 * (sides - 1)) as usize, id),
+        _ => append_sides(stream, &[(id, vec![])]),
+    }
+    put(stream, NEEDED, need);
+}
+
 fn other(width: Width) -> Width {
     if width == WIDTH_32 {
         WIDTH_64
@@ -192,21 +240,21 @@ fn put_width_byte(stream: &mut [u8], group: usize, w: u8) {
 
 /// A reader, its order of refusals, and its call.
 struct Reader {
-    order: &'static [u32],
+    order: &'static [Rule],
     call: fn(&Reading) -> Call,
 }
 
 const READERS: [Reader; 3] = [
     Reader {
-        order: &[1, 5, 6, 7, 8, 9, 10],
+        order: &[1, 5, 6, 7, 8, 9, LATE_8, 15, 10],
         call: |r| Call::Check { level: r.level, stream: &r.stream },
     },
     Reader {
-        order: &[1, 5, 6, 7, 8, 14, 4, 9, 10],
+        order: &[1, 5, 6, 7, 8, 14, 4, 9, LATE_8, 15, 10],
         call: |r| Call::Unpack { width: r.width, level: r.level, stream: &r.stream, room: r.room },
     },
     Reader {
-        order: &[1, 5, 6, 7, 8, 14, 11, 9, 10],
+        order: &[1, 5, 6, 7, 8, 14, 11, 9, LATE_8, 15, 10],
         call: |r| Call::Probe { width: r.width, level: r.level, stream: &r.stream, index: r.index },
     },
 ];
@@ -215,7 +263,7 @@ impl Reader {
     /// The breaks this reader can meet, each with its rank in the order.
     fn breaks(&self) -> impl Iterator<Item = (usize, ReadingBreak)> + '_ {
         READING_BREAKS.into_iter().filter_map(|broken| {
-            let rank = self.order.iter().position(|&number| number == broken.0)?;
+            let rank = self.order.iter().position(|&rule| rule == broken.0)?;
             Some((rank, broken))
         })
     }
@@ -228,11 +276,11 @@ pub fn reading(judge: &mut Judge, _: &mut XorShift, _: Extent) {
             for (rank, (later, second)) in reader.breaks() {
                 let mut once = sound.clone();
                 second(&mut once);
-                judge.compare_meant((reader.call)(&once), later);
+                judge.compare_meant((reader.call)(&once), refusal_of(later));
                 for (_, (earlier, first)) in reader.breaks().filter(|b| b.0 < rank) {
                     let mut twice = once.clone();
                     first(&mut twice);
-                    judge.compare_meant((reader.call)(&twice), earlier);
+                    judge.compare_meant((reader.call)(&twice), refusal_of(earlier));
                 }
             }
         }

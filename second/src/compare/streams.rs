@@ -59,7 +59,15 @@ pub fn stated_count(stream: &[u8]) -> u64 {
 /// Every mode, with a k that is allowed in it.
 pub const MODES: [(u32, i32); 3] = [(0, 0), (1, -2), (2, 0)];
 
-/// Mode 2 needs 11; else width 64 needs 10; else mode 1 needs 9; else 8.
+/// Every level that is known.
+pub const LEVELS: [u32; 5] = [8, 9, 10, 11, 12];
+
+/// The first id that must be understood, and what such ids need.
+pub const FIRST_HIGH_ID: u32 = 1 << 31;
+pub const NEED_OF_HIGH_ID: u32 = 12;
+
+/// The need of a stream without high ids. Mode 2 needs 11; else width 64 needs
+/// 10; else mode 1 needs 9; else 8.
 pub fn need(width: Width, mode: u32) -> u32 {
     match (width.bits(), mode) {
         (_, 2) => 11,
@@ -129,9 +137,12 @@ pub fn bytes_of(numbers: &[u32]) -> Vec<u8> {
 }
 
 /// Appends a sound side table and its parts to a stream that ends with its
-/// data, and puts their count in the header.
+/// data, and puts their count in the header, and their need if an id is high.
 pub fn append_sides(stream: &mut Vec<u8>, sides: &[Side]) {
     put(stream, SIDES, sides.len() as u32);
+    if sides.iter().any(|(id, _)| *id >= FIRST_HIGH_ID) {
+        put(stream, NEEDED, NEED_OF_HIGH_ID);
+    }
     let mut place = stream.len() + 12 * sides.len();
     for (id, bytes) in sides {
         stream.extend(bytes_of(&[*id, place as u32, bytes.len() as u32]));

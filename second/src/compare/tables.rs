@@ -92,22 +92,22 @@ fn empty_data(judge: &mut Judge) {
 // ------------------------------------------------------------ side parts
 
 /// A side table's entry: id, place, length.
-type Entry = [u32; 3];
+pub type Entry = [u32; 3];
 
 /// A stream followed by any side table and some bytes.
-fn sided(stream: &[u8], entries: &[Entry], bytes: usize) -> Vec<u8> {
+pub fn sided(stream: &[u8], entries: &[Entry], bytes: usize) -> Vec<u8> {
     let mut stream = with(stream, &[(SIDES, entries.len() as u32)]);
     stream.extend(bytes_of(&entries.concat()));
     stream.resize(stream.len() + bytes, 0xEE);
     stream
 }
 
-/// The entries of sound parts of these lengths, after a table that begins at
-/// a place.
-fn sound_entries(table: usize, lengths: &[u32]) -> Vec<Entry> {
+/// The entries of sound parts of these ids and lengths, after a table that
+/// begins at a place.
+pub fn sound_entries(table: usize, ids: impl Iterator<Item = u32>, lengths: &[u32]) -> Vec<Entry> {
     let mut place = (table + 12 * lengths.len()) as u32;
     let mut entries = Vec::new();
-    for (id, &length) in (3..).step_by(2).zip(lengths) {
+    for (id, &length) in ids.zip(lengths) {
         entries.push([id, place, length]);
         place += length;
     }
@@ -119,8 +119,12 @@ pub fn side_parts(judge: &mut Judge, rng: &mut XorShift, extent: Extent) {
     let streams = small_streams();
     let plain = streams.iter().filter(|stream| number_at(stream, SIDES) == Some(0));
     for stream in plain {
-        sound_parts(judge, stream);
-        altered_entries(judge, stream, extent);
+        let needing_12 = with(stream, &[(NEEDED, NEED_OF_HIGH_ID)]);
+        // The third id of the second is the first that must be understood.
+        for (stream, first_id) in [(stream, 3), (&needing_12, FIRST_HIGH_ID - 4)] {
+            sound_parts(judge, stream, first_id);
+            altered_entries(judge, stream, first_id, extent);
+        }
         sums_past_32_bits(judge, stream);
         for _ in 0..extent.rounds(60) {
             random_parts(judge, rng, stream);
@@ -128,13 +132,18 @@ pub fn side_parts(judge: &mut Judge, rng: &mut XorShift, extent: Extent) {
     }
 }
 
+/// Every second id from one on.
+fn every_second(first_id: u32) -> impl Iterator<Item = u32> {
+    (first_id..).step_by(2)
+}
+
 /// Sound parts: one, several, 64, empty ones; and 65, which are too many.
-fn sound_parts(judge: &mut Judge, stream: &[u8]) {
+fn sound_parts(judge: &mut Judge, stream: &[u8], first_id: u32) {
     let lists: [&[u32]; 9] =
         [&[0], &[5], &[0, 0], &[4, 5], &[0, 7, 0], &[1, 0, 0, 2], &[1; 63], &[2; 64], &[0; 65]];
     for lengths in lists {
         let bytes = lengths.iter().sum::<u32>() as usize;
-        let entries = sound_entries(stream.len(), lengths);
+        let entries = sound_entries(stream.len(), every_second(first_id), lengths);
         read(judge, HIGHEST_LEVEL, &sided(stream, &entries, bytes));
         // Some bytes too few, and too many.
         read(judge, HIGHEST_LEVEL, &sided(stream, &entries, bytes + 1));
@@ -144,8 +153,8 @@ fn sound_parts(judge: &mut Judge, stream: &[u8]) {
 
 /// Each number of a sound table altered: ids equal or falling, gaps, overlaps,
 /// parts past the end.
-fn altered_entries(judge: &mut Judge, stream: &[u8], extent: Extent) {
-    let sound = sound_entries(stream.len(), &[4, 0, 5]);
+fn altered_entries(judge: &mut Judge, stream: &[u8], first_id: u32, extent: Extent) {
+    let sound = sound_entries(stream.len(), every_second(first_id), &[4, 0, 5]);
     let steps: &[u32] = match extent {
         Extent::Quick => &[1, 2, u32::MAX - 1, u32::MAX],
         _ => &[1, 2, 4, 12, 1 << 16, 1 << 31, u32::MAX - 3, u32::MAX - 1, u32::MAX],
@@ -192,15 +201,20 @@ fn sums_past_32_bits(judge: &mut Judge, stream: &[u8]) {
     }
 }
 
-/// Sound random parts, and the same with one number of the table altered.
+/// Well-formed random parts, now and then with another need, and the same with
+/// one number of the table altered.
 fn random_parts(judge: &mut Judge, rng: &mut XorShift, stream: &[u8]) {
     let table = stream.len();
     let mut stream = stream.to_vec();
     let sides = some_sides(rng);
     append_sides(&mut stream, &sides);
+    if rng.chance(4) {
+        put(&mut stream, NEEDED, rng.one_of(&LEVELS));
+    }
     read(judge, HIGHEST_LEVEL, &stream);
     let place = table + 4 * rng.below(3 * sides.len() as u64) as usize;
-    let number = rng.one_of(&[0, 1, table as u32, u32::MAX]).wrapping_add(rng.below(8) as u32);
+    let number =
+        rng.one_of(&[0, 1, table as u32, 1 << 31, u32::MAX]).wrapping_add(rng.below(8) as u32);
     put_at(&mut stream, place, number);
     read(judge, HIGHEST_LEVEL, &stream);
 }

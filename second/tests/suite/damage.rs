@@ -76,7 +76,8 @@ fn canonical<P: Bits>(stream: &[u8], values: &[P]) {
         return;
     }
     let mut again = vec![0; stream.len()];
-    let answer = stream::pack(11, number(4), number(5) as i32, values, &mut again);
+    let level = stream::HIGHEST_LEVEL;
+    let answer = stream::pack(level, number(4), number(5) as i32, values, &mut again);
     assert_eq!(answer, Ok(stream.len() as u64));
     again[4..8].copy_from_slice(&stream[4..8]);
     assert!(again == stream);
@@ -99,7 +100,7 @@ fn judge_width<P: Bits>(rng: &mut XorShift, level: u32, stream: &[u8], seen: &mu
 
 /// Everything both implementations can say of a stream.
 fn judge(rng: &mut XorShift, stream: &[u8], seen: &mut Seen) {
-    let level = rng.one_of(&[11, 11, 11, 11, 10, 9, 8, 7, 12]);
+    let level = rng.one_of(&[12, 12, 12, 12, 11, 10, 9, 8, 7, 13]);
     let answer = stream::check(level, stream);
     assert_eq!(plain::check(level, stream), answer);
     note(seen, answer);
@@ -114,36 +115,43 @@ fn judge(rng: &mut XorShift, stream: &[u8], seen: &mut Seen) {
     }
 }
 
-/// A sound stream, now and then with side parts.
+/// A stream, now and then with side parts; sound, but for ids that must be
+/// understood.
 fn some_stream(rng: &mut XorShift) -> Vec<u8> {
     fn packed<P: Bits>(rng: &mut XorShift) -> Vec<u8> {
         let (mode, n) = (rng.below(3) as u32, some_length(rng));
         let k = if mode == 1 { some_k(rng, P::WIDTH) } else { 0 };
         let values: Vec<P> = some_list(rng, k, n);
         let mut stream = vec![0; 30_000];
-        let length = plain::pack(11, mode, k, &values, &mut stream).unwrap();
+        let length = plain::pack(12, mode, k, &values, &mut stream).unwrap();
         stream.truncate(length as usize);
         stream
     }
     let mut stream = if rng.chance(2) { packed::<u32>(rng) } else { packed::<u64>(rng) };
     if rng.chance(3) {
-        add_sides(rng, &mut stream);
+        let high = (1 << 31) - rng.below(9) as u32;
+        let first_id = rng.one_of(&[0, 0, high]);
+        add_sides(rng, first_id, &mut stream);
     }
     stream
 }
 
-fn add_sides(rng: &mut XorShift, stream: &mut Vec<u8>) {
+/// Adds well-formed side parts with ids above this one, and puts the need of
+/// high ones.
+fn add_sides(rng: &mut XorShift, mut id: u32, stream: &mut Vec<u8>) {
     let sides = rng.one_of(&[1, 2, 3, 64]);
     stream[40] = sides as u8;
     let lengths: Vec<u32> = (0..sides).map(|_| rng.below(4) as u32).collect();
     let mut place = stream.len() as u32 + 12 * sides as u32;
-    let mut id = 0;
     for length in &lengths {
         id += 1 + rng.below(9) as u32;
         for number in [id, place, *length] {
             stream.extend(number.to_le_bytes());
         }
         place += length;
+    }
+    if id >= 1 << 31 {
+        stream[8] = 12;
     }
     stream.resize(place as usize, 0xEE);
 }
@@ -218,7 +226,7 @@ fn damaged_streams() {
         }
         judge(rng, &stream, &mut seen);
     }
-    for number in [0, 1, 4, 5, 6, 7, 8, 9, 10, 14] {
+    for number in [0, 1, 4, 5, 6, 7, 8, 9, 10, 14, 15] {
         assert!(seen.get(&number).is_some_and(|&n| n >= 20), "{number}: {seen:?}");
     }
 }
@@ -235,10 +243,10 @@ fn every_bit_of_small_streams_flipped() {
         let mut stream = vec![0; 200];
         let length = if round % 6 < 3 {
             let values: Vec<u32> = some_list(rng, -2, n);
-            stream::pack(11, mode, k, &values, &mut stream)
+            stream::pack(12, mode, k, &values, &mut stream)
         } else {
             let values: Vec<u64> = some_list(rng, -2, n);
-            stream::pack(11, mode, k, &values, &mut stream)
+            stream::pack(12, mode, k, &values, &mut stream)
         };
         stream.truncate(length.unwrap() as usize);
         for bit in 0..8 * stream.len() {
@@ -260,7 +268,7 @@ fn every_cut_is_refused() {
         let length = stream::pack(10, 0, 0, &values, &mut stream).unwrap();
         stream.truncate(length as usize);
         if round % 2 == 1 {
-            add_sides(rng, &mut stream);
+            add_sides(rng, 0, &mut stream);
         }
         assert_eq!(stream::check(10, &stream), Ok(n as u64));
         let mut seen = Seen::new();

@@ -77,8 +77,8 @@ fn lists() {
 fn lists_a_later_minor_and_refuses_a_later_need() {
     let later = with_number(example(), 4, 4_000_000_000);
     assert!(listing(&later).starts_with("format 1.4000000000 needs 1.8\n"));
-    let needing = with_number(example(), 8, 12);
-    assert_eq!(listing(&needing), "refused 7 detail 12\n");
+    let needing = with_number(example(), 8, 13);
+    assert_eq!(listing(&needing), "refused 7 detail 13\n");
 }
 
 #[test]

@@ -8,6 +8,7 @@ mod differences;
 mod example;
 mod harness;
 mod known;
+mod needs;
 mod numbers;
 mod places;
 mod random;

@@ -4,7 +4,7 @@ use crate::random::*;
 use second::stream::{self, Probed};
 use second::{numbers, plain, Answer, Refusal};
 
-const LEVELS: [u32; 8] = [0, 7, 8, 9, 10, 11, 12, u32::MAX];
+const LEVELS: [u32; 9] = [0, 7, 8, 9, 10, 11, 12, 13, u32::MAX];
 const MARK: u8 = 0xA5;
 
 /// The need, stated again.
@@ -167,7 +167,7 @@ fn the_largest_lists() {
 #[test]
 fn pack_and_length_refuse_by_the_table() {
     fn expect<P: Bits>(level: u32, mode: u32, k: i32, n: usize) -> Option<u32> {
-        if ![8, 9, 10, 11].contains(&level) {
+        if ![8, 9, 10, 11, 12].contains(&level) {
             return Some(1);
         }
         let allowed = match mode {
@@ -254,7 +254,7 @@ fn readers_refuse_in_their_orders() {
             },
         ]
     };
-    assert_eq!(try_all(12, &bad[..47], 1100, 0), [1; 5]);
+    assert_eq!(try_all(13, &bad[..47], 1100, 0), [1; 5]);
     assert_eq!(try_all(10, &bad[..47], 1100, 0), [5; 5]);
     assert_eq!(try_all(10, &bad, 1100, 0), [6; 5]);
     set(&mut bad, 0, 1);
@@ -359,7 +359,8 @@ fn side_parts() {
     };
     let nine = Err((9, 0));
     assert_eq!(sided(&[[0, 67, 0]], 0), Ok(3));
-    assert_eq!(sided(&[[u32::MAX, 67, 4]], 4), Ok(3));
+    assert_eq!(sided(&[[(1 << 31) - 1, 67, 4]], 4), Ok(3));
+    assert_eq!(sided(&[[1 << 31, 67, 4]], 4), Err((8, 0))); // which needs 12
     assert_eq!(sided(&[[1, 79, 4], [2, 83, 5]], 9), Ok(3));
     assert_eq!(sided(&[[1, 79, 0], [2, 79, 0]], 0), Ok(3));
     assert_eq!(sided(&[[1, 79, 4], [1, 83, 5]], 9), nine); // ids equal
