@@ -3,7 +3,7 @@ use Rattle.stream.proofs.Law.Rows.Chunks.{tables-pass, tables-stop}
 use Rattle.stream.proofs.Law.Tables.Sides.{table-within}
 use Rattle.stream.proofs.Law.Plain.Truth.{and-right}
 use borrow.Author.Needs.{needs}
-use mathlib.Core.Path.{_≡_, sym, _∙_}
+use mathlib.Core.Path.{sym, _∙_}
 use Rattle.stream.proofs.tables.table_step.Statement.{statement}
 use Rattle.stream.proofs.tables.table_step.Tie as tie
 
