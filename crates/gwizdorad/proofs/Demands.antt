@@ -23,11 +23,11 @@ use Rattle.stream.specs.declared.answers.Answer.the-variants.{Done}
 use Rattle.stream.specs.declared.answers.Probe32.{Probe32}
 use Rattle.stream.specs.declared.answers.Probe64.{Probe64}
 use Rattle.stream.proofs.Readers.{check-order, unpack-order, probe-order, refused-check, refused-unpack, refused-probe32, refused-probe64, refused-untouched, written-values, probe-as-unpack32, probe-as-unpack64, check-higher, unpack-higher, probe-higher32, probe-higher64}
-use Rattle.stream.proofs.Written.{length-order, pack-order, refused-length, refused-pack, refused-pack-untouched, accepted-list, accepted-leaves, accepted-is-raised, the-need-as-it-was, length-is-answered, packed-length-bound, the-stream-is-packed, it-is-read, it-is-too-new, refused-by-7, refused-by-15, refused-by-8}
+use Rattle.stream.proofs.Written.{length-order, pack-order, refused-length, refused-pack, refused-pack-untouched, accepted-later, accepted-leaves, accepted-is-raised, the-minors-as-they-were, length-is-answered, packed-length-bound, the-stream-is-packed, it-is-read, it-is-too-new, refused-by-7, refused-by-15, refused-by-8}
 use Rattle.stream.proofs.Understood.{a-high-id-is-never-skipped}
 use Rattle.gwizdorad_numbers.proofs.Theorems.{a-refused-code-is-not-written, a-refused-pattern-is-not-written}
 use Rattle.gwizdorad.specs.Result.{probeOut32, probeOut64}
-use Rattle.gwizdorad.specs.Demands.{Demand1, ComesBack, Packed, Demand2, Offered, ReadBack, given-back, too-new, Demand3, Guarded, NotSkipped}
+use Rattle.gwizdorad.specs.Demands.{Demand1, ComesBack, Packed, Demand2, Offered, ReadBack, given-back, too-new, Demand3, Guarded, RightNeed, NotSkipped}
 use Rattle.gwizdorad.proofs.Theorems.{probe32-leaves-what-unpack-leaves, probe64-leaves-what-unpack-leaves}
 use Rattle.gwizdorad.proofs.Law.Demand.{coded-at, code-refused, pattern-refused, pattern-above, bound-detail, unknown-width, lossless-at, differences-at, within-at, bound-at, offered, is-sent, as-many, come-back}
 
@@ -116,33 +116,34 @@ demand-3 =
     }
 
 -- a stream that must be understood
-module _ (W level mode : ℕ) (k : ℤ) (vs : List ℕ) (parts : List Side) (needed : ℕ) (s : List ℕ) (width : knownWidth W ≡ true) (patterns : Below (2 ^ W) vs)
-    (g : Guarded W level mode k vs parts needed s) where
-  p : Packable W level mode k vs
-  p = accepted-list W level mode k vs (g .out) (g .size) (g .done) width patterns
+module _ (W level mode : ℕ) (k : ℤ) (vs : List ℕ) (parts : List Side) (written needed : ℕ) (s : List ℕ) (width : knownWidth W ≡ true) (patterns : Below (2 ^ W) vs)
+    (g : Guarded W level mode k vs parts written needed s) where
+  p : Packable W written mode k vs
+  p = accepted-later W level mode k vs (g .out) (g .size) (g .done) width patterns written (g .later) (g .minors .0)
 
-  sent : Sent level (settingOf W mode k) vs parts needed s
-  sent = rw (g .bytes) (accepted-is-raised W level mode k vs (g .out) (g .size) (g .done) parts (g .well-formed) needed (g .least) (g .reached))
+  sent : Sent written (settingOf W mode k) vs parts needed s
+  sent = rw (g .bytes) (accepted-is-raised W level mode k vs (g .out) (g .size) (g .done) parts (g .well-formed) written needed (g .minors .1))
 
   module _ (L : ℕ) (known : knownLevel L ≡ true) (back : List ℕ) (room : length vs ≤ length back) where
     older : L < needed → RefusedBy W L s back (length vs) 7 needed
-    older = refused-by-7 W level mode k vs p parts needed s sent L known back room
+    older = refused-by-7 W written mode k vs p parts needed s sent L known back room
 
-    newer : needed ≤ L → needed ≡ streamNeed (settingOf W mode k) true → RefusedBy W L s back (length vs) 15 (firstHigh (idsOf parts))
-    newer reaches right = refused-by-15 W level mode k vs p parts needed s sent L known back room reaches (g .high) right
+    newer : needed ≤ L → RightNeed W mode k written needed → RefusedBy W L s back (length vs) 15 (firstHigh (idsOf parts))
+    newer reaches right = refused-by-15 W written mode k vs p parts needed s sent L known back room reaches (g .high) (right .0) (right .1)
 
-    wrong : needed ≤ L → (needed ≡ streamNeed (settingOf W mode k) true → ⊥) → RefusedBy W L s back (length vs) 8 0
+    wrong : needed ≤ L → (RightNeed W mode k written needed → ⊥) → RefusedBy W L s back (length vs) 8 0
     wrong reaches other =
-        refused-by-8 W level mode k vs p parts needed s sent L known back room reaches (λ e. other (e ∙ ap (streamNeed (settingOf W mode k)) (g .high)))
+        refused-by-8 W written mode k vs p parts needed s sent L known back room reaches
+        (λ right. other (right .0 ∙ ap (streamNeed (settingOf W mode k)) (g .high), right .1))
 
 pub not-skipped : NotSkipped
 not-skipped =
     record {
-      packed = λ W level mode k vs parts needed s width patterns g L known back room. (
-        older W level mode k vs parts needed s width patterns g L known back room,
-        newer W level mode k vs parts needed s width patterns g L known back room,
-        wrong W level mode k vs parts needed s width patterns g L known back room,
+      packed = λ W level mode k vs parts written needed s width patterns g L known back room. (
+        older W level mode k vs parts written needed s width patterns g L known back room,
+        newer W level mode k vs parts written needed s width patterns g L known back room,
+        wrong W level mode k vs parts written needed s width patterns g L known back room,
       );
-      unraised = the-need-as-it-was;
+      unraised = the-minors-as-they-were;
       never = a-high-id-is-never-skipped;
     }

@@ -27,7 +27,7 @@ use Rattle.stream.specs.Setting.{knownLevel, knownWidth, fractionBits, lossless
 use Rattle.stream.specs.Rows.{Decides, numbersOf}
 use Rattle.stream.specs.Header.{headerOf, chunksIn}
 use Rattle.stream.specs.Tables.{idsIn}
-use Rattle.stream.specs.Writing.{stream, Side, addSides, idsOf, withNeed, WellFormedSides}
+use Rattle.stream.specs.Writing.{stream, Side, placed, addSides, idsOf, WellFormedSides}
 use Rattle.stream.specs.Probe.{shown32, shown64}
 use Rattle.stream.specs.Operations.{checkRows, checkAnswer, unpackRows, unpackAnswer, unpackOut, probeRows, probeAnswer32, probeAnswer64, lengthRows, lengthAnswer, packRows, packAnswer, packOut}
 use Rattle.stream.specs.Theorem.{Accepts, RefusedBy}
@@ -184,29 +184,34 @@ pub record Demand3 : Type 0 where
 -- ---- Document 02, R-4: a reader must never skip what it must understand. "Ids from 2^31 up now mean 'must be understood'. No such id is defined
 -- yet, so a reader that meets one refuses. A stream with such an id needs level 12, which older readers refuse by 7."
 
--- s is what pack has left of the values vs at a level, with these side parts added, of which some id is high, and with a needed minor in its place that the
--- setting and the level allow: 12, or the setting's need if that is greater (`streamNeed`), is the right one
-pub record Guarded (W level mode : ℕ) (k : ℤ) (vs : List ℕ) (parts : List Side) (needed : ℕ) (s : List ℕ) : Type 0 where
+-- s is what pack has left of the values vs, with these side parts added, of which some id is high, and with two minors put in their places: at 4 a written
+-- one that is not below the level of pack, and at 8 any needed one
+pub record Guarded (W level mode : ℕ) (k : ℤ) (vs : List ℕ) (parts : List Side) (written needed : ℕ) (s : List ℕ) : Type 0 where
   pub out : List ℕ
   pub size : ℕ
   pub done : packAnswer W level mode k vs (length out) ≡ Done size
   pub well-formed : WellFormedSides (size + 12 * length parts) parts
   pub high : someHigh (idsOf parts) ≡ true
-  pub least : need (settingOf W mode k) ≤ needed
-  pub reached : needed ≤ level
-  pub bytes : s ≡ withNeed needed (addSides (take size (packOut W level mode k vs out)) parts)
+  pub later : level ≤ written
+  pub minors : (written < 2 ^ 32) × (needed < 2 ^ 32)
+  pub bytes : s ≡ placed 8 needed (placed 4 written (addSides (take size (packOut W level mode k vs out)) parts))
+
+-- the needed minor is the right one: 12, or the setting's need if that is greater (`streamNeed`), and not above the written one
+abbrev pub RightNeed : ℕ → ℕ → ℤ → ℕ → ℕ → Type 0
+RightNeed W mode k written needed = (needed ≡ streamNeed (settingOf W mode k) true) × (needed ≤ written)
 
 pub record NotSkipped : Type 0 where
   -- every level refuses such a stream, by check, unpack and probe alike (`RefusedBy`): by 7 with the needed minor below that, and from it on by 15 with the
   -- first high id, or, where the needed minor is not the right one, by 8
-  pub packed : (W level mode : ℕ) (k : ℤ) (vs : List ℕ) (parts : List Side) (needed : ℕ) (s : List ℕ) → knownWidth W ≡ true → Below (2 ^ W) vs
-      → Guarded W level mode k vs parts needed s
+  pub packed : (W level mode : ℕ) (k : ℤ) (vs : List ℕ) (parts : List Side) (written needed : ℕ) (s : List ℕ) → knownWidth W ≡ true → Below (2 ^ W) vs
+      → Guarded W level mode k vs parts written needed s
       → (L : ℕ) → knownLevel L ≡ true → (back : List ℕ) → length vs ≤ length back
       → (L < needed → RefusedBy W L s back (length vs) 7 needed)
-      × (needed ≤ L → needed ≡ streamNeed (settingOf W mode k) true → RefusedBy W L s back (length vs) 15 (firstHigh (idsOf parts)))
-      × (needed ≤ L → (needed ≡ streamNeed (settingOf W mode k) true → ⊥) → RefusedBy W L s back (length vs) 8 0)
-  -- who adds the parts alone leaves the setting's need in its place, so `packed` speaks of that stream too
+      × (needed ≤ L → RightNeed W mode k written needed → RefusedBy W L s back (length vs) 15 (firstHigh (idsOf parts)))
+      × (needed ≤ L → (RightNeed W mode k written needed → ⊥) → RefusedBy W L s back (length vs) 8 0)
+  -- who adds the parts alone leaves both minors as pack wrote them, so `packed` speaks of that stream too
   pub unraised : (W level mode : ℕ) (k : ℤ) (vs out : List ℕ) (size : ℕ) → packAnswer W level mode k vs (length out) ≡ Done size → (parts : List Side)
-      → withNeed (need (settingOf W mode k)) (addSides (take size (packOut W level mode k vs out)) parts) ≡ addSides (take size (packOut W level mode k vs out)) parts
+      → placed 8 (need (settingOf W mode k)) (placed 4 level (addSides (take size (packOut W level mode k vs out)) parts))
+      ≡ addSides (take size (packOut W level mode k vs out)) parts
   -- of any bytes with a high id, whatever else they are, no reader at any level hands out a value
   pub never : (L : ℕ) (s : List ℕ) → someHigh (idsIn (headerOf s) s) ≡ true → Accepts L s → ⊥

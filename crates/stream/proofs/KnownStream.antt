@@ -18,7 +18,7 @@ use Rattle.stream.specs.Rows.{rowsFrom, first, answer, after}
 use Rattle.stream.specs.Header.{word, headerOf, kOf, chunksIn, tooMany, needRight, settingRight, layoutRight}
 use Rattle.stream.specs.Tables.{every, startAt, startRight, chunkTableRight, sideId, sidePlace, sideLength, idFloor, partAt, entryRight, sideTableRight, idsFrom, idsIn}
 use Rattle.stream.specs.Stream.{joined, countOf, chunkOf, chunkState, chunkValues, valuesIn, values}
-use Rattle.stream.specs.Writing.{spell, piece, pieceBytes, dataOf, startsOf, headerNumbers, endOf, body, stream, Side, entries, parts, addSides, withNeed}
+use Rattle.stream.specs.Writing.{spell, piece, pieceBytes, dataOf, startsOf, headerNumbers, endOf, body, stream, Side, entries, parts, placed, addSides}
 use Rattle.stream.specs.Probe.{probed32}
 use Rattle.stream.specs.Operations.{headerRows, openingRows, needRow, idRow, sideRows, tableRows, faultDetail, faultRow, chunkRow, chunkRows, contentRows, widthRow, checkRows, checkAnswer, roomRow, unpackRows, unpackAnswer, unpackOut, indexRow, ownRows, probeRows, probeAnswer32}
 use Rattle.stream.specs.declared.answers.Answer.{Answer}
@@ -94,12 +94,12 @@ pub high-id-checked : map checkedAll (withIds 12 0x8000_0000 ∷ withIds 8 0x800
 unfolding size signedView folded bitsOf number digits bytesFor largest widthOf givenWidth groupLength groupNumber groupCodes within goodGroup highestLevel knownLevel knownWidth fractionBits widthNeed modeNeed need highId someHigh streamNeed losslessMode isZero allowedSetting binFor groupSize limitOf groupsIn firstFault chunkAnswer first answer word headerOf kOf chunksIn tooMany needRight settingRight layoutRight every startAt startRight chunkTableRight sideId sidePlace sideLength idFloor partAt entryRight sideTableRight idsFrom idsIn countOf chunkOf chunkState spell headerRows openingRows needRow idRow sideRows tableRows faultDetail faultRow rowsFrom chunkRow chunkRows contentRows checkRows checkAnswer checkedAll withIds
 high-id-checked = refl
 
--- that is what pack at level 12 has written, with the parts added and the need put in its place
+-- that is what pack at level 8 has written, with the parts added and both minors raised
 twoParts : List Side
 twoParts = record { id = 7; bytes = 1 ∷ 2 ∷ [] } ∷ record { id = 0x8000_0000; bytes = 3 ∷ [] } ∷ []
 
-high-id-added : withNeed 12 (addSides (stream 12 (settingOf 32 0 (pos 0)) threeValues) twoParts) ≡ withIds 12 0x8000_0000
-unfolding size signedView folded bitsOf rotated field minus lowered stepped losslessCode number digits bytesFor largest widthOf packed groupBytes fractionBits widthNeed modeNeed need kBits binFor groupSize codeAt codesAfter groupsIn groupsBytes chunkBytes chunksIn joined spell piece pieceBytes dataOf startsOf headerNumbers endOf body stream threeValues withNeed addSides entries parts twoParts withIds
+high-id-added : placed 8 12 (placed 4 12 (addSides (stream 8 (settingOf 32 0 (pos 0)) threeValues) twoParts)) ≡ withIds 12 0x8000_0000
+unfolding size signedView folded bitsOf rotated field minus lowered stepped losslessCode number digits bytesFor largest widthOf packed groupBytes fractionBits widthNeed modeNeed need kBits binFor groupSize codeAt codesAfter groupsIn groupsBytes chunkBytes chunksIn joined spell piece pieceBytes dataOf startsOf headerNumbers endOf body stream threeValues placed addSides entries parts twoParts withIds
 high-id-added = refl
 
 -- a need above that of the stream, read by each reader at level 10: the other width, too little room, an index past the end, and then the need

@@ -2,11 +2,12 @@
 -- any width that document 01 knows. The proofs are citations of the laws in proofs/Law/. The words are those of specs/.
 use mathlib.Core.Path.{_≡_, refl, sym, ap, subst, _∙_}
 use mathlib.Core.Logic.{_⊎_, inl, inr, _↔_}
-use mathlib.Core.Bool.{true, false, not, cond}
+use mathlib.Core.Bool.{true, false, _&&_, cond}
 use mathlib.Core.List.{List, [], _∷_, _++_, map}
 use Prim.Native.Nat.{ℕ, _+_, _-_, _*_, _/_, _^_, _≤_, _<_}
+use native.Mathlib.Omega.{arith}
 use borrow.Author.Tests.{eq-eqb, lt-ltb, le-ltb}
-use lib.Dec.{ltb, eqb}
+use lib.Dec.{leb, ltb, eqb}
 use lib.IntN.{ℤ}
 use lib.ListN.{length, take, drop, getD}
 use lib.Seq.{take-at}
@@ -19,7 +20,7 @@ use Rattle.stream.specs.Rows.{row, first, Decides, numbersOf, answer, af
 use Rattle.stream.specs.Header.{word, headerOf, chunksIn, settingRight, layoutRight}
 use Rattle.stream.specs.Tables.{chunkTableRight, sideTableRight, idsIn}
 use Rattle.stream.specs.Stream.{chunkState, values}
-use Rattle.stream.specs.Writing.{headerNumbers, endOf, stream, Side, addSides, idsOf, withNeed, WellFormedSides}
+use Rattle.stream.specs.Writing.{headerNumbers, endOf, stream, Side, placed, addSides, idsOf, WellFormedSides}
 use Rattle.stream.specs.Packing.{Packable, Sent, mostBytes}
 use Rattle.stream.specs.Theorem.{comingBack, RefusedBy}
 use Rattle.stream.specs.Probe.{probed32, probed64}
@@ -34,7 +35,7 @@ use Rattle.stream.proofs.Law.Rows.First.{opened-both, decides, decided}
 use Rattle.stream.proofs.Law.Values.ThreeReaders.{done-pass, refused-stop}
 use Rattle.stream.proofs.Law.Written.Pieces.{end-most}
 use Rattle.stream.proofs.Law.Rows.Packing.{Passed, length-passed, rows-pass, room-enough, length-stream, length-done, pack-done}
-use Rattle.stream.proofs.Law.ReadBack.Readers.{same-need, sided-sent, plain-sent, bytes-sent, header-words, header-read, setting-kept, layout-kept, chunk-table-kept, side-table-kept, ids-kept, chunks-kept, values-read, told-low, told-high, told-wrong, check-read, check-stop, unpack-read, unpack-stop, probe-read, probe-stop}
+use Rattle.stream.proofs.Law.ReadBack.Readers.{same-need, rewritten, sided-sent, plain-sent, bytes-sent, header-words, header-read, setting-kept, layout-kept, chunk-table-kept, side-table-kept, ids-kept, chunks-kept, values-read, told-low, told-high, told-wrong, check-read, check-stop, unpack-read, unpack-stop, probe-read, probe-stop}
 use Rattle.stream.proofs.Law.Setting.Allowed.{level-small, made-allowed, storable}
 use Rattle.stream.proofs.Law.ReadBack.Values.{lossless-back, length-back, tolerance-back, special-back}
 
@@ -95,6 +96,19 @@ module _ (W level mode : ℕ) (k : ℤ) (vs out : List ℕ) (n : ℕ) (done : pa
         patterns = below;
       }
 
+  -- with a written minor that is not below its level
+  pub accepted-later : knownWidth W ≡ true → Below (2 ^ W) vs → (written : ℕ) → level ≤ written → written < 2 ^ 32 → Packable W written mode k vs
+  accepted-later width below written later minor =
+      let p = three-passed in
+      record {
+        width = width;
+        minor = minor;
+        allowed = p .allowed;
+        needs = omega (arith, p .needs, later);
+        few = p .few;
+        patterns = below;
+      }
+
   pub accepted-bytes : take n (packOut W level mode k vs out) ≡ stream level (settingOf W mode k) vs
   unfolding packOut after
   accepted-bytes =
@@ -114,17 +128,23 @@ module _ (W level mode : ℕ) (k : ℤ) (vs out : List ℕ) (n : ℕ) (done : pa
     pub accepted-is-sent : Sent level (settingOf W mode k) vs ps (need (settingOf W mode k)) (addSides (take n (packOut W level mode k vs out)) ps)
     accepted-is-sent =
         subst (λ (b : List ℕ). Sent level (settingOf W mode k) vs ps (need (settingOf W mode k)) (addSides b ps)) (sym accepted-bytes)
-        (sided-sent level (settingOf W mode k) vs ps (three-passed .needs) lies)
+        (sided-sent level (settingOf W mode k) vs ps lies)
 
-    pub accepted-is-raised : (needed : ℕ) → need (settingOf W mode k) ≤ needed → needed ≤ level
-        → Sent level (settingOf W mode k) vs ps needed (withNeed needed (addSides (take n (packOut W level mode k vs out)) ps))
-    accepted-is-raised needed least reached =
-        record { well-formed = lies; least = least; reached = reached; bytes = ap (λ (b : List ℕ). withNeed needed (addSides b ps)) accepted-bytes }
+    pub accepted-is-raised : (written needed : ℕ) → needed < 2 ^ 32
+        → Sent written (settingOf W mode k) vs ps needed (placed 8 needed (placed 4 written (addSides (take n (packOut W level mode k vs out)) ps)))
+    accepted-is-raised written needed minor =
+        record {
+          well-formed = subst (λ (m : ℕ). WellFormedSides (m + 12 * length ps) ps) (length-stream level (settingOf W mode k) vs ∙ sym (length-stream written (settingOf W mode k) vs)) lies;
+          minor = minor;
+          bytes = ap (placed 8 needed) (ap (λ (b : List ℕ). placed 4 written (addSides b ps)) accepted-bytes ∙ rewritten level written (settingOf W mode k) vs ps);
+        }
 
-  -- side parts alone leave the need as pack wrote it
-  pub the-need-as-it-was : (ps : List Side)
-      → withNeed (need (settingOf W mode k)) (addSides (take n (packOut W level mode k vs out)) ps) ≡ addSides (take n (packOut W level mode k vs out)) ps
-  the-need-as-it-was ps = rw accepted-bytes (same-need level (settingOf W mode k) vs ps)
+  -- side parts alone leave the minors as pack wrote them
+  pub the-minors-as-they-were : (ps : List Side)
+      → placed 8 (need (settingOf W mode k)) (placed 4 level (addSides (take n (packOut W level mode k vs out)) ps)) ≡ addSides (take n (packOut W level mode k vs out)) ps
+  the-minors-as-they-were ps =
+      rw accepted-bytes
+      (ap (placed 8 (need (settingOf W mode k))) (rewritten level level (settingOf W mode k) vs ps) ∙ same-need level (settingOf W mode k) vs ps)
 
 -- for a list that a stream may hold
 module _ (W level mode : ℕ) (k : ℤ) (vs : List ℕ) (p : Packable W level mode k vs) where
@@ -153,11 +173,11 @@ module _ (W level mode : ℕ) (k : ℤ) (vs : List ℕ) (p : Packable W level mo
   -- ---- what a reader meets: the plain stream, or one with side parts behind its data
 
   pub the-plain-stream : Sent level (settingOf W mode k) vs [] (need (settingOf W mode k)) (stream level (settingOf W mode k) vs)
-  the-plain-stream = plain-sent level (settingOf W mode k) vs (p .needs)
+  the-plain-stream = plain-sent level (settingOf W mode k) vs
 
   pub with-side-parts : (ps : List Side) → WellFormedSides (length (stream level (settingOf W mode k) vs) + 12 * length ps) ps
       → Sent level (settingOf W mode k) vs ps (need (settingOf W mode k)) (addSides (stream level (settingOf W mode k) vs) ps)
-  with-side-parts ps = sided-sent level (settingOf W mode k) vs ps (p .needs)
+  with-side-parts ps = sided-sent level (settingOf W mode k) vs ps
 
   module _ (ps : List Side) (needed : ℕ) (s : List ℕ) (sent : Sent level (settingOf W mode k) vs ps needed s) where
     -- it is bytes
@@ -170,9 +190,9 @@ module _ (W level mode : ℕ) (k : ℤ) (vs : List ℕ) (p : Packable W level mo
         ≡ getD (1 ∷ level ∷ needed ∷ drop 3 (headerNumbers level (settingOf W mode k) (length vs) (length ps) (endOf (settingOf W mode k) vs (chunksIn (length vs))))) j 0
     the-header-is-read = header-words level (settingOf W mode k) vs (storable W level mode k vs p) ps needed s sent
 
-    -- no rule of the refusals 8 (but for the late one), 9 and 10 is broken
+    -- no rule of the refusals 8 (but for the needed minor's own), 9 and 10 is broken
     pub every-rule-is-kept :
-        (settingRight (headerOf s) ≡ true) × (layoutRight (length s) (headerOf s) ≡ true)
+        (need (settingOf W mode k) ≤ needed → needed ≤ level → settingRight (headerOf s) ≡ true) × (layoutRight (length s) (headerOf s) ≡ true)
         × (chunkTableRight (headerOf s) s ≡ true) × (sideTableRight (headerOf s) s ≡ true)
         × ((j : ℕ) → j < chunksIn (length vs) → chunkState (headerOf s) s j ≡ Good)
     every-rule-is-kept = (
@@ -216,9 +236,9 @@ module _ (W level mode : ℕ) (k : ℤ) (vs : List ℕ) (p : Packable W level mo
 
     -- ---- each level refuses by 7, with the need, what it does not reach; of the rest the need and the ids of the side parts decide
 
-    -- by 8 where they ask for another need, by 15 where one is high
+    -- by 8 where they ask for another need, or the written minor is below it; by 15 where one is high
     abbrev said : Step
-    said = cond (not (eqb needed (streamNeed (settingOf W mode k) (someHigh (idsOf ps))))) (Stop 8 0) (first (map idRow (idsOf ps)))
+    said = cond (leb needed level && eqb needed (streamNeed (settingOf W mode k) (someHigh (idsOf ps)))) (first (map idRow (idsOf ps))) (Stop 8 0)
 
     module _ (L : ℕ) (known : knownLevel L ≡ true) where
       -- 7 with the need, or what they say
@@ -291,13 +311,14 @@ module _ (W level mode : ℕ) (k : ℤ) (vs : List ℕ) (p : Packable W level mo
         refused-by-7 h = all-readers 7 needed (rw (lt-ltb L needed h))
 
         -- 15: the need is that of a stream with a high id, and there is one
-        pub refused-by-15 : needed ≤ L → someHigh (idsOf ps) ≡ true → needed ≡ streamNeed (settingOf W mode k) true
+        pub refused-by-15 : needed ≤ L → someHigh (idsOf ps) ≡ true → needed ≡ streamNeed (settingOf W mode k) true → needed ≤ level
             → RefusedBy W L s back (length vs) 15 (firstHigh (idsOf ps))
-        refused-by-15 h high right =
+        refused-by-15 h high right reached =
             all-readers 15 (firstHigh (idsOf ps))
-            (rw (le-ltb L needed h) (told-high level (settingOf W mode k) vs (storable W level mode k vs p) ps needed s sent high right))
+            (rw (le-ltb L needed h) (told-high level (settingOf W mode k) vs (storable W level mode k vs p) ps needed s sent high right reached))
 
-        -- 8: it is the need of another stream
-        pub refused-by-8 : needed ≤ L → (needed ≡ streamNeed (settingOf W mode k) (someHigh (idsOf ps)) → ⊥) → RefusedBy W L s back (length vs) 8 0
+        -- 8: it is the need of another stream, or above the written minor
+        pub refused-by-8 : needed ≤ L → ((needed ≡ streamNeed (settingOf W mode k) (someHigh (idsOf ps))) × (needed ≤ level) → ⊥)
+            → RefusedBy W L s back (length vs) 8 0
         refused-by-8 h other =
             all-readers 8 0 (rw (le-ltb L needed h) (told-wrong level (settingOf W mode k) vs (storable W level mode k vs p) ps needed s sent other))

@@ -11,7 +11,7 @@ use Rattle.stream.specs.Setting.{knownWidth, allowedSetting, settingOf, 
 use Rattle.stream.specs.Chunk.{groupsIn}
 use Rattle.stream.specs.Header.{chunksIn}
 use Rattle.stream.specs.Rows.{Row, row}
-use Rattle.stream.specs.Writing.{endOf, stream, Side, addSides, withNeed, WellFormedSides}
+use Rattle.stream.specs.Writing.{endOf, stream, Side, placed, addSides, WellFormedSides}
 use Rattle.stream.specs.declared.setting.Setting.{Setting}
 
 -- A list of values, W bits wide, with a written minor and a setting that a stream may have: the minor reaches the need. The levels that
@@ -25,13 +25,12 @@ pub record Packable (W level mode : ℕ) (k : ℤ) (vs : List ℕ) : Type 0 wher
   pub few : length vs ≤ 1048576
   pub patterns : Below (2 ^ W) vs
 
--- The bytes s of such a list as a reader may meet them: with these side parts, which are none or well-formed, behind the data, and with a need that the
--- setting and the written minor allow. What pack wrote has the setting's own need (`the-plain-stream`, `with-side-parts`).
+-- The bytes s of such a list as a reader may meet them: with these side parts, which are none or well-formed, behind the data, and with any number for the
+-- needed minor, at 8. What pack wrote has the setting's own need there (`the-plain-stream`, `with-side-parts`).
 pub record Sent (level : ℕ) (t : Setting) (vs : List ℕ) (sides : List Side) (needed : ℕ) (s : List ℕ) : Type 0 where
   pub well-formed : WellFormedSides (length (stream level t vs) + 12 * length sides) sides
-  pub least : need t ≤ needed
-  pub reached : needed ≤ level
-  pub bytes : s ≡ withNeed needed (addSides (stream level t vs) sides)
+  pub minor : needed < 2 ^ 32
+  pub bytes : s ≡ placed 8 needed (addSides (stream level t vs) sides)
 
 -- "Packed length is never above 48 + 4c + (n/32 rounded up) + n·W/8."
 unfoldable pub mostBytes : Setting → ℕ → ℕ

@@ -88,22 +88,19 @@ unfoldable pub parts : List Side → List ℕ
 parts [] = []
 parts (p ∷ ps) = p .bytes ++ parts ps
 
+-- the bytes b with another number at a byte place of the header
+unfoldable pub placed : ℕ → ℕ → List ℕ → List ℕ
+placed at n b = take at b ++ digits 256 4 n ++ drop (at + 4) b
+
 -- Side parts are added to a stream b that has none: their number is put in its place in the header, and the side table and the parts come
 -- behind all that is there.
 unfoldable pub addSides : List ℕ → List Side → List ℕ
-addSides b ps =
-    take 40 b ++ digits 256 4 (length ps) ++ drop 44 b
-    ++ spell (entries (length b + 12 * length ps) ps)
-    ++ parts ps
+addSides b ps = placed 40 (length ps) b ++ spell (entries (length b + 12 * length ps) ps) ++ parts ps
 
 -- their ids
 unfoldable pub idsOf : List Side → List ℕ
 idsOf [] = []
 idsOf (p ∷ ps) = p .id ∷ idsOf ps
-
--- the bytes b with another needed minor in its place in the header
-unfoldable pub withNeed : ℕ → List ℕ → List ℕ
-withNeed n b = take 8 b ++ digits 256 4 n ++ drop 12 b
 
 -- "Ids increase strictly", from a floor on
 unfoldable pub increasing : ℕ → List Side → Bool

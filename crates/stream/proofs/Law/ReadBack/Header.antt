@@ -1,13 +1,14 @@
--- The header of a written stream, with any side parts behind its data and a need that its setting allows: read back, its numbers are those that
--- were written, and keep every rule of refusal 8.
+-- The header of a written stream, with any side parts behind its data and any needed minor: read back, its numbers are those that were written, and keep
+-- every rule of refusal 8, but for the needed minor's own.
 use mathlib.Core.Path.{_≡_, refl, ap, _∙_}
-use mathlib.Core.Bool.{true}
+use mathlib.Core.Logic.{_⊎_, inl, inr}
+use mathlib.Core.Bool.{true, false, _&&_}
 use mathlib.Core.List.{List, [], _∷_, _++_}
 use Prim.Native.Nat.{ℕ, zero, suc, _+_, _*_, _^_, _≤_, _<_}
 use native.Mathlib.Nat.{le-trans}
 use native.Mathlib.Omega.{arith}
-use borrow.Author.Tests.{le-ltb, le-leb, eq-eqb}
-use lib.Dec.{lit<}
+use borrow.Author.Tests.{le-ltb, lt-leb, le-leb, eq-eqb}
+use lib.Dec.{leb, lit<}
 use lib.ListN.{length, drop, getD, length-append}
 use Rattle.blocks.specs.Bytes.{Below}
 use Rattle.stream.specs.Setting.{need, kBits}
@@ -20,6 +21,7 @@ use Rattle.stream.proofs.Law.Setting.Allowed.{Storable, width-most}
 use Rattle.stream.proofs.Law.Setting.Widths.{need-least}
 use Rattle.stream.proofs.Law.Setting.Exponent.{bits-small, setting-back, allowed-back}
 use Rattle.stream.proofs.Law.Plain.Joined.{length-singles, singles-at}
+use Rattle.stream.proofs.Law.Plain.Truth.{and-false}
 use Rattle.stream.proofs.Law.Written.Numbers.{word-spelled}
 use Rattle.stream.proofs.Law.Written.Pieces.{end-is, end-grows, end-small}
 
@@ -51,11 +53,10 @@ each-below b [] ys e h i = h i
 each-below b (x ∷ xs) ys e h zero = e .0
 each-below b (x ∷ xs) ys e h (suc i) = each-below b xs ys (e .1) h i
 
--- a need that the setting and the written minor allow, and a number of side parts
+-- a needed minor and a number of side parts
 pub record Front (level needed : ℕ) (t : Setting) (vs : List ℕ) (sides : ℕ) : Type 0 where
   pub list : Storable level t vs
-  pub least : need t ≤ needed
-  pub reached : needed ≤ level
+  pub minor : needed < 2 ^ 32
   pub few : sides ≤ 64
 
 module _ (level needed : ℕ) (t : Setting) (vs : List ℕ) where
@@ -100,7 +101,7 @@ module _ (level needed : ℕ) (t : Setting) (vs : List ℕ) where
           (
             p .minor,
             (
-              omega (arith, f .reached, p .minor),
+              f .minor,
               (
                 omega (arith, width-most (t .width) (p .setting .known)),
                 (
@@ -151,17 +152,24 @@ module _ (level needed : ℕ) (t : Setting) (vs : List ℕ) where
           at 11 (lit< tt),
         )
 
-    pub setting-right : settingRight (headerFor level needed t vs sides) ≡ true
+    -- the early 8: a needed minor from the setting's need to the written minor passes, and no other
+    pub setting-right : need t ≤ needed → needed ≤ level → settingRight (headerFor level needed t vs sides) ≡ true
     unfolding settingRight needRight kOf
-    setting-right =
+    setting-right least reached =
         rw (
           p .setting .known,
           setting-back t (p .setting),
-          le-leb 8 needed (le-trans (need-least t) (f .least)),
-          le-leb (need t) needed (f .least),
-          le-leb needed level (f .reached),
+          le-leb 8 needed (le-trans (need-least t) least),
+          le-leb (need t) needed least,
+          le-leb needed level reached,
           allowed-back t (p .setting),
         )
+
+    pub setting-wrong : (needed < need t) ⊎ (level < needed) → settingRight (headerFor level needed t vs sides) ≡ false
+    unfolding settingRight needRight kOf
+    setting-wrong (inl short) = rw (p .setting .known, setting-back t (p .setting), lt-leb (need t) needed short, and-false (leb 8 needed))
+    setting-wrong (inr exceeds) =
+        rw (p .setting .known, setting-back t (p .setting), lt-leb needed level exceeds, and-false (leb 8 needed && leb (need t) needed))
 
     pub layout-right : (size : ℕ) → end ≤ size → layoutRight size (headerFor level needed t vs sides) ≡ true
     unfolding layoutRight tooMany

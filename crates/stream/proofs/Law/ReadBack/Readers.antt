@@ -1,13 +1,15 @@
--- A written stream, with any well-formed side parts and a need, before every reader: row 7 is given where the level does not reach that need. Where it
--- does, what the ids of its side parts say is all that is left: row 8 where they ask for another need, row 15 for the first high one, and else no row.
+-- A written stream, with any well-formed side parts and any needed minor, before every reader: row 7 is given where the level does not reach that minor.
+-- Where it does, what the ids of its side parts say is all that is left: row 8 where they ask for another need or the written minor is below it, row 15
+-- for the first high one, and else no row.
 use mathlib.Core.Path.{_≡_, refl, sym, ap, ap₂, subst, _∙_}
-use mathlib.Core.Bool.{true, false, not, cond}
+use mathlib.Core.Logic.{_⊎_, inl, inr}
+use mathlib.Core.Bool.{Bool, true, false, _&&_, not, cond}
 use mathlib.Core.List.{List, [], _∷_, _++_, append-assoc, append-nil, map}
 use Prim.Native.Nat.{ℕ, zero, suc, _+_, _*_, _/_, _^_, _≤_, _<_, zero-le}
 use native.Mathlib.Nat.{lt-of-le-of-lt}
 use native.Mathlib.Omega.{arith}
-use borrow.Author.Tests.{lt-ltb, le-ltb, eq-eqb, ne-eqb}
-use lib.Dec.{eqb, lit<}
+use borrow.Author.Tests.{lt-ltb, le-ltb, lt-leb, le-leb, eq-eqb, ne-eqb}
+use lib.Dec.{leb, eqb, lit<}
 use lib.ListN.{length, drop, getD, length-append, List·getD-append}
 use Rattle.blocks.specs.Bytes.{Below}
 use Rattle.stream.specs.Setting.{knownLevel, need, someHigh, firstHigh, streamNeed, kBits, groupSize, codesOf}
@@ -15,7 +17,7 @@ use Rattle.stream.specs.Rows.{Row, rowsFrom, first}
 use Rattle.stream.specs.Header.{word, headerOf, kOf, chunksIn, settingRight, layoutRight}
 use Rattle.stream.specs.Tables.{chunkTableRight, sideTableRight, idsIn}
 use Rattle.stream.specs.Stream.{chunkState, valuesIn, values}
-use Rattle.stream.specs.Writing.{spell, piece, pieceBytes, dataOf, startsOf, headerNumbers, endOf, body, stream, Side, entries, parts, addSides, idsOf, withNeed, increasing, WellFormedSides}
+use Rattle.stream.specs.Writing.{spell, piece, pieceBytes, dataOf, startsOf, headerNumbers, endOf, body, stream, Side, entries, parts, placed, addSides, idsOf, increasing, WellFormedSides}
 use Rattle.stream.specs.Packing.{Sent}
 use Rattle.stream.specs.Theorem.{comingBack}
 use Rattle.stream.specs.Operations.{headerRows, openingRows, needRow, idRow, sideRows, tableRows, chunkRow, chunkRows, contentRows, ownRows, checkRows, unpackRows, probeRows}
@@ -29,33 +31,34 @@ use Rattle.stream.proofs.Law.Rows.Ids.{low-pass, high-stop}
 use Rattle.stream.proofs.Law.Rows.Chunks.{good-row, tables-pass}
 use Rattle.stream.proofs.Law.Rows.Given.{check-shut, unpack-shut, probe-shut, check-content, unpack-content, probe-own}
 use Rattle.blocks.proofs.Law.Digits.{byte, below-append}
+use Rattle.blocks.proofs.Law.Truth.{le-or-lt}
 use Rattle.stream.proofs.Law.Setting.Codes.{codes-under}
 use Rattle.stream.proofs.Law.Setting.Allowed.{Storable, width-most}
-use Rattle.stream.proofs.Law.Setting.Widths.{width-bytes, low-need}
+use Rattle.stream.proofs.Law.Setting.Widths.{width-bytes, need-small, low-need, need-most}
 use Rattle.stream.proofs.Law.Setting.Exponent.{setting-back}
 use Rattle.stream.proofs.Law.Plain.Joined.{joined-below}
 use Rattle.stream.proofs.Law.Written.Numbers.{length-spell, spell-below, spell-put}
 use Rattle.stream.proofs.Law.ReadBack.Values.{chunk-below}
 use Rattle.stream.proofs.Law.Written.Pieces.{piece-below, end-is}
 use Rattle.stream.proofs.Law.Rows.Packing.{length-stream}
-use Rattle.stream.proofs.Law.ReadBack.Header.{headerFor, Front, frontNumbers, length-numbers, front-word, header-is, setting-right, layout-right}
+use Rattle.stream.proofs.Law.ReadBack.Header.{headerFor, Front, frontNumbers, length-numbers, front-word, header-is, setting-right, setting-wrong, layout-right}
 use Rattle.stream.proofs.Law.ReadBack.Chunks.{chunk-table-right, chunk-good, values-back}
 use Rattle.stream.proofs.Law.ReadBack.Sides.{length-sided, ids-read, side-table-right}
 
--- ---- side parts and a need are put in
+-- ---- side parts and the minors are put in
 
 -- what comes behind the data
 abbrev behindData : Setting → List ℕ → List Side → List ℕ
 behindData t vs ps = spell (entries (endOf t vs (chunksIn (length vs)) + 12 * length ps) ps) ++ parts ps
 
--- the whole stream, with a need
+-- the whole stream, with a needed minor
 abbrev whole : ℕ → ℕ → Setting → List ℕ → List Side → List ℕ
 whole level needed t vs ps = spell (frontNumbers level needed t vs (length ps)) ++ (dataOf t vs (chunksIn (length vs)) ++ behindData t vs ps)
 
 module _ (level : ℕ) (t : Setting) (vs : List ℕ) (ps : List Side) where
   -- side parts come behind the data, and the header counts them
   sided : addSides (stream level t vs) ps ≡ whole level (need t) t vs ps
-  unfolding addSides stream body headerNumbers
+  unfolding placed addSides stream body headerNumbers
   sided =
       let c = chunksIn (length vs) in
       let ten : List ℕ = 1 ∷ level ∷ need t ∷ t .width ∷ t .mode ∷ kBits t ∷ length vs ∷ c ∷ 48 ∷ (48 + 4 * c) ∷ [] in
@@ -67,21 +70,29 @@ module _ (level : ℕ) (t : Setting) (vs : List ℕ) (ps : List Side) where
       ∙ append-assoc (front ++ dataOf t vs c) table (parts ps)
       ∙ append-assoc front (dataOf t vs c) (table ++ parts ps)
 
-  -- another need is put in its place
-  pub needing : (needed : ℕ) → withNeed needed (addSides (stream level t vs) ps) ≡ whole level needed t vs ps
-  unfolding withNeed headerNumbers
+  -- another needed minor is put in its place
+  pub needing : (needed : ℕ) → placed 8 needed (addSides (stream level t vs) ps) ≡ whole level needed t vs ps
+  unfolding placed headerNumbers
   needing needed =
       let c = chunksIn (length vs) in
-      ap (withNeed needed) sided
+      ap (placed 8 needed) sided
       ∙ spell-put (1 ∷ level ∷ []) (drop 3 (headerNumbers level t (length vs) (length ps) (endOf t vs c)) ++ startsOf t vs c) (dataOf t vs c ++ behindData t vs ps) 8 refl (need t) needed
 
   -- where it is the one that stood there, nothing changes
-  pub same-need : withNeed (need t) (addSides (stream level t vs) ps) ≡ addSides (stream level t vs) ps
+  pub same-need : placed 8 (need t) (addSides (stream level t vs) ps) ≡ addSides (stream level t vs) ps
   same-need = needing (need t) ∙ sym sided
 
-  pub sided-sent : need t ≤ level → WellFormedSides (length (stream level t vs) + 12 * length ps) ps
-      → Sent level t vs ps (need t) (addSides (stream level t vs) ps)
-  sided-sent reaches well = record { well-formed = well; least = omega arith; reached = reaches; bytes = sym same-need }
+  pub sided-sent : WellFormedSides (length (stream level t vs) + 12 * length ps) ps → Sent level t vs ps (need t) (addSides (stream level t vs) ps)
+  sided-sent well = record { well-formed = well; minor = lt-of-le-of-lt (need-small t) (lit< tt); bytes = sym same-need }
+
+-- with another written minor it is the stream of that minor
+pub rewritten : (level written : ℕ) (t : Setting) (vs : List ℕ) (ps : List Side) → placed 4 written (addSides (stream level t vs) ps) ≡ addSides (stream written t vs) ps
+unfolding placed headerNumbers
+rewritten level written t vs ps =
+    let c = chunksIn (length vs) in
+    ap (placed 4 written) (sided level t vs ps)
+    ∙ spell-put (1 ∷ []) (need t ∷ drop 3 (headerNumbers level t (length vs) (length ps) (endOf t vs c)) ++ startsOf t vs c) (dataOf t vs c ++ behindData t vs ps) 4 refl level written
+    ∙ sym (sided written t vs ps)
 
 -- the plain stream has none
 module _ (level : ℕ) (t : Setting) (vs : List ℕ) where
@@ -95,9 +106,12 @@ module _ (level : ℕ) (t : Setting) (vs : List ℕ) where
   unfolding increasing entries parts
   no-sides place = record { few = zero-le; ordered = refl; numbers = λ i. lit< tt; are-bytes = λ i. byte }
 
-  pub plain-sent : need t ≤ level → Sent level t vs [] (need t) (stream level t vs)
-  plain-sent reaches =
-      subst (Sent level t vs [] (need t)) (sym plain-is) (sided-sent level t vs [] reaches (no-sides (length (stream level t vs) + 12 * 0)))
+  pub plain-sent : Sent level t vs [] (need t) (stream level t vs)
+  plain-sent = subst (Sent level t vs [] (need t)) (sym plain-is) (sided-sent level t vs [] (no-sides (length (stream level t vs) + 12 * 0)))
+
+turned : (b : Bool) (x y : Step) → cond (not b) x y ≡ cond b y x
+turned true x y = refl
+turned false x y = refl
 
 -- rows of which none is given
 all-pass : (f : ℕ → Row) (k i : ℕ) → ((j : ℕ) → i ≤ j → j < i + k → first (f j ∷ []) ≡ Pass) → first (rowsFrom f k i) ≡ Pass
@@ -119,7 +133,7 @@ module _ (level : ℕ) (t : Setting) (vs : List ℕ) (p : Storable level t vs) (
   numbers = frontNumbers level needed t vs (length ps)
 
   fits : Front level needed t vs (length ps)
-  fits = record { list = p; least = sent .least; reached = sent .reached; few = well .few }
+  fits = record { list = p; minor = sent .minor; few = well .few }
 
   -- the parts of the stream, as the header and the tables see them
   after-front : s ≡ spell numbers ++ (dataOf t vs chunks ++ behind)
@@ -165,8 +179,11 @@ module _ (level : ℕ) (t : Setting) (vs : List ℕ) (p : Storable level t vs) (
 
   -- ---- the rules
 
-  pub setting-kept : settingRight (headerOf s) ≡ true
-  setting-kept = rw header-read (setting-right level needed t vs (length ps) fits)
+  pub setting-kept : need t ≤ needed → needed ≤ level → settingRight (headerOf s) ≡ true
+  setting-kept least reached = rw header-read (setting-right level needed t vs (length ps) fits least reached)
+
+  setting-broken : (needed < need t) ⊎ (level < needed) → settingRight (headerOf s) ≡ false
+  setting-broken wrong = rw header-read (setting-wrong level needed t vs (length ps) fits wrong)
 
   pub layout-kept : layoutRight (length s) (headerOf s) ≡ true
   layout-kept = rw header-read (layout-right level needed t vs (length ps) fits (length s) (omega (arith, length-is)))
@@ -197,46 +214,76 @@ module _ (level : ℕ) (t : Setting) (vs : List ℕ) (p : Storable level t vs) (
   -- ---- the rows
 
   -- what the tables and the chunks say is what the ids say
-  abbrev pub told : Step
-  told = cond (not (eqb needed (streamNeed t (someHigh (idsOf ps))))) (Stop 8 0) (first (map idRow (idsOf ps)))
+  abbrev late : Step
+  late = cond (not (eqb needed (streamNeed t (someHigh (idsOf ps))))) (Stop 8 0) (first (map idRow (idsOf ps)))
 
-  tables-read : first (tableRows (headerOf s) s) ≡ told
+  tables-read : first (tableRows (headerOf s) s) ≡ late
   unfolding sideRows needRow first kOf
   tables-read =
       sym (tables-pass (headerOf s) s true true (sym chunk-table-kept) (sym side-table-kept) refl)
       ∙ rw (ids-kept, header-read, setting-back t (p .setting))
 
+  -- and with the early 8: where both minors are right the ids decide, and else it is 8
+  abbrev pub told : Step
+  told = cond (leb needed level && eqb needed (streamNeed t (someHigh (idsOf ps)))) (first (map idRow (idsOf ps))) (Stop 8 0)
+
   pub told-low : someHigh (idsOf ps) ≡ false → needed ≡ need t → told ≡ Pass
-  told-low low is = rw (low, eq-eqb needed (streamNeed t false) (is ∙ sym (low-need t))) (low-pass (idsOf ps) low)
+  told-low low is =
+      rw (low, le-leb needed level (omega (arith, p .needs, is)), eq-eqb needed (streamNeed t false) (is ∙ sym (low-need t))) (low-pass (idsOf ps) low)
 
-  pub told-high : someHigh (idsOf ps) ≡ true → needed ≡ streamNeed t true → told ≡ Stop 15 (firstHigh (idsOf ps))
-  told-high high is = rw (high, eq-eqb needed (streamNeed t true) is) (high-stop (idsOf ps) high)
+  pub told-high : someHigh (idsOf ps) ≡ true → needed ≡ streamNeed t true → needed ≤ level → told ≡ Stop 15 (firstHigh (idsOf ps))
+  told-high high is reached = rw (high, le-leb needed level reached, eq-eqb needed (streamNeed t true) is) (high-stop (idsOf ps) high)
 
-  pub told-wrong : (needed ≡ streamNeed t (someHigh (idsOf ps)) → ⊥) → told ≡ Stop 8 0
-  told-wrong other = rw (ne-eqb needed (streamNeed t (someHigh (idsOf ps))) other)
+  pub told-wrong : ((needed ≡ streamNeed t (someHigh (idsOf ps))) × (needed ≤ level) → ⊥) → told ≡ Stop 8 0
+  told-wrong other = go (le-or-lt needed level)
+    where
+      go : (needed ≤ level) ⊎ (level < needed) → told ≡ Stop 8 0
+      go (inl reached) = rw (le-leb needed level reached, ne-eqb needed (streamNeed t (someHigh (idsOf ps))) (λ is. other (is, reached)))
+      go (inr exceeds) = rw (lt-leb needed level exceeds)
 
-  then-good : (rows : List Row) → first rows ≡ Pass → first (tableRows (headerOf s) s ++ rows) ≡ told
+  told-early : (needed < need t) ⊎ (level < needed) → told ≡ Stop 8 0
+  told-early (inl short) = told-wrong (λ right. omega (arith, need-most t (someHigh (idsOf ps)), right .0))
+  told-early (inr exceeds) = told-wrong (λ right. omega (arith, right .1))
+
+  told-late : needed ≤ level → late ≡ told
+  told-late reached = rw (le-leb needed level reached) (turned (eqb needed (streamNeed t (someHigh (idsOf ps)))) (Stop 8 0) (first (map idRow (idsOf ps))))
+
+  -- so a reader says this, if it says the early 8 by the minors and else what is late
+  either-time : (x : Step) → (need t ≤ needed → needed ≤ level → x ≡ late) → ((needed < need t) ⊎ (level < needed) → x ≡ Stop 8 0) → x ≡ told
+  either-time x good broken = go (le-or-lt (need t) needed) (le-or-lt needed level)
+    where
+      go : (need t ≤ needed) ⊎ (needed < need t) → (needed ≤ level) ⊎ (level < needed) → x ≡ told
+      go (inl least) (inl reached) = good least reached ∙ told-late reached
+      go (inl least) (inr exceeds) = broken (inr exceeds) ∙ sym (told-early (inr exceeds))
+      go (inr short) r = broken (inl short) ∙ sym (told-early (inl short))
+
+  then-good : (rows : List Row) → first rows ≡ Pass → first (tableRows (headerOf s) s ++ rows) ≡ late
   then-good rows good =
       first-append (tableRows (headerOf s) s) rows
       ∙ ap₂ andThen tables-read good
-      ∙ then-none told
+      ∙ then-none late
 
-  content-read : first (contentRows (headerOf s) s) ≡ told
+  content-read : first (contentRows (headerOf s) s) ≡ late
   unfolding contentRows chunkRows
   content-read =
       then-good (chunkRows (headerOf s) s)
       (all-pass (chunkRow (headerOf s) s) (headerOf s .chunks) 0
       (λ j l m. sym (good-row (headerOf s) s j (chunks-kept j (let e = ap (λ (x : Header). x .chunks) header-read in omega arith)))))
 
-  own-read : (i : ℕ) → i < length vs → first (ownRows (headerOf s) s i) ≡ told
+  own-read : (i : ℕ) → i < length vs → first (ownRows (headerOf s) s i) ≡ late
   unfolding ownRows chunksIn
   own-read i l = then-good (chunkRow (headerOf s) s (i / 1024) ∷ []) (sym (good-row (headerOf s) s (i / 1024) (chunks-kept (i / 1024) (omega arith))))
 
   module _ (L : ℕ) (known : knownLevel L ≡ true) where
-    opening-pass : needed ≤ L → first (openingRows L s) ≡ Pass
+    opening-pass : needed ≤ L → need t ≤ needed → needed ≤ level → first (openingRows L s) ≡ Pass
     unfolding openingRows headerRows first
-    opening-pass h =
-        rw (known, le-ltb (length s) 48 long, setting-kept, layout-kept) (rw (header-read, le-ltb L needed h))
+    opening-pass h least reached =
+        rw (known, le-ltb (length s) 48 long, setting-kept least reached, layout-kept) (rw (header-read, le-ltb L needed h))
+
+    opening-broken : needed ≤ L → (needed < need t) ⊎ (level < needed) → first (openingRows L s) ≡ Stop 8 0
+    unfolding openingRows headerRows first
+    opening-broken h wrong =
+        rw (known, le-ltb (length s) 48 long, setting-broken wrong) (rw (header-read, le-ltb L needed h))
 
     opening-stop : L < needed → first (openingRows L s) ≡ Stop 7 needed
     unfolding openingRows headerRows first
@@ -244,7 +291,10 @@ module _ (level : ℕ) (t : Setting) (vs : List ℕ) (p : Storable level t vs) (
         rw (known, le-ltb (length s) 48 long) (rw (header-read, lt-ltb L needed h))
 
     pub check-read : needed ≤ L → first (checkRows L s) ≡ told
-    check-read h = sym (check-content L s (opening-pass h) (headerOf s) refl) ∙ content-read
+    check-read h =
+        either-time (first (checkRows L s))
+        (λ least reached. sym (check-content L s (opening-pass h least reached) (headerOf s) refl) ∙ content-read)
+        (λ wrong. sym (check-shut L s 8 0 (opening-broken h wrong)))
 
     pub check-stop : L < needed → first (checkRows L s) ≡ Stop 7 needed
     check-stop h = sym (check-shut L s 7 needed (opening-stop h))
@@ -253,7 +303,9 @@ module _ (level : ℕ) (t : Setting) (vs : List ℕ) (p : Storable level t vs) (
     unpack-read room l h =
         let width = ap (λ (x : Header). x .width) header-read in
         let count = ap (λ (x : Header). x .count) header-read in
-        sym (unpack-content L s (opening-pass h) (headerOf s) refl (t .width) room width (omega (arith, count))) ∙ content-read
+        either-time (first (unpackRows (t .width) L s room))
+        (λ least reached. sym (unpack-content L s (opening-pass h least reached) (headerOf s) refl (t .width) room width (omega (arith, count))) ∙ content-read)
+        (λ wrong. sym (unpack-shut L s 8 0 (opening-broken h wrong) (t .width) room))
 
     pub unpack-stop : (room : ℕ) → L < needed → first (unpackRows (t .width) L s room) ≡ Stop 7 needed
     unpack-stop room h = sym (unpack-shut L s 7 needed (opening-stop h) (t .width) room)
@@ -262,7 +314,9 @@ module _ (level : ℕ) (t : Setting) (vs : List ℕ) (p : Storable level t vs) (
     probe-read i l h =
         let width = ap (λ (x : Header). x .width) header-read in
         let count = ap (λ (x : Header). x .count) header-read in
-        sym (probe-own L s (opening-pass h) (headerOf s) refl (t .width) i width (omega (arith, count))) ∙ own-read i l
+        either-time (first (probeRows (t .width) L s i))
+        (λ least reached. sym (probe-own L s (opening-pass h least reached) (headerOf s) refl (t .width) i width (omega (arith, count))) ∙ own-read i l)
+        (λ wrong. sym (probe-shut L s 8 0 (opening-broken h wrong) (t .width) i))
 
     pub probe-stop : (i : ℕ) → L < needed → first (probeRows (t .width) L s i) ≡ Stop 7 needed
     probe-stop i h = sym (probe-shut L s 7 needed (opening-stop h) (t .width) i)

@@ -56,6 +56,11 @@ need-small t = go (eqb (t .width) 64) (eqb (t .mode) 1) (eqb (t .mode) 2)
     go false false true = lit≤ tt
     go false false false = lit≤ tt
 
+-- a stream needs no less than its setting
+pub need-most : (t : Setting) (high : Bool) → need t ≤ streamNeed t high
+unfolding streamNeed
+need-most t high = omega arith
+
 -- a stream needs what its setting does where no id is high
 pub low-need : (t : Setting) → streamNeed t false ≡ need t
 unfolding streamNeed
