@@ -84,19 +84,7 @@ module _ (W level mode : ℕ) (k : ℤ) (vs out : List ℕ) (n : ℕ) (done : pa
       let size = length (stream level (settingOf W mode k) vs) in
       length-passed W level mode k (length vs) (opened-both (lengthRows W level mode k (length vs)) (row 4 (ltb (length out) size) size ∷ []) (passes .0) .0)
 
-  pub accepted-list : knownWidth W ≡ true → Below (2 ^ W) vs → Packable W level mode k vs
-  accepted-list width below =
-      let p = three-passed in
-      record {
-        width = width;
-        minor = level-small level (p .known);
-        allowed = p .allowed;
-        needs = p .needs;
-        few = p .few;
-        patterns = below;
-      }
-
-  -- with a written minor that is not below its level
+  -- with any written minor that is not below its level
   pub accepted-later : knownWidth W ≡ true → Below (2 ^ W) vs → (written : ℕ) → level ≤ written → written < 2 ^ 32 → Packable W written mode k vs
   accepted-later width below written later minor =
       let p = three-passed in
@@ -108,6 +96,9 @@ module _ (W level mode : ℕ) (k : ℤ) (vs out : List ℕ) (n : ℕ) (done : pa
         few = p .few;
         patterns = below;
       }
+
+  pub accepted-list : knownWidth W ≡ true → Below (2 ^ W) vs → Packable W level mode k vs
+  accepted-list width below = accepted-later width below level (omega arith) (level-small level (three-passed .known))
 
   pub accepted-bytes : take n (packOut W level mode k vs out) ≡ stream level (settingOf W mode k) vs
   unfolding packOut after
