@@ -57,12 +57,12 @@
  * SIDE PARTS
  *
  * A stream may have up to 64 side parts behind its data, which others put there: bytes with an id. This library writes none,
- * and hands none out. Ids below 2^31, GWZ_FIRST_HIGH_ID, may be skipped: every reader does. An id from there up says that the
- * values must not be used by who does not understand it, as where a part holds a datum shift. NONE IS DEFINED YET, so at every
- * level such a stream is refused. Who adds such a part also raises the needed minor to 12, and the written one if it is below
- * (docs/FORMAT.md has the bytes): then readers of this library refuse the stream by 7 below level 12 and by 15, with the
- * first such id, at 12; and older ones, which knew no such ids, by 7 too. Where the need was not raised, a reader that reaches
- * it refuses the stream by 8 in this library, and skips the part in older ones.
+ * and hands none out. Ids below GWZ_FIRST_HIGH_ID, which is 2^31, may be skipped: every reader does. An id from there up says
+ * that the values must not be used by who does not understand it, as where a part holds a datum shift. NONE IS DEFINED YET, so
+ * at every level such a stream is refused. Who adds such a part also raises the needed minor to 12, and the written one if it
+ * is below (docs/FORMAT.md has the bytes): then readers of this library refuse the stream by 7 below level 12 and by 15, with
+ * the first such id, at 12; and older ones, which knew no such ids, by 7 too. Where the need was not raised, a reader that
+ * reaches it refuses the stream by 8 in this library, and skips the part in older ones.
  *
  *
  * PATTERNS, NOT FLOATS

@@ -130,7 +130,7 @@ GWZ_HELPER const char *gwz_refusal_text(uint32_t number)
         return "The stream is too new: read it at the level that the detail names, or update this program.";
     case GWZ_BROKEN_HEADER:
         return "The header is broken or the bytes end too early: the file was cut or damaged, fetch it again. (If it comes the same "
-               "again: it states another need than its width, mode and side parts have, so ask who wrote it.)";
+               "again, ask who wrote it: it may be broken there, or state another need than its width, mode and side parts have.)";
     case GWZ_BROKEN_TABLE:
         return "The chunk table or the side table is broken: the file was cut, damaged or added to, fetch it again.";
     case GWZ_BROKEN_CHUNK:

@@ -249,7 +249,7 @@ def needing(data, needed):
 
 def guarded(streams):
     """Side parts on both sides of 2^31, with the need of the stream, one that is too small and one that is too large; and a
-    high id beside every fault that stands before it or behind it in a reader's order."""
+    high id beside a written minor that is too small, and beside a broken chunk table, side table and chunk."""
     for width, mode, k, levels in SETTINGS:
         name = f"{setting_name(width, mode, k)}-33-by-12"
         need = levels[0]

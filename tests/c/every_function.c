@@ -808,7 +808,7 @@ static void expect_ids(struct tally *tally, const char *what, uint32_t level, co
                 &example_values[2], read ? 1 : 0);
 }
 
-/* Ids from 2^31 up: every level refuses, and names the need or the first such id. */
+/* Ids on both sides of 2^31, with the right need and with others. */
 static void test_must_be_understood(struct tally *tally)
 {
     const uint32_t high = GWZ_FIRST_HIGH_ID;

@@ -3,31 +3,32 @@ use mathlib.Core.Path.{_≡_, refl, sym, ap, subst, _∙_}
 use mathlib.Core.Logic.{_⊎_, inl, inr}
 use mathlib.Core.Bool.{true, false}
 use mathlib.Core.List.{List}
-use Prim.Native.Nat.{ℕ, _^_, _≤_, _<_}
+use Prim.Native.Nat.{ℕ, _+_, _*_, _^_, _≤_, _<_}
 use native.Mathlib.Omega.{arith}
 use lib.IntN.{ℤ}
-use lib.ListN.{length, drop, getD}
+use lib.ListN.{length, take, drop, getD}
 use lib.Seq.{drop-at}
 use Rattle.numbers.specs.Answers.{codeAnswer, patternAnswer}
 use Rattle.numbers.specs.Bound.{boundAnswer}
 use Rattle.blocks.specs.Bytes.{Below}
 use Rattle.blocks.proofs.Law.Truth.{le-or-lt}
-use Rattle.stream.specs.Setting.{knownLevel, knownWidth, settingOf, need, someHigh, firstHigh, streamNeed, groupSize}
+use Rattle.stream.specs.Setting.{knownLevel, knownWidth, settingOf, need, streamNeed, groupSize}
+use Rattle.stream.specs.Tables.{someHigh, firstHigh}
 use Rattle.stream.specs.Chunk.{groupsIn}
 use Rattle.stream.specs.Stream.{values}
-use Rattle.stream.specs.Writing.{stream, Side, idsOf}
+use Rattle.stream.specs.Writing.{stream, Side, addSides, idsOf, WellFormedSides}
 use Rattle.stream.specs.Packing.{Packable, Sent}
-use Rattle.stream.specs.Theorem.{RefusedBy}
-use Rattle.stream.specs.Operations.{unpackAnswer, unpackOut}
+use Rattle.stream.specs.Theorem.{TooNew, RefusedBy}
+use Rattle.stream.specs.Operations.{unpackAnswer, unpackOut, packAnswer, packOut}
 use Rattle.stream.specs.declared.answers.Answer.the-variants.{Done}
 use Rattle.stream.specs.declared.answers.Probe32.{Probe32}
 use Rattle.stream.specs.declared.answers.Probe64.{Probe64}
 use Rattle.stream.proofs.Readers.{check-order, unpack-order, probe-order, refused-check, refused-unpack, refused-probe32, refused-probe64, refused-untouched, written-values, probe-as-unpack32, probe-as-unpack64, check-higher, unpack-higher, probe-higher32, probe-higher64}
-use Rattle.stream.proofs.Written.{length-order, pack-order, refused-length, refused-pack, refused-pack-untouched, accepted-later, accepted-leaves, accepted-is-raised, the-minors-as-they-were, length-is-answered, packed-length-bound, the-stream-is-packed, it-is-read, it-is-too-new, refused-by-7, refused-by-15, refused-by-8}
+use Rattle.stream.proofs.Written.{length-order, pack-order, refused-length, refused-pack, refused-pack-untouched, accepted-later, accepted-list, accepted-leaves, accepted-is-raised, the-minors-as-they-were, length-is-answered, packed-length-bound, the-stream-is-packed, it-is-read, it-is-too-new, refused-by-15, refused-by-8}
 use Rattle.stream.proofs.Understood.{a-high-id-is-never-skipped}
 use Rattle.gwizdorad_numbers.proofs.Theorems.{a-refused-code-is-not-written, a-refused-pattern-is-not-written}
 use Rattle.gwizdorad.specs.Result.{probeOut32, probeOut64}
-use Rattle.gwizdorad.specs.Demands.{Demand1, ComesBack, Packed, Demand2, Offered, ReadBack, given-back, too-new, Demand3, Guarded, RightNeed, NotSkipped}
+use Rattle.gwizdorad.specs.Demands.{Demand1, ComesBack, Packed, Demand2, Offered, ReadBack, given-back, too-new, Demand3, WithMinors, RightNeed, NotSkipped}
 use Rattle.gwizdorad.proofs.Theorems.{probe32-leaves-what-unpack-leaves, probe64-leaves-what-unpack-leaves}
 use Rattle.gwizdorad.proofs.Law.Demand.{coded-at, code-refused, pattern-refused, pattern-above, bound-detail, unknown-width, lossless-at, differences-at, within-at, bound-at, offered, is-sent, as-many, come-back}
 
@@ -92,8 +93,8 @@ module _ (W level mode : ℕ) (k : ℤ) (vs s : List ℕ) (o : Offered W level m
           (unpacked W level mode k vs s (o .width) (o .patterns) packed L (length vs) back (read .1))
           (ap (drop (length vs)) (read .2) ∙ drop-at (values s) (drop (length vs) back) (length vs) (as-many W level mode k vs s (o .width) (o .patterns) packed))
       go (inr exceeds) =
-          let refused = it-is-too-new W level mode k vs (offered W level mode k vs o) (sent .0) (need (settingOf W mode k)) s (sent .2) L known exceeds back in
-          too-new exceeds (refused .1) (refused .2)
+          let refused = it-is-too-new W level mode k vs (offered W level mode k vs o) (sent .0) (need (settingOf W mode k)) s (sent .2) L known exceeds .unpack W back in
+          too-new exceeds (refused .0) (refused .1)
 
 pub demand-3 : Demand3
 unfolding groupsIn groupSize
@@ -115,35 +116,59 @@ demand-3 =
       );
     }
 
--- a stream that must be understood
+-- side parts of any ids, and any two minors
 module _ (W level mode : ℕ) (k : ℤ) (vs : List ℕ) (parts : List Side) (written needed : ℕ) (s : List ℕ) (width : knownWidth W ≡ true) (patterns : Below (2 ^ W) vs)
-    (g : Guarded W level mode k vs parts written needed s) where
+    (m : WithMinors W level mode k vs parts written needed s) where
   p : Packable W written mode k vs
-  p = accepted-later W level mode k vs (g .out) (g .size) (g .done) width patterns written (g .later) (g .minors .0)
+  p = accepted-later W level mode k vs (m .out) (m .size) (m .done) width patterns written (m .later) (m .fit .0)
 
   sent : Sent written (settingOf W mode k) vs parts needed s
-  sent = rw (g .bytes) (accepted-is-raised W level mode k vs (g .out) (g .size) (g .done) parts (g .well-formed) written needed (g .minors .1))
+  sent = rw (m .bytes) (accepted-is-raised W level mode k vs (m .out) (m .size) (m .done) parts (m .well-formed) written needed (m .fit .1))
 
-  module _ (L : ℕ) (known : knownLevel L ≡ true) (back : List ℕ) (room : length vs ≤ length back) where
-    older : L < needed → RefusedBy W L s back (length vs) 7 needed
-    older = refused-by-7 W written mode k vs p parts needed s sent L known back room
+  module _ (L : ℕ) (known : knownLevel L ≡ true) where
+    older : L < needed → TooNew L s needed
+    older = it-is-too-new W written mode k vs p parts needed s sent L known
 
-    newer : needed ≤ L → RightNeed W mode k written needed → RefusedBy W L s back (length vs) 15 (firstHigh (idsOf parts))
-    newer reaches right = refused-by-15 W written mode k vs p parts needed s sent L known back room reaches (g .high) (right .0) (right .1)
+    wrong : needed ≤ L → (RightNeed W mode k parts written needed → ⊥) → RefusedBy W L s (length vs) 8 0
+    wrong = refused-by-8 W written mode k vs p parts needed s sent L known
 
-    wrong : needed ≤ L → (RightNeed W mode k written needed → ⊥) → RefusedBy W L s back (length vs) 8 0
-    wrong reaches other =
-        refused-by-8 W written mode k vs p parts needed s sent L known back room reaches
-        (λ right. other (right .0 ∙ ap (streamNeed (settingOf W mode k)) (g .high), right .1))
+    newer : needed ≤ L → RightNeed W mode k parts written needed → someHigh (idsOf parts) ≡ true → RefusedBy W L s (length vs) 15 (firstHigh (idsOf parts))
+    newer reaches right high =
+        refused-by-15 W written mode k vs p parts needed s sent L known reaches high (right .0 ∙ ap (streamNeed (settingOf W mode k)) high) (right .1)
+
+-- the minors as pack wrote them
+module _ (W level mode : ℕ) (k : ℤ) (vs out : List ℕ) (size : ℕ) (width : knownWidth W ≡ true) (patterns : Below (2 ^ W) vs) (done : packAnswer W level mode k vs (length out) ≡ Done size)
+    (parts : List Side) (well : WellFormedSides (size + 12 * length parts) parts) (high : someHigh (idsOf parts) ≡ true)
+    (L : ℕ) (known : knownLevel L ≡ true) (reaches : need (settingOf W mode k) ≤ L) (small : need (settingOf W mode k) < 12) where
+  as-written : WithMinors W level mode k vs parts level (need (settingOf W mode k)) (addSides (take size (packOut W level mode k vs out)) parts)
+  as-written =
+      record {
+        out = out;
+        size = size;
+        done = done;
+        well-formed = well;
+        later = omega arith;
+        fit = (accepted-list W level mode k vs out size done width patterns .minor, omega (arith, small));
+        bytes = sym (the-minors-as-they-were W level mode k vs out size done parts);
+      }
+
+  too-small : streamNeed (settingOf W mode k) (someHigh (idsOf parts)) ≡ need (settingOf W mode k) → ⊥
+  unfolding streamNeed
+  too-small e = let raised : streamNeed (settingOf W mode k) true ≡ need (settingOf W mode k) = rw high at e in omega (arith, raised, small)
+
+  unraised : RefusedBy W L (addSides (take size (packOut W level mode k vs out)) parts) (length vs) 8 0
+  unraised =
+      wrong W level mode k vs parts level (need (settingOf W mode k)) (addSides (take size (packOut W level mode k vs out)) parts) width patterns as-written L known reaches
+      (λ right. too-small (sym (right .0)))
 
 pub not-skipped : NotSkipped
 not-skipped =
     record {
-      packed = λ W level mode k vs parts written needed s width patterns g L known back room. (
-        older W level mode k vs parts written needed s width patterns g L known back room,
-        newer W level mode k vs parts written needed s width patterns g L known back room,
-        wrong W level mode k vs parts written needed s width patterns g L known back room,
+      packed = λ W level mode k vs parts written needed s width patterns m L known. (
+        older W level mode k vs parts written needed s width patterns m L known,
+        wrong W level mode k vs parts written needed s width patterns m L known,
+        newer W level mode k vs parts written needed s width patterns m L known,
       );
-      unraised = the-minors-as-they-were;
+      unraised = unraised;
       never = a-high-id-is-never-skipped;
     }

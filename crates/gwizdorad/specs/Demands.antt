@@ -23,14 +23,14 @@ use Rattle.numbers.specs.declared.bound.BoundAnswer.the-variants.{UnknownWidth}
 use Rattle.numbers.specs.declared.tolerance.CodeAnswer.the-variants as code
 use Rattle.numbers.specs.declared.tolerance.PatternAnswer.the-variants as pattern
 use Rattle.blocks.specs.Bytes.{Below}
-use Rattle.stream.specs.Setting.{knownLevel, knownWidth, fractionBits, losslessMode, allowedSetting, settingOf, need, someHigh, firstHigh, streamNeed}
+use Rattle.stream.specs.Setting.{knownLevel, knownWidth, fractionBits, losslessMode, allowedSetting, settingOf, need, streamNeed}
 use Rattle.stream.specs.Rows.{Decides, numbersOf}
 use Rattle.stream.specs.Header.{headerOf, chunksIn}
-use Rattle.stream.specs.Tables.{idsIn}
+use Rattle.stream.specs.Tables.{idsIn, someHigh, firstHigh}
 use Rattle.stream.specs.Writing.{stream, Side, placed, addSides, idsOf, WellFormedSides}
 use Rattle.stream.specs.Probe.{shown32, shown64}
 use Rattle.stream.specs.Operations.{checkRows, checkAnswer, unpackRows, unpackAnswer, unpackOut, probeRows, probeAnswer32, probeAnswer64, lengthRows, lengthAnswer, packRows, packAnswer, packOut}
-use Rattle.stream.specs.Theorem.{Accepts, RefusedBy}
+use Rattle.stream.specs.Theorem.{TooNew, RefusedBy, RefusedByAll}
 use Rattle.stream.specs.declared.answers.Answer.the-variants.{Done, Refused}
 use Rattle.stream.specs.declared.answers.Probe32.the-variants as p32
 use Rattle.stream.specs.declared.answers.Probe64.the-variants as p64
@@ -106,7 +106,7 @@ pub data Sided (b s : List ℕ) : Type 0 where
   plain : s ≡ b → Sided b s
   with-parts : (parts : List Side) → WellFormedSides (length b + 12 * length parts) parts → someHigh (idsOf parts) ≡ false → s ≡ addSides b parts → Sided b s
 
--- s is what pack has left of the values vs, as it is or with side parts added
+-- s is what pack has left of the values vs, as it is or with side parts added that may be skipped
 pub record Packed (W level mode : ℕ) (k : ℤ) (vs s : List ℕ) : Type 0 where
   pub out : List ℕ
   pub size : ℕ
@@ -184,34 +184,35 @@ pub record Demand3 : Type 0 where
 -- ---- Document 02, R-4: a reader must never skip what it must understand. "Ids from 2^31 up now mean 'must be understood'. No such id is defined
 -- yet, so a reader that meets one refuses. A stream with such an id needs level 12, which older readers refuse by 7."
 
--- s is what pack has left of the values vs, with these side parts added, of which some id is high, and with two minors put in their places: at 4 a written
--- one that is not below the level of pack, and at 8 any needed one
-pub record Guarded (W level mode : ℕ) (k : ℤ) (vs : List ℕ) (parts : List Side) (written needed : ℕ) (s : List ℕ) : Type 0 where
+-- s is what pack has left of the values vs, with these side parts added, whatever their ids, and with two minors put in their places: at 4 a written one
+-- that is not below the level of pack, and at 8 any needed one
+pub record WithMinors (W level mode : ℕ) (k : ℤ) (vs : List ℕ) (parts : List Side) (written needed : ℕ) (s : List ℕ) : Type 0 where
   pub out : List ℕ
   pub size : ℕ
   pub done : packAnswer W level mode k vs (length out) ≡ Done size
   pub well-formed : WellFormedSides (size + 12 * length parts) parts
-  pub high : someHigh (idsOf parts) ≡ true
   pub later : level ≤ written
-  pub minors : (written < 2 ^ 32) × (needed < 2 ^ 32)
+  pub fit : (written < 2 ^ 32) × (needed < 2 ^ 32)
   pub bytes : s ≡ placed 8 needed (placed 4 written (addSides (take size (packOut W level mode k vs out)) parts))
 
--- the needed minor is the right one: 12, or the setting's need if that is greater (`streamNeed`), and not above the written one
-abbrev pub RightNeed : ℕ → ℕ → ℤ → ℕ → ℕ → Type 0
-RightNeed W mode k written needed = (needed ≡ streamNeed (settingOf W mode k) true) × (needed ≤ written)
+-- the needed minor is the right one: what the stream needs, which with a high id is 12, or the setting's need if that is greater (`streamNeed`); and it is not
+-- above the written minor
+abbrev pub RightNeed : ℕ → ℕ → ℤ → List Side → ℕ → ℕ → Type 0
+RightNeed W mode k parts written needed = (needed ≡ streamNeed (settingOf W mode k) (someHigh (idsOf parts))) × (needed ≤ written)
 
 pub record NotSkipped : Type 0 where
-  -- every level refuses such a stream, by check, unpack and probe alike (`RefusedBy`): by 7 with the needed minor below that, and from it on by 15 with the
-  -- first high id, or, where the needed minor is not the right one, by 8
+  -- Below the needed minor every reader refuses such a stream by 7, with that minor (`TooNew`). From it on the readers of its width, lent room for the values,
+  -- refuse it (`RefusedBy`): by 8 where the needed minor is not the right one, "compared for equality", and by 15 with the first high id where it is and some
+  -- id is high. (Where none is, it is read: demand 3.)
   pub packed : (W level mode : ℕ) (k : ℤ) (vs : List ℕ) (parts : List Side) (written needed : ℕ) (s : List ℕ) → knownWidth W ≡ true → Below (2 ^ W) vs
-      → Guarded W level mode k vs parts written needed s
-      → (L : ℕ) → knownLevel L ≡ true → (back : List ℕ) → length vs ≤ length back
-      → (L < needed → RefusedBy W L s back (length vs) 7 needed)
-      × (needed ≤ L → RightNeed W mode k written needed → RefusedBy W L s back (length vs) 15 (firstHigh (idsOf parts)))
-      × (needed ≤ L → (RightNeed W mode k written needed → ⊥) → RefusedBy W L s back (length vs) 8 0)
-  -- who adds the parts alone leaves both minors as pack wrote them, so `packed` speaks of that stream too
-  pub unraised : (W level mode : ℕ) (k : ℤ) (vs out : List ℕ) (size : ℕ) → packAnswer W level mode k vs (length out) ≡ Done size → (parts : List Side)
-      → placed 8 (need (settingOf W mode k)) (placed 4 level (addSides (take size (packOut W level mode k vs out)) parts))
-      ≡ addSides (take size (packOut W level mode k vs out)) parts
-  -- of any bytes with a high id, whatever else they are, no reader at any level hands out a value
-  pub never : (L : ℕ) (s : List ℕ) → someHigh (idsIn (headerOf s) s) ≡ true → Accepts L s → ⊥
+      → WithMinors W level mode k vs parts written needed s → (L : ℕ) → knownLevel L ≡ true
+      → (L < needed → TooNew L s needed)
+      × (needed ≤ L → (RightNeed W mode k parts written needed → ⊥) → RefusedBy W L s (length vs) 8 0)
+      × (needed ≤ L → RightNeed W mode k parts written needed → someHigh (idsOf parts) ≡ true → RefusedBy W L s (length vs) 15 (firstHigh (idsOf parts)))
+  -- so who adds a part with a high id and leaves both minors as pack wrote them gets 8: the needed one is the setting's, and below 12
+  pub unraised : (W level mode : ℕ) (k : ℤ) (vs out : List ℕ) (size : ℕ) → knownWidth W ≡ true → Below (2 ^ W) vs → packAnswer W level mode k vs (length out) ≡ Done size
+      → (parts : List Side) → WellFormedSides (size + 12 * length parts) parts → someHigh (idsOf parts) ≡ true
+      → (L : ℕ) → knownLevel L ≡ true → need (settingOf W mode k) ≤ L → need (settingOf W mode k) < 12
+      → RefusedBy W L (addSides (take size (packOut W level mode k vs out)) parts) (length vs) 8 0
+  -- of any bytes with a high id, whatever else they are, every reader at every level refuses to hand out a value
+  pub never : (L : ℕ) (s : List ℕ) → someHigh (idsIn (headerOf s) s) ≡ true → RefusedByAll L s

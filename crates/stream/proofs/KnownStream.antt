@@ -12,11 +12,11 @@ use Rattle.numbers.specs.Lossless.{rotated, field, minus, lowered, stepped, los
 use Rattle.numbers.specs.Difference.{differenceCode, differenceCodes, differenceRestored, runningSums}
 use Rattle.blocks.specs.Bytes.{number, digits}
 use Rattle.stream.specs.Group.{bytesFor, largest, widthOf, packed, groupBytes, givenWidth, groupLength, groupNumber, groupCodes, within, goodGroup}
-use Rattle.stream.specs.Setting.{highestLevel, knownLevel, knownWidth, fractionBits, widthNeed, modeNeed, need, highId, someHigh, streamNeed, losslessMode, isZero, allowedSetting, binFor, settingOf, kBits, groupSize, codeAt, patternAt, codesAfter, patternsAfter, limitOf}
+use Rattle.stream.specs.Setting.{highestLevel, knownLevel, knownWidth, fractionBits, widthNeed, modeNeed, need, streamNeed, losslessMode, isZero, allowedSetting, binFor, settingOf, kBits, groupSize, codeAt, patternAt, codesAfter, patternsAfter, limitOf}
 use Rattle.stream.specs.Chunk.{groupsIn, groupsBytes, chunkBytes, firstFault, chunkAnswer, groupsCodes, chunkCodes}
 use Rattle.stream.specs.Rows.{rowsFrom, first, answer, after}
 use Rattle.stream.specs.Header.{word, headerOf, kOf, chunksIn, tooMany, needRight, settingRight, layoutRight}
-use Rattle.stream.specs.Tables.{every, startAt, startRight, chunkTableRight, sideId, sidePlace, sideLength, idFloor, partAt, entryRight, sideTableRight, idsFrom, idsIn}
+use Rattle.stream.specs.Tables.{every, startAt, startRight, chunkTableRight, sideId, sidePlace, sideLength, idFloor, partAt, entryRight, sideTableRight, idsFrom, idsIn, highId, someHigh}
 use Rattle.stream.specs.Stream.{joined, countOf, chunkOf, chunkState, chunkValues, valuesIn, values}
 use Rattle.stream.specs.Writing.{spell, piece, pieceBytes, dataOf, startsOf, headerNumbers, endOf, body, stream, Side, entries, parts, placed, addSides}
 use Rattle.stream.specs.Probe.{probed32}
@@ -114,6 +114,18 @@ need-nine-read = refl
 need-nine-probed : probeAnswer32 10 needNine 0 ∷ probeAnswer32 10 needNine 3 ∷ [] ≡ p32.Refused 8 0 ∷ p32.Refused 11 0 ∷ []
 unfolding size signedView folded bitsOf number digits bytesFor largest widthOf givenWidth groupLength groupNumber groupCodes within goodGroup highestLevel knownLevel knownWidth fractionBits widthNeed modeNeed need highId someHigh streamNeed losslessMode isZero allowedSetting binFor groupSize limitOf groupsIn firstFault chunkAnswer first answer word headerOf kOf chunksIn tooMany needRight settingRight layoutRight every startAt startRight chunkTableRight sideId sidePlace sideLength idFloor partAt entryRight sideTableRight idsFrom idsIn countOf chunkOf chunkState spell headerRows openingRows needRow idRow sideRows tableRows faultDetail faultRow rowsFrom chunkRow chunkRows contentRows checkRows checkAnswer widthRow indexRow ownRows probeRows probeAnswer32 probed32 needNine
 need-nine-probed = refl
+
+-- a need below that of the setting, the list of mode 2 with 10 where it needs 11, at level 11: it is 8 before all of these
+needTen : List ℕ
+needTen = spell (1 ∷ 11 ∷ 10 ∷ 32 ∷ 2 ∷ 0 ∷ 4 ∷ 1 ∷ 48 ∷ 52 ∷ 0 ∷ 55 ∷ 0 ∷ []) ++ (0x04 ∷ 0x4A ∷ 0x50 ∷ [])
+
+need-ten-read : checkAnswer 11 needTen ∷ unpackAnswer 64 11 needTen 4 ∷ unpackAnswer 32 11 needTen 3 ∷ unpackAnswer 32 11 needTen 4 ∷ [] ≡ replicate 4 (Refused 8 0)
+unfolding size signedView folded bitsOf number digits bytesFor largest widthOf givenWidth groupLength groupNumber groupCodes within goodGroup highestLevel knownLevel knownWidth fractionBits widthNeed modeNeed need highId someHigh streamNeed losslessMode isZero allowedSetting binFor groupSize limitOf groupsIn firstFault chunkAnswer first answer word headerOf kOf chunksIn tooMany needRight settingRight layoutRight every startAt startRight chunkTableRight sideId sidePlace sideLength idFloor partAt entryRight sideTableRight idsFrom idsIn countOf chunkOf chunkState spell headerRows openingRows needRow idRow sideRows tableRows faultDetail faultRow rowsFrom chunkRow chunkRows contentRows checkRows checkAnswer widthRow roomRow unpackRows unpackAnswer needTen
+need-ten-read = refl
+
+need-ten-probed : probeAnswer32 11 needTen 0 ∷ probeAnswer32 11 needTen 4 ∷ [] ≡ replicate 2 (p32.Refused 8 0)
+unfolding size signedView folded bitsOf number digits bytesFor largest widthOf givenWidth groupLength groupNumber groupCodes within goodGroup highestLevel knownLevel knownWidth fractionBits widthNeed modeNeed need highId someHigh streamNeed losslessMode isZero allowedSetting binFor groupSize limitOf groupsIn firstFault chunkAnswer first answer word headerOf kOf chunksIn tooMany needRight settingRight layoutRight every startAt startRight chunkTableRight sideId sidePlace sideLength idFloor partAt entryRight sideTableRight idsFrom idsIn countOf chunkOf chunkState spell headerRows openingRows needRow idRow sideRows tableRows faultDetail faultRow rowsFrom chunkRow chunkRows contentRows checkRows checkAnswer widthRow indexRow ownRows probeRows probeAnswer32 probed32 needTen
+need-ten-probed = refl
 
 -- The difference restarts at each chunk, and not at each group: of 1,025 sevens the first of each chunk has a code of 4 bits, in a group of 1 + 16 bytes
 -- and in one of 1 + 1, and the 31 other groups have no bits.

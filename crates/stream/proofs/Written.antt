@@ -14,15 +14,15 @@ use lib.Seq.{take-at}
 use Rattle.bins.specs.Tolerance.{binOf, ordinal}
 use Rattle.numbers.specs.Theorem.{Within}
 use Rattle.blocks.specs.Bytes.{Below}
-use Rattle.stream.specs.Setting.{knownLevel, knownWidth, fractionBits, losslessMode, binFor, settingOf, need, someHigh, firstHigh, streamNeed, groupSize}
+use Rattle.stream.specs.Setting.{knownLevel, knownWidth, fractionBits, losslessMode, binFor, settingOf, need, streamNeed, groupSize}
 use Rattle.stream.specs.Chunk.{groupsIn}
 use Rattle.stream.specs.Rows.{row, first, Decides, numbersOf, answer, after}
 use Rattle.stream.specs.Header.{word, headerOf, chunksIn, settingRight, layoutRight}
-use Rattle.stream.specs.Tables.{chunkTableRight, sideTableRight, idsIn}
+use Rattle.stream.specs.Tables.{chunkTableRight, sideTableRight, idsIn, someHigh, firstHigh}
 use Rattle.stream.specs.Stream.{chunkState, values}
 use Rattle.stream.specs.Writing.{headerNumbers, endOf, stream, Side, placed, addSides, idsOf, WellFormedSides}
 use Rattle.stream.specs.Packing.{Packable, Sent, mostBytes}
-use Rattle.stream.specs.Theorem.{comingBack, RefusedBy}
+use Rattle.stream.specs.Theorem.{comingBack, TooNew, RefusedBy}
 use Rattle.stream.specs.Probe.{probed32, probed64}
 use Rattle.stream.specs.Operations.{idRow, checkRows, checkAnswer, unpackRows, unpackAnswer, unpackOut, probeRows, probeAnswer32, probeAnswer64, lengthRows, lengthAnswer, packRows, packAnswer, packOut}
 use Rattle.stream.specs.declared.answers.Answer.the-variants.{Done, Refused}
@@ -123,10 +123,10 @@ module _ (W level mode : ℕ) (k : ℤ) (vs out : List ℕ) (n : ℕ) (done : pa
 
     pub accepted-is-raised : (written needed : ℕ) → needed < 2 ^ 32
         → Sent written (settingOf W mode k) vs ps needed (placed 8 needed (placed 4 written (addSides (take n (packOut W level mode k vs out)) ps)))
-    accepted-is-raised written needed minor =
+    accepted-is-raised written needed fits =
         record {
           well-formed = subst (λ (m : ℕ). WellFormedSides (m + 12 * length ps) ps) (length-stream level (settingOf W mode k) vs ∙ sym (length-stream written (settingOf W mode k) vs)) lies;
-          minor = minor;
+          fits = fits;
           bytes = ap (placed 8 needed) (ap (λ (b : List ℕ). placed 4 written (addSides b ps)) accepted-bytes ∙ rewritten level written (settingOf W mode k) vs ps);
         }
 
@@ -253,14 +253,14 @@ module _ (W level mode : ℕ) (k : ℤ) (vs : List ℕ) (p : Packable W level mo
       unpack-exactly room l =
           either-way (first (unpackRows W L s room))
           (unpack-read level (settingOf W mode k) vs (storable W level mode k vs p) ps needed s sent L known room l)
-          (unpack-stop level (settingOf W mode k) vs (storable W level mode k vs p) ps needed s sent L known room)
+          (unpack-stop level (settingOf W mode k) vs (storable W level mode k vs p) ps needed s sent L known W room)
 
       -- probe of each index likewise
       pub probe-exactly : (i : ℕ) → i < length vs → first (probeRows W L s i) ≡ exactly
       probe-exactly i l =
           either-way (first (probeRows W L s i))
           (probe-read level (settingOf W mode k) vs (storable W level mode k vs p) ps needed s sent L known i l)
-          (probe-stop level (settingOf W mode k) vs (storable W level mode k vs p) ps needed s sent L known i)
+          (probe-stop level (settingOf W mode k) vs (storable W level mode k vs p) ps needed s sent L known W i)
 
       -- so where no id is high and the need is the setting's and reached, check counts the values and unpack hands them out
       pub it-is-read : someHigh (idsOf ps) ≡ false → needed ≡ need (settingOf W mode k) → needed ≤ L → (out : List ℕ) → length vs ≤ length out
@@ -274,42 +274,40 @@ module _ (W level mode : ℕ) (k : ℤ) (vs : List ℕ) (p : Packable W level mo
           let passes = unpack-read level (settingOf W mode k) vs (storable W level mode k vs p) ps needed s sent L known (length out) l h ∙ nothing in
           (rw checks (ap Done n), rw passes (ap Done n), rw passes (ap (λ (m : ℕ). values s ++ drop m out) n))
 
-      -- and where the need is not reached, both say which level is needed, and the output stays as it was, whatever room it has
-      pub it-is-too-new : L < needed → (out : List ℕ)
-          → (checkAnswer L s ≡ Refused 7 needed) × (unpackAnswer W L s (length out) ≡ Refused 7 needed) × (unpackOut W L s out ≡ out)
-      unfolding checkAnswer unpackAnswer unpackOut answer after
-      it-is-too-new h out =
-          let stops = unpack-stop level (settingOf W mode k) vs (storable W level mode k vs p) ps needed s sent L known (length out) h in
-          (rw (check-stop level (settingOf W mode k) vs (storable W level mode k vs p) ps needed s sent L known h), rw stops, rw stops)
+      -- and where the needed minor is not reached, every reader names it, and unpack's output stays as it was
+      pub it-is-too-new : L < needed → TooNew L s needed
+      unfolding checkAnswer unpackAnswer unpackOut answer after probeAnswer32 probeAnswer64 probed32 probed64
+      it-is-too-new h =
+          let unpacks = unpack-stop level (settingOf W mode k) vs (storable W level mode k vs p) ps needed s sent L known in
+          let probes = probe-stop level (settingOf W mode k) vs (storable W level mode k vs p) ps needed s sent L known in
+          record {
+            check = rw (check-stop level (settingOf W mode k) vs (storable W level mode k vs p) ps needed s sent L known h);
+            unpack = λ any back. (rw (unpacks any (length back) h), rw (unpacks any (length back) h));
+            probe32 = λ i. rw (probes 32 i h);
+            probe64 = λ i. rw (probes 64 i h);
+          }
 
-      -- what all readers refuse it by
-      module _ (back : List ℕ) (room : length vs ≤ length back) where
-        all-readers : (number detail : ℕ) → exactly ≡ Stop number detail → RefusedBy W L s back (length vs) number detail
-        unfolding checkAnswer unpackAnswer unpackOut answer after probeAnswer32 probeAnswer64 probed32 probed64
-        all-readers number detail e =
-            let unpacks = unpack-exactly (length back) room ∙ e in
-            let probes : (i : ℕ) → i < length vs → first (probeRows W L s i) ≡ Stop number detail = λ i l. probe-exactly i l ∙ e in
-            record {
-              check = rw (check-exactly ∙ e);
-              unpack = rw unpacks;
-              untouched = rw unpacks;
-              probe32 = λ is i l. rw (subst (λ (w : ℕ). first (probeRows w L s i) ≡ Stop number detail) is (probes i l));
-              probe64 = λ is i l. rw (subst (λ (w : ℕ). first (probeRows w L s i) ≡ Stop number detail) is (probes i l));
-            }
+      -- where it is reached, what the readers of the stream's width refuse it by, lent room for the values
+      all-readers : (number detail : ℕ) → exactly ≡ Stop number detail → RefusedBy W L s (length vs) number detail
+      unfolding checkAnswer unpackAnswer unpackOut answer after probeAnswer32 probeAnswer64 probed32 probed64
+      all-readers number detail e =
+          let unpacks : (back : List ℕ) → length vs ≤ length back → first (unpackRows W L s (length back)) ≡ Stop number detail = λ back room. unpack-exactly (length back) room ∙ e in
+          let probes : (i : ℕ) → i < length vs → first (probeRows W L s i) ≡ Stop number detail = λ i l. probe-exactly i l ∙ e in
+          record {
+            check = rw (check-exactly ∙ e);
+            unpack = λ back room. (rw (unpacks back room), rw (unpacks back room));
+            probe32 = λ is i l. rw (subst (λ (w : ℕ). first (probeRows w L s i) ≡ Stop number detail) is (probes i l));
+            probe64 = λ is i l. rw (subst (λ (w : ℕ). first (probeRows w L s i) ≡ Stop number detail) is (probes i l));
+          }
 
-        -- 7: the level does not reach the need
-        pub refused-by-7 : L < needed → RefusedBy W L s back (length vs) 7 needed
-        refused-by-7 h = all-readers 7 needed (rw (lt-ltb L needed h))
+      -- 15: the need is that of a stream with a high id, and there is one
+      pub refused-by-15 : needed ≤ L → someHigh (idsOf ps) ≡ true → needed ≡ streamNeed (settingOf W mode k) true → needed ≤ level
+          → RefusedBy W L s (length vs) 15 (firstHigh (idsOf ps))
+      refused-by-15 h high right reached =
+          all-readers 15 (firstHigh (idsOf ps))
+          (rw (le-ltb L needed h) (told-high level (settingOf W mode k) vs (storable W level mode k vs p) ps needed s sent high right reached))
 
-        -- 15: the need is that of a stream with a high id, and there is one
-        pub refused-by-15 : needed ≤ L → someHigh (idsOf ps) ≡ true → needed ≡ streamNeed (settingOf W mode k) true → needed ≤ level
-            → RefusedBy W L s back (length vs) 15 (firstHigh (idsOf ps))
-        refused-by-15 h high right reached =
-            all-readers 15 (firstHigh (idsOf ps))
-            (rw (le-ltb L needed h) (told-high level (settingOf W mode k) vs (storable W level mode k vs p) ps needed s sent high right reached))
-
-        -- 8: it is the need of another stream, or above the written minor
-        pub refused-by-8 : needed ≤ L → ((needed ≡ streamNeed (settingOf W mode k) (someHigh (idsOf ps))) × (needed ≤ level) → ⊥)
-            → RefusedBy W L s back (length vs) 8 0
-        refused-by-8 h other =
-            all-readers 8 0 (rw (le-ltb L needed h) (told-wrong level (settingOf W mode k) vs (storable W level mode k vs p) ps needed s sent other))
+      -- 8: it is the need of another stream, or above the written minor
+      pub refused-by-8 : needed ≤ L → ((needed ≡ streamNeed (settingOf W mode k) (someHigh (idsOf ps))) × (needed ≤ level) → ⊥) → RefusedBy W L s (length vs) 8 0
+      refused-by-8 h other =
+          all-readers 8 0 (rw (le-ltb L needed h) (told-wrong level (settingOf W mode k) vs (storable W level mode k vs p) ps needed s sent other))

@@ -5,10 +5,10 @@ use mathlib.Core.List.{List, [], _∷_, _++_, map}
 use lib.Dec.{ltb, eqb}
 use lib.IntN.{ℤ}
 use lib.ListN.{length, drop}
-use Rattle.stream.specs.Setting.{knownLevel, allowedSetting, settingOf, need, highId, someHigh, streamNeed}
+use Rattle.stream.specs.Setting.{knownLevel, allowedSetting, settingOf, need, streamNeed}
 use Rattle.stream.specs.Rows.{Row, row, rowsFrom, first, answer, after}
 use Rattle.stream.specs.Header.{headerOf, settingIn, tooMany, settingRight, layoutRight}
-use Rattle.stream.specs.Tables.{chunkTableRight, sideTableRight, idsIn}
+use Rattle.stream.specs.Tables.{chunkTableRight, sideTableRight, idsIn, highId, someHigh}
 use Rattle.stream.specs.Stream.{chunkState, values, valueAt}
 use Rattle.stream.specs.Writing.{stream}
 use Rattle.stream.specs.Probe.{probed32, probed64}

@@ -27,10 +27,10 @@ pub record Packable (W level mode : ℕ) (k : ℤ) (vs : List ℕ) : Type 0 wher
 
 -- The bytes s of such a list as a reader may meet them: with these side parts, which are none or well-formed, behind the data, and with any number for the
 -- needed minor, at 8. What pack wrote has the setting's own need there (`the-plain-stream`, `with-side-parts`).
-pub record Sent (level : ℕ) (t : Setting) (vs : List ℕ) (sides : List Side) (needed : ℕ) (s : List ℕ) : Type 0 where
-  pub well-formed : WellFormedSides (length (stream level t vs) + 12 * length sides) sides
-  pub minor : needed < 2 ^ 32
-  pub bytes : s ≡ placed 8 needed (addSides (stream level t vs) sides)
+pub record Sent (written : ℕ) (t : Setting) (vs : List ℕ) (sides : List Side) (needed : ℕ) (s : List ℕ) : Type 0 where
+  pub well-formed : WellFormedSides (length (stream written t vs) + 12 * length sides) sides
+  pub fits : needed < 2 ^ 32
+  pub bytes : s ≡ placed 8 needed (addSides (stream written t vs) sides)
 
 -- "Packed length is never above 48 + 4c + (n/32 rounded up) + n·W/8."
 unfoldable pub mostBytes : Setting → ℕ → ℕ

@@ -3,7 +3,7 @@
 -- The number rules are those of the libraries `numbers` and `bins`.
 use Prim.Native.Nat.{ℕ, _-_, _^_, min, max}
 use mathlib.Core.Bool.{Bool, false, _&&_, _||_, cond}
-use mathlib.Core.List.{List, [], _∷_, map}
+use mathlib.Core.List.{List, map}
 use lib.Dec.{leb, eqb}
 use lib.IntN.{ℤ, pos, negsuc}
 use Rattle.numbers.specs.Signed.{bitsOf}
@@ -60,23 +60,10 @@ modeNeed mode = cond (eqb mode 1) 9 (cond (eqb mode 2) 11 8)
 unfoldable pub need : Setting → ℕ
 need t = max (widthNeed (t .width)) (modeNeed (t .mode))
 
--- Document 02, R-4: "Ids from 2^31 up now mean 'must be understood'", and are called the high ids
-unfoldable pub highId : ℕ → Bool
-highId id = leb (2 ^ 31) id
-
-unfoldable pub someHigh : List ℕ → Bool
-someHigh [] = false
-someHigh (id ∷ ids) = highId id || someHigh ids
-
--- the first of them that is high (0 if none is)
-unfoldable pub firstHigh : List ℕ → ℕ
-firstHigh [] = 0
-firstHigh (id ∷ ids) = cond (highId id) id (firstHigh ids)
-
--- the need of a stream, with a high id among those of its side parts or without: "A stream with such an id needs level 12", and the largest
--- stands here too
+-- the need of a stream, with a high id among those of its side parts (`highId`) or without: "A stream with such an id needs level 12", and the
+-- largest stands here too
 unfoldable pub streamNeed : Setting → Bool → ℕ
-streamNeed t high = max (need t) (cond high 12 8)
+streamNeed t high = cond high (max (need t) 12) (need t)
 
 -- "k in two's complement (0 in mode 0)", and in mode 2 too: the number that the header has for it
 unfoldable pub kBits : Setting → ℕ

@@ -1,7 +1,7 @@
 -- Document 01, "The stream": the chunk table and the side table, which are refusal 9, and the ids that the late 8 and 15 look at. All sums are of natural
 -- numbers: none wraps.
-use Prim.Native.Nat.{ℕ, zero, suc, _+_, _-_, _*_}
-use mathlib.Core.Bool.{Bool, true, _&&_, cond}
+use Prim.Native.Nat.{ℕ, zero, suc, _+_, _-_, _*_, _^_}
+use mathlib.Core.Bool.{Bool, true, false, _&&_, _||_, cond}
 use mathlib.Core.List.{List, [], _∷_}
 use lib.Dec.{leb, ltb, eqb}
 use lib.ListN.{length}
@@ -66,3 +66,16 @@ idsFrom h s (suc k) i = sideId h s i ∷ idsFrom h s k (suc i)
 
 unfoldable pub idsIn : Header → List ℕ → List ℕ
 idsIn h s = idsFrom h s (h .sides) 0
+
+-- Document 02, R-4: "Ids from 2^31 up now mean 'must be understood'", and are called the high ids
+unfoldable pub highId : ℕ → Bool
+highId id = leb (2 ^ 31) id
+
+unfoldable pub someHigh : List ℕ → Bool
+someHigh [] = false
+someHigh (id ∷ ids) = highId id || someHigh ids
+
+-- the first of them that is high (0 if none is)
+unfoldable pub firstHigh : List ℕ → ℕ
+firstHigh [] = 0
+firstHigh (id ∷ ids) = cond (highId id) id (firstHigh ids)

@@ -7,11 +7,11 @@ use Prim.Native.Nat.{ℕ, zero, suc, _+_, _-_, _*_, _/_, _^_, _≤_, _<_, min}
 use lib.Dec.{ltb}
 use lib.ListN.{length, take, drop, getD}
 use Rattle.blocks.specs.Bytes.{Below, digits}
-use Rattle.stream.specs.Setting.{knownLevel, groupSize, codesOf, patternsOf, limitOf}
+use Rattle.stream.specs.Setting.{knownLevel, streamNeed, groupSize, codesOf, patternsOf, limitOf}
 use Rattle.stream.specs.Group.{groupBytes, groupLength, goodGroup}
 use Rattle.stream.specs.Chunk.{groupsIn, chunkBytes, chunkCodes}
 use Rattle.stream.specs.Header.{headerOf, settingIn, chunksIn}
-use Rattle.stream.specs.Tables.{startAt}
+use Rattle.stream.specs.Tables.{startAt, chunkTableRight, sideTableRight, idsIn, someHigh, firstHigh}
 use Rattle.stream.specs.Stream.{joined, countOf, chunkOf, chunkState}
 use Rattle.stream.specs.Writing.{piece}
 use Rattle.stream.specs.Probe.{shown32, shown64}
@@ -125,10 +125,34 @@ pub data Accepts (level : ℕ) (s : List ℕ) : Type 0 where
   by-probe32 : (i p : ℕ) → probeAnswer32 level s i ≡ shown32 p → Accepts level s
   by-probe64 : (i p : ℕ) → probeAnswer64 level s i ≡ shown64 p → Accepts level s
 
--- check, unpack into `back`, and probe of each of n indices all refuse s at the level L so, and unpack's output stays as it was
-pub record RefusedBy (W L : ℕ) (s back : List ℕ) (n number detail : ℕ) : Type 0 where
+-- ---- what no reader may skip
+
+-- every reader refuses s at the level L as too new, and names the needed minor: check, unpack of any width into any room, and probe of any index
+pub record TooNew (L : ℕ) (s : List ℕ) (needed : ℕ) : Type 0 where
+  pub check : checkAnswer L s ≡ Refused 7 needed
+  pub unpack : (W : ℕ) (back : List ℕ) → (unpackAnswer W L s (length back) ≡ Refused 7 needed) × (unpackOut W L s back ≡ back)
+  pub probe32 : (i : ℕ) → probeAnswer32 L s i ≡ p32.Refused 7 needed
+  pub probe64 : (i : ℕ) → probeAnswer64 L s i ≡ p64.Refused 7 needed
+
+-- the readers of the width W refuse s, which has n values, so at the level L: check, unpack into room for the values, and probe of each
+pub record RefusedBy (W L : ℕ) (s : List ℕ) (n number detail : ℕ) : Type 0 where
   pub check : checkAnswer L s ≡ Refused number detail
-  pub unpack : unpackAnswer W L s (length back) ≡ Refused number detail
-  pub untouched : unpackOut W L s back ≡ back
+  pub unpack : (back : List ℕ) → n ≤ length back → (unpackAnswer W L s (length back) ≡ Refused number detail) × (unpackOut W L s back ≡ back)
   pub probe32 : W ≡ 32 → (i : ℕ) → i < n → probeAnswer32 L s i ≡ p32.Refused number detail
   pub probe64 : W ≡ 64 → (i : ℕ) → i < n → probeAnswer64 L s i ≡ p64.Refused number detail
+
+-- every reader refuses s at the level L, each by some number and detail: check, unpack of any width into any room, and probe of any index
+pub record RefusedByAll (L : ℕ) (s : List ℕ) : Type 0 where
+  pub check : (number : ℕ) × (detail : ℕ) × (checkAnswer L s ≡ Refused number detail)
+  pub unpack : (W : ℕ) (back : List ℕ) → (number : ℕ) × (detail : ℕ) × (unpackAnswer W L s (length back) ≡ Refused number detail) × (unpackOut W L s back ≡ back)
+  pub probe32 : (i : ℕ) → (number : ℕ) × (detail : ℕ) × (probeAnswer32 L s i ≡ p32.Refused number detail)
+  pub probe64 : (i : ℕ) → (number : ℕ) × (detail : ℕ) × (probeAnswer64 L s i ≡ p64.Refused number detail)
+
+-- what 15 with the detail id tells of any bytes: the tables are right, id is the first high one of the side table, and the needed minor is the right one,
+-- which the level reaches
+pub record NotUnderstood (level : ℕ) (s : List ℕ) (id : ℕ) : Type 0 where
+  pub tables : (chunkTableRight (headerOf s) s ≡ true) × (sideTableRight (headerOf s) s ≡ true)
+  pub some-high : someHigh (idsIn (headerOf s) s) ≡ true
+  pub the-first : id ≡ firstHigh (idsIn (headerOf s) s)
+  pub right : headerOf s .needed ≡ streamNeed (settingIn (headerOf s)) true
+  pub reached : headerOf s .needed ≤ level

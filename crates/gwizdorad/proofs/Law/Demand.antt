@@ -21,7 +21,8 @@ use Rattle.numbers.specs.declared.tolerance.CodeAnswer.the-variants as code
 use Rattle.numbers.specs.declared.tolerance.PatternAnswer.the-variants as pattern
 use Rattle.numbers.proofs.Theorems.{format-32, format-64, every-pattern-is-restored, every-list-is-restored, a-coded-k-is-allowed, an-allowed-k-has-a-bin, a-code-is-restored, binary32-returned, binary64-returned, bound-for-binary32, bound-for-binary64}
 use Rattle.blocks.specs.Bytes.{Below}
-use Rattle.stream.specs.Setting.{knownWidth, fractionBits, allowedSetting, settingOf, need, someHigh}
+use Rattle.stream.specs.Setting.{knownWidth, fractionBits, allowedSetting, settingOf, need}
+use Rattle.stream.specs.Tables.{someHigh}
 use Rattle.stream.specs.Stream.{values}
 use Rattle.stream.specs.Writing.{Side, idsOf, WellFormedSides}
 use Rattle.stream.specs.Packing.{Packable, Sent}

@@ -7,11 +7,11 @@ use Rattle.numbers.specs.Signed.{signedView}
 use Rattle.bins.specs.Tolerance.{kOffset, lastBin, allowedK, binOf, largestU}
 use Rattle.blocks.specs.Bytes.{number, digits}
 use Rattle.stream.specs.Group.{bytesFor, largest, widthOf, givenWidth, groupLength, groupNumber, groupCodes, within, goodGroup}
-use Rattle.stream.specs.Setting.{highestLevel, knownLevel, knownWidth, fractionBits, widthNeed, modeNeed, need, someHigh, streamNeed, losslessMode, isZero, allowedSetting, binFor, groupSize, limitOf}
+use Rattle.stream.specs.Setting.{highestLevel, knownLevel, knownWidth, fractionBits, widthNeed, modeNeed, need, streamNeed, losslessMode, isZero, allowedSetting, binFor, groupSize, limitOf}
 use Rattle.stream.specs.Chunk.{groupsIn, firstFault, chunkAnswer}
 use Rattle.stream.specs.Rows.{rowsFrom, first, answer}
 use Rattle.stream.specs.Header.{word, headerOf, kOf, chunksIn, tooMany, needRight, settingRight, layoutRight}
-use Rattle.stream.specs.Tables.{every, startAt, startRight, chunkTableRight, partAt, sideTableRight, idsFrom, idsIn}
+use Rattle.stream.specs.Tables.{every, startAt, startRight, chunkTableRight, partAt, sideTableRight, idsFrom, idsIn, someHigh}
 use Rattle.stream.specs.Stream.{joined, countOf, chunkOf, chunkState}
 use Rattle.stream.specs.Writing.{spell}
 use Rattle.stream.specs.Operations.{headerRows, openingRows, needRow, sideRows, tableRows, faultDetail, faultRow, chunkRow, chunkRows, contentRows, checkRows, checkAnswer}

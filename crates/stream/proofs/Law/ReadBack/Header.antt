@@ -56,7 +56,7 @@ each-below b (x ∷ xs) ys e h (suc i) = each-below b xs ys (e .1) h i
 -- a needed minor and a number of side parts
 pub record Front (level needed : ℕ) (t : Setting) (vs : List ℕ) (sides : ℕ) : Type 0 where
   pub list : Storable level t vs
-  pub minor : needed < 2 ^ 32
+  pub fits : needed < 2 ^ 32
   pub few : sides ≤ 64
 
 module _ (level needed : ℕ) (t : Setting) (vs : List ℕ) where
@@ -101,7 +101,7 @@ module _ (level needed : ℕ) (t : Setting) (vs : List ℕ) where
           (
             p .minor,
             (
-              f .minor,
+              f .fits,
               (
                 omega (arith, width-most (t .width) (p .setting .known)),
                 (

@@ -12,10 +12,10 @@ use borrow.Author.Tests.{lt-ltb, le-ltb, lt-leb, le-leb, eq-eqb, ne-eqb}
 use lib.Dec.{leb, eqb, lit<}
 use lib.ListN.{length, drop, getD, length-append, List·getD-append}
 use Rattle.blocks.specs.Bytes.{Below}
-use Rattle.stream.specs.Setting.{knownLevel, need, someHigh, firstHigh, streamNeed, kBits, groupSize, codesOf}
+use Rattle.stream.specs.Setting.{knownLevel, need, streamNeed, kBits, groupSize, codesOf}
 use Rattle.stream.specs.Rows.{Row, rowsFrom, first}
 use Rattle.stream.specs.Header.{word, headerOf, kOf, chunksIn, settingRight, layoutRight}
-use Rattle.stream.specs.Tables.{chunkTableRight, sideTableRight, idsIn}
+use Rattle.stream.specs.Tables.{chunkTableRight, sideTableRight, idsIn, someHigh, firstHigh}
 use Rattle.stream.specs.Stream.{chunkState, valuesIn, values}
 use Rattle.stream.specs.Writing.{spell, piece, pieceBytes, dataOf, startsOf, headerNumbers, endOf, body, stream, Side, entries, parts, placed, addSides, idsOf, increasing, WellFormedSides}
 use Rattle.stream.specs.Packing.{Sent}
@@ -83,7 +83,7 @@ module _ (level : ℕ) (t : Setting) (vs : List ℕ) (ps : List Side) where
   same-need = needing (need t) ∙ sym sided
 
   pub sided-sent : WellFormedSides (length (stream level t vs) + 12 * length ps) ps → Sent level t vs ps (need t) (addSides (stream level t vs) ps)
-  sided-sent well = record { well-formed = well; minor = lt-of-le-of-lt (need-small t) (lit< tt); bytes = sym same-need }
+  sided-sent well = record { well-formed = well; fits = lt-of-le-of-lt (need-small t) (lit< tt); bytes = sym same-need }
 
 -- with another written minor it is the stream of that minor
 pub rewritten : (level written : ℕ) (t : Setting) (vs : List ℕ) (ps : List Side) → placed 4 written (addSides (stream level t vs) ps) ≡ addSides (stream written t vs) ps
@@ -133,7 +133,7 @@ module _ (level : ℕ) (t : Setting) (vs : List ℕ) (p : Storable level t vs) (
   numbers = frontNumbers level needed t vs (length ps)
 
   fits : Front level needed t vs (length ps)
-  fits = record { list = p; minor = sent .minor; few = well .few }
+  fits = record { list = p; fits = sent .fits; few = well .few }
 
   -- the parts of the stream, as the header and the tables see them
   after-front : s ≡ spell numbers ++ (dataOf t vs chunks ++ behind)
@@ -307,8 +307,8 @@ module _ (level : ℕ) (t : Setting) (vs : List ℕ) (p : Storable level t vs) (
         (λ least reached. sym (unpack-content L s (opening-pass h least reached) (headerOf s) refl (t .width) room width (omega (arith, count))) ∙ content-read)
         (λ wrong. sym (unpack-shut L s 8 0 (opening-broken h wrong) (t .width) room))
 
-    pub unpack-stop : (room : ℕ) → L < needed → first (unpackRows (t .width) L s room) ≡ Stop 7 needed
-    unpack-stop room h = sym (unpack-shut L s 7 needed (opening-stop h) (t .width) room)
+    pub unpack-stop : (W room : ℕ) → L < needed → first (unpackRows W L s room) ≡ Stop 7 needed
+    unpack-stop W room h = sym (unpack-shut L s 7 needed (opening-stop h) W room)
 
     pub probe-read : (i : ℕ) → i < length vs → needed ≤ L → first (probeRows (t .width) L s i) ≡ told
     probe-read i l h =
@@ -318,5 +318,5 @@ module _ (level : ℕ) (t : Setting) (vs : List ℕ) (p : Storable level t vs) (
         (λ least reached. sym (probe-own L s (opening-pass h least reached) (headerOf s) refl (t .width) i width (omega (arith, count))) ∙ own-read i l)
         (λ wrong. sym (probe-shut L s 8 0 (opening-broken h wrong) (t .width) i))
 
-    pub probe-stop : (i : ℕ) → L < needed → first (probeRows (t .width) L s i) ≡ Stop 7 needed
-    probe-stop i h = sym (probe-shut L s 7 needed (opening-stop h) (t .width) i)
+    pub probe-stop : (W i : ℕ) → L < needed → first (probeRows W L s i) ≡ Stop 7 needed
+    probe-stop W i h = sym (probe-shut L s 7 needed (opening-stop h) W i)

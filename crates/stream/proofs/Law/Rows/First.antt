@@ -1,12 +1,15 @@
 -- Rows: the first that is given decides.
 use mathlib.Core.Path.{_≡_, refl, sym, ap, ap₂, _∙_}
-use mathlib.Core.Bool.{Bool, true, false}
+use mathlib.Core.Bool.{Bool, true, false, _&&_, not}
 use mathlib.Core.List.{List, [], _∷_, _++_}
 use Prim.Native.Nat.{ℕ}
 use native.Mathlib.Omega.{arith}
-use Rattle.stream.specs.Rows.{Row, row, first, noneGiven, Decides}
+use borrow.Author.Tests.{eq-eqb}
+use lib.Dec.{eqb}
+use Rattle.stream.specs.Rows.{Row, row, first, noneGiven, Decides, numbersOf}
 use Rattle.stream.specs.declared.answers.Step.{Step}
 use Rattle.stream.specs.declared.answers.Step.the-variants.{Pass, Stop}
+use Rattle.stream.proofs.Law.Plain.Truth.{and-right}
 
 -- what comes after rows of which none is given
 unfoldable pub andThen : Step → Step → Step
@@ -87,3 +90,20 @@ decided rows number detail d = ap first (d .listed) ∙ behind (d .before) (d .e
     behind [] e = refl
     behind (row x true y ∷ before) e = let z : false ≡ true = e in absurd (let n : _≡_ {A = ℕ} 0 1 = cc in omega (arith, n))
     behind (row x false y ∷ before) e = behind before e
+
+-- ---- the rows before one have other numbers
+
+-- none of these numbers is x
+unfoldable pub without : ℕ → List ℕ → Bool
+without x [] = true
+without x (n ∷ ns) = not (eqb n x) && without x ns
+
+pub others : (x detail : ℕ) (before rows : List Row) → without x (numbersOf before) ≡ true → first (before ++ rows) ≡ Stop x detail → (first before ≡ Pass) × (first rows ≡ Stop x detail)
+unfolding first numbersOf without
+others x detail [] rows w e = (refl, e)
+others x detail (row number true y ∷ before) rows w e =
+    let z : Stop number y ≡ Stop x detail = e in
+    let same : number ≡ x = cc in
+    let no : false ≡ true = rw (eq-eqb number x same) at w in
+    absurd (let n : _≡_ {A = ℕ} 0 1 = cc in omega (arith, n))
+others x detail (row number false y ∷ before) rows w e = others x detail before rows (and-right (not (eqb number x)) (without x (numbersOf before)) w) e

@@ -6,9 +6,9 @@ use Prim.Native.Nat.{ℕ, zero, suc, _+_, _-_, _^_, _≤_, _<_}
 use borrow.Author.Tests.{le-leb, lt-leb, eq-eqb, ne-eqb}
 use lib.Dec.{leb}
 use lib.ListN.{length, replicate}
-use Rattle.stream.specs.Setting.{firstHigh, highId, someHigh, streamNeed}
+use Rattle.stream.specs.Setting.{streamNeed}
 use Rattle.stream.specs.Header.{settingIn}
-use Rattle.stream.specs.Tables.{sideId, idsFrom, idsIn}
+use Rattle.stream.specs.Tables.{sideId, idsFrom, idsIn, firstHigh, highId, someHigh}
 use Rattle.stream.specs.Rows.{Row, first, numbersOf}
 use Rattle.stream.specs.Operations.{needRow, idRow, sideRows}
 use Rattle.stream.specs.declared.answers.Step.the-variants.{Pass, Stop}

@@ -7,11 +7,11 @@ use borrow.Author.Tests.{ltb-true, ltb-false, le-ltb, eqb-true, eq-eqb, not-fals
 use lib.Dec.{ltb, eqb}
 use lib.ListN.{length, drop}
 use Rattle.blocks.specs.Bytes.{Below}
-use Rattle.stream.specs.Setting.{knownLevel, someHigh, streamNeed}
+use Rattle.stream.specs.Setting.{knownLevel, streamNeed}
 use Rattle.stream.specs.Rows.{Row, row, first, answer, after}
 use Rattle.stream.specs.Header.{headerOf, settingIn, settingRight, layoutRight}
 use Rattle.stream.specs.Relied.{Opened, Readable}
-use Rattle.stream.specs.Tables.{chunkTableRight, sideTableRight, idsIn}
+use Rattle.stream.specs.Tables.{chunkTableRight, sideTableRight, idsIn, someHigh}
 use Rattle.stream.specs.Stream.{chunkState, valuesIn, values}
 use Rattle.stream.specs.Operations.{headerRows, openingRows, needRow, idRow, sideRows, tableRows, chunkRow, chunkRows, contentRows, widthRow, roomRow, indexRow, ownRows, checkRows, unpackRows, unpackAnswer, unpackOut, probeRows}
 use Rattle.stream.specs.declared.answers.Answer.the-variants.{Done, Refused}

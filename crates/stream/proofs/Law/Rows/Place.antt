@@ -1,11 +1,11 @@
 -- The detail of refusal 10: which chunk and group it names. That a bad group is below 32 tells the two apart again.
 use mathlib.Core.Path.{_≡_, refl, sym, ap, subst, _∙_}
 use mathlib.Core.Logic.{_↔_}
-use mathlib.Core.Bool.{Bool, true, false, _&&_, not}
+use mathlib.Core.Bool.{true, not}
 use mathlib.Core.List.{List, [], _∷_, _++_, map}
 use Prim.Native.Nat.{ℕ, _+_, _*_, _/_, _%_, _≤_, _<_}
 use native.Mathlib.Omega.{arith}
-use borrow.Author.Tests.{ltb-true, eqb-true, eq-eqb, not-false}
+use borrow.Author.Tests.{ltb-true, eqb-true, not-false}
 use lib.Dec.{ltb, eqb}
 use lib.ListN.{length}
 use Rattle.stream.specs.Setting.{groupSize, limitOf}
@@ -20,12 +20,11 @@ use Rattle.stream.specs.declared.answers.Step.the-variants.{Pass, Stop}
 use Rattle.stream.specs.declared.chunk.ChunkAnswer.{ChunkAnswer}
 use Rattle.stream.specs.declared.chunk.ChunkAnswer.the-variants.{Good, Bad}
 use Rattle.stream.specs.declared.header.Header.{Header}
-use Rattle.stream.proofs.Law.Plain.Truth.{and-right}
 use Rattle.stream.proofs.Law.Plain.Scan.{rows-found}
 use Rattle.stream.proofs.Law.Header.Layout.{laid-out}
 use Rattle.stream.proofs.Law.Setting.Allowed.{size-some, groups-most}
 use Rattle.stream.proofs.Law.Chunk.FirstBad.{bad-exactly}
-use Rattle.stream.proofs.Law.Rows.First.{opened, passed-both, not-given}
+use Rattle.stream.proofs.Law.Rows.First.{opened, passed-both, not-given, without, others}
 use Rattle.stream.proofs.Law.Rows.Given.{probe-own}
 use Rattle.stream.proofs.Law.Rows.Passed.{opening}
 use Rattle.stream.proofs.Law.Rows.Chunks.{good-row, bad-row, passed-good}
@@ -82,21 +81,6 @@ module _ (h : Header) (s : List ℕ) (size : ℕ) (layout : Layout size h) (deta
       (n .1, λ i l. passed-good h s i (r .before i (omega arith) (omega (arith, n .0))))
 
 -- ---- the rows before are others
-
--- none of these numbers is x
-unfoldable without : ℕ → List ℕ → Bool
-without x [] = true
-without x (n ∷ ns) = not (eqb n x) && without x ns
-
-others : (x detail : ℕ) (before rows : List Row) → without x (numbersOf before) ≡ true → first (before ++ rows) ≡ Stop x detail → (first before ≡ Pass) × (first rows ≡ Stop x detail)
-unfolding first numbersOf without
-others x detail [] rows w e = (refl, e)
-others x detail (row number true y ∷ before) rows w e =
-    let z : Stop number y ≡ Stop x detail = e in
-    let same : number ≡ x = cc in
-    let no : false ≡ true = rw (eq-eqb number x same) at w in
-    absurd (let n : _≡_ {A = ℕ} 0 1 = cc in omega (arith, n))
-others x detail (row number false y ∷ before) rows w e = others x detail before rows (and-right (not (eqb number x)) (without x (numbersOf before)) w) e
 
 -- 15 is another number
 ids-others : (ids : List ℕ) → without 10 (numbersOf (map idRow ids)) ≡ true

@@ -59,12 +59,13 @@ need-small t = go (eqb (t .width) 64) (eqb (t .mode) 1) (eqb (t .mode) 2)
 -- a stream needs no less than its setting
 pub need-most : (t : Setting) (high : Bool) → need t ≤ streamNeed t high
 unfolding streamNeed
-need-most t high = omega arith
+need-most t true = omega arith
+need-most t false = omega arith
 
 -- a stream needs what its setting does where no id is high
 pub low-need : (t : Setting) → streamNeed t false ≡ need t
 unfolding streamNeed
-low-need t = omega (arith, need-least t)
+low-need t = refl
 
 -- from a test of the setting's need against 12
 pub raised-need : (t : Setting) (high : Bool) (n : ℕ) → n ≡ need t → high && ltb n 12 ≡ true → 12 ≡ streamNeed t high
@@ -75,4 +76,4 @@ raised-need t false n is e = let z : false ≡ true = e in absurd (let x : _≡_
 pub kept-need : (t : Setting) (high : Bool) (n : ℕ) → n ≡ need t → high && ltb n 12 ≡ false → n ≡ streamNeed t high
 unfolding streamNeed
 kept-need t true n is e = omega (arith, ltb-false n 12 e)
-kept-need t false n is e = omega (arith, need-least t)
+kept-need t false n is e = is

@@ -1,8 +1,7 @@
 -- `stream::tables::first_high` meets its contract. What is left decides: the id that was looked at last, and the entries behind it.
 use Rattle.stream.proofs.Law.Rows.Ids.{ids-start, ids-on, ids-done, ids-stop}
 use Rattle.stream.proofs.Law.Plain.Truth.{and-left, and-right, and-true}
-use Rattle.stream.specs.Tables.{sideId, idsFrom, idsIn}
-use Rattle.stream.specs.Setting.{firstHigh}
+use Rattle.stream.specs.Tables.{sideId, idsFrom, idsIn, firstHigh}
 use borrow.Author.Tests.{ltb-true, ltb-false, lt-ltb}
 use lib.Dec.{ltb}
 use mathlib.Core.Bool.{Bool, false, _&&_}
