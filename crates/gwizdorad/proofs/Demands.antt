@@ -19,7 +19,7 @@ use Rattle.stream.specs.Stream.{values}
 use Rattle.stream.specs.Writing.{stream, Side, addSides, idsOf, WellFormedSides}
 use Rattle.stream.specs.Packing.{Packable, Sent}
 use Rattle.stream.specs.Theorem.{TooNew, RefusedBy}
-use Rattle.stream.specs.Operations.{unpackAnswer, unpackOut, packAnswer, packOut}
+use Rattle.stream.specs.Operations.{checkAnswer, unpackAnswer, unpackOut, packAnswer, packOut}
 use Rattle.stream.specs.declared.answers.Answer.the-variants.{Done}
 use Rattle.stream.specs.declared.answers.Probe32.{Probe32}
 use Rattle.stream.specs.declared.answers.Probe64.{Probe64}
@@ -136,6 +136,11 @@ module _ (W level mode : ℕ) (k : ℤ) (vs : List ℕ) (parts : List Side) (wri
     newer reaches right high =
         refused-by-15 W written mode k vs p parts needed s sent L known reaches high (right .0 ∙ ap (streamNeed (settingOf W mode k)) high) (right .1)
 
+    skipped : needed ≤ L → RightNeed W mode k parts written needed → someHigh (idsOf parts) ≡ false → checkAnswer L s ≡ Done (length vs)
+    unfolding streamNeed
+    skipped reaches right low =
+        it-is-read W written mode k vs p parts needed s sent L known low (right .0 ∙ ap (streamNeed (settingOf W mode k)) low) reaches vs (omega arith) .0
+
 -- the minors as pack wrote them
 module _ (W level mode : ℕ) (k : ℤ) (vs out : List ℕ) (size : ℕ) (width : knownWidth W ≡ true) (patterns : Below (2 ^ W) vs) (done : packAnswer W level mode k vs (length out) ≡ Done size)
     (parts : List Side) (well : WellFormedSides (size + 12 * length parts) parts) (high : someHigh (idsOf parts) ≡ true)
@@ -168,6 +173,7 @@ not-skipped =
         older W level mode k vs parts written needed s width patterns m L known,
         wrong W level mode k vs parts written needed s width patterns m L known,
         newer W level mode k vs parts written needed s width patterns m L known,
+        skipped W level mode k vs parts written needed s width patterns m L known,
       );
       unraised = unraised;
       never = a-high-id-is-never-skipped;

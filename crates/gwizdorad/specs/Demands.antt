@@ -203,12 +203,13 @@ RightNeed W mode k parts written needed = (needed ≡ streamNeed (settingOf W mo
 pub record NotSkipped : Type 0 where
   -- Below the needed minor every reader refuses such a stream by 7, with that minor (`TooNew`). From it on the readers of its width, lent room for the values,
   -- refuse it (`RefusedBy`): by 8 where the needed minor is not the right one, "compared for equality", and by 15 with the first high id where it is and some
-  -- id is high. (Where none is, it is read: demand 3.)
+  -- id is high. Where it is and none is, check accepts it.
   pub packed : (W level mode : ℕ) (k : ℤ) (vs : List ℕ) (parts : List Side) (written needed : ℕ) (s : List ℕ) → knownWidth W ≡ true → Below (2 ^ W) vs
       → WithMinors W level mode k vs parts written needed s → (L : ℕ) → knownLevel L ≡ true
       → (L < needed → TooNew L s needed)
       × (needed ≤ L → (RightNeed W mode k parts written needed → ⊥) → RefusedBy W L s (length vs) 8 0)
       × (needed ≤ L → RightNeed W mode k parts written needed → someHigh (idsOf parts) ≡ true → RefusedBy W L s (length vs) 15 (firstHigh (idsOf parts)))
+      × (needed ≤ L → RightNeed W mode k parts written needed → someHigh (idsOf parts) ≡ false → checkAnswer L s ≡ Done (length vs))
   -- so who adds a part with a high id and leaves both minors as pack wrote them gets 8: the needed one is the setting's, and below 12
   pub unraised : (W level mode : ℕ) (k : ℤ) (vs out : List ℕ) (size : ℕ) → knownWidth W ≡ true → Below (2 ^ W) vs → packAnswer W level mode k vs (length out) ≡ Done size
       → (parts : List Side) → WellFormedSides (size + 12 * length parts) parts → someHigh (idsOf parts) ≡ true
