@@ -25,7 +25,7 @@ use Rattle.stream.specs.declared.answers.Probe32.{Probe32}
 use Rattle.stream.specs.declared.answers.Probe64.{Probe64}
 use Rattle.stream.proofs.Readers.{check-order, unpack-order, probe-order, refused-check, refused-unpack, refused-probe32, refused-probe64, refused-untouched, written-values, probe-as-unpack32, probe-as-unpack64, check-higher, unpack-higher, probe-higher32, probe-higher64}
 use Rattle.stream.proofs.Written.{length-order, pack-order, refused-length, refused-pack, refused-pack-untouched, accepted-later, accepted-list, accepted-leaves, accepted-is-raised, the-minors-as-they-were, length-is-answered, packed-length-bound, the-stream-is-packed, it-is-read, it-is-too-new, refused-by-15, refused-by-8}
-use Rattle.stream.proofs.Understood.{a-high-id-is-never-skipped}
+use Rattle.stream.proofs.Understood.{the-high-ids, a-high-id-is-never-skipped}
 use Rattle.gwizdorad_numbers.proofs.Theorems.{a-refused-code-is-not-written, a-refused-pattern-is-not-written}
 use Rattle.gwizdorad.specs.Result.{probeOut32, probeOut64}
 use Rattle.gwizdorad.specs.Demands.{Demand1, ComesBack, Packed, Demand2, Offered, ReadBack, given-back, too-new, Demand3, WithMinors, RightNeed, NotSkipped}
@@ -169,6 +169,7 @@ module _ (W level mode : ℕ) (k : ℤ) (vs out : List ℕ) (size : ℕ) (width 
 pub not-skipped : NotSkipped
 not-skipped =
     record {
+      high = the-high-ids;
       packed = λ W level mode k vs parts written needed s width patterns m L known. (
         older W level mode k vs parts written needed s width patterns m L known,
         wrong W level mode k vs parts written needed s width patterns m L known,

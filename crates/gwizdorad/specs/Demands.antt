@@ -26,7 +26,7 @@ use Rattle.blocks.specs.Bytes.{Below}
 use Rattle.stream.specs.Setting.{knownLevel, knownWidth, fractionBits, losslessMode, allowedSetting, settingOf, need, streamNeed}
 use Rattle.stream.specs.Rows.{Decides, numbersOf}
 use Rattle.stream.specs.Header.{headerOf, chunksIn}
-use Rattle.stream.specs.Tables.{idsIn, someHigh, firstHigh}
+use Rattle.stream.specs.Tables.{sideId, idsIn, highId, someHigh, firstHigh}
 use Rattle.stream.specs.Writing.{stream, Side, placed, addSides, idsOf, WellFormedSides}
 use Rattle.stream.specs.Probe.{shown32, shown64}
 use Rattle.stream.specs.Operations.{checkRows, checkAnswer, unpackRows, unpackAnswer, unpackOut, probeRows, probeAnswer32, probeAnswer64, lengthRows, lengthAnswer, packRows, packAnswer, packOut}
@@ -201,6 +201,8 @@ abbrev pub RightNeed : ℕ → ℕ → ℤ → List Side → ℕ → ℕ → Typ
 RightNeed W mode k parts written needed = (needed ≡ streamNeed (settingOf W mode k) (someHigh (idsOf parts))) × (needed ≤ written)
 
 pub record NotSkipped : Type 0 where
+  -- "Ids from 2^31 up"
+  pub high : (id : ℕ) → highId id ≡ true ↔ 2 ^ 31 ≤ id
   -- Below the needed minor every reader refuses such a stream by 7, with that minor (`TooNew`). From it on the readers of its width, lent room for the values,
   -- refuse it (`RefusedBy`): by 8 where the needed minor is not the right one, "compared for equality", and by 15 with the first high id where it is and some
   -- id is high. Where it is and none is, check accepts it.
@@ -210,10 +212,10 @@ pub record NotSkipped : Type 0 where
       × (needed ≤ L → (RightNeed W mode k parts written needed → ⊥) → RefusedBy W L s (length vs) 8 0)
       × (needed ≤ L → RightNeed W mode k parts written needed → someHigh (idsOf parts) ≡ true → RefusedBy W L s (length vs) 15 (firstHigh (idsOf parts)))
       × (needed ≤ L → RightNeed W mode k parts written needed → someHigh (idsOf parts) ≡ false → checkAnswer L s ≡ Done (length vs))
-  -- so who adds a part with a high id and leaves both minors as pack wrote them gets 8: the needed one is the setting's, and below 12
+  -- so who adds a part with a high id and leaves both minors as pack wrote them gets 8 at each level that reaches the needed one: it is the setting's, below 12
   pub unraised : (W level mode : ℕ) (k : ℤ) (vs out : List ℕ) (size : ℕ) → knownWidth W ≡ true → Below (2 ^ W) vs → packAnswer W level mode k vs (length out) ≡ Done size
       → (parts : List Side) → WellFormedSides (size + 12 * length parts) parts → someHigh (idsOf parts) ≡ true
       → (L : ℕ) → knownLevel L ≡ true → need (settingOf W mode k) ≤ L → need (settingOf W mode k) < 12
       → RefusedBy W L (addSides (take size (packOut W level mode k vs out)) parts) (length vs) 8 0
-  -- of any bytes with a high id, whatever else they are, every reader at every level refuses to hand out a value
-  pub never : (L : ℕ) (s : List ℕ) → someHigh (idsIn (headerOf s) s) ≡ true → RefusedByAll L s
+  -- of any bytes, whatever else they are, in whose side table an entry i has an id from 2^31 up, every reader at every level refuses to hand out a value
+  pub never : (L : ℕ) (s : List ℕ) (i : ℕ) → i < headerOf s .sides → 2 ^ 31 ≤ sideId (headerOf s) s i → RefusedByAll L s

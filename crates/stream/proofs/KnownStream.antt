@@ -79,7 +79,7 @@ unfolding streamNeed need widthNeed modeNeed
 high-needs-known = refl
 
 -- ---- side parts: document 01's list with two of them, the id 7 and another. With an id of 2^31 and the need 12 it is refused by every level, by 7 and at 12
--- by 15; with the setting's own need, 8, that need is found to be too small once the tables have passed, as 12 is found to be too great where the id is lower.
+-- by 15; with the setting's own need, 8, which is too small, it is refused by 8, and so it is with 12 where the id is lower, which is too great. 2^32 - 1 is high too.
 
 pub withIds : ℕ → ℕ → List ℕ
 withIds needed other =
@@ -89,8 +89,9 @@ withIds needed other =
 pub checkedAll : List ℕ → List Answer
 checkedAll s = map (λ (level : ℕ). checkAnswer level s) (8 ∷ 9 ∷ 10 ∷ 11 ∷ 12 ∷ [])
 
-pub high-id-checked : map checkedAll (withIds 12 0x8000_0000 ∷ withIds 8 0x8000_0000 ∷ withIds 8 0x7FFF_FFFF ∷ withIds 12 0x7FFF_FFFF ∷ [])
-    ≡ (replicate 4 (Refused 7 12) ++ (Refused 15 0x8000_0000 ∷ [])) ∷ replicate 5 (Refused 8 0) ∷ replicate 5 (Done 3) ∷ (replicate 4 (Refused 7 12) ++ (Refused 8 0 ∷ [])) ∷ []
+pub high-id-checked : map checkedAll (withIds 12 0x8000_0000 ∷ withIds 8 0x8000_0000 ∷ withIds 8 0x7FFF_FFFF ∷ withIds 12 0x7FFF_FFFF ∷ withIds 12 0xFFFF_FFFF ∷ [])
+    ≡ (replicate 4 (Refused 7 12) ++ (Refused 15 0x8000_0000 ∷ [])) ∷ replicate 5 (Refused 8 0) ∷ replicate 5 (Done 3) ∷ (replicate 4 (Refused 7 12) ++ (Refused 8 0 ∷ []))
+    ∷ (replicate 4 (Refused 7 12) ++ (Refused 15 0xFFFF_FFFF ∷ [])) ∷ []
 unfolding size signedView folded bitsOf number digits bytesFor largest widthOf givenWidth groupLength groupNumber groupCodes within goodGroup highestLevel knownLevel knownWidth fractionBits widthNeed modeNeed need highId someHigh streamNeed losslessMode isZero allowedSetting binFor groupSize limitOf groupsIn firstFault chunkAnswer first answer word headerOf kOf chunksIn tooMany needRight settingRight layoutRight every startAt startRight chunkTableRight sideId sidePlace sideLength idFloor partAt entryRight sideTableRight idsFrom idsIn countOf chunkOf chunkState spell headerRows openingRows needRow idRow sideRows tableRows faultDetail faultRow rowsFrom chunkRow chunkRows contentRows checkRows checkAnswer checkedAll withIds
 high-id-checked = refl
 
@@ -102,7 +103,8 @@ high-id-added : placed 8 12 (placed 4 12 (addSides (stream 8 (settingOf 32 0 (po
 unfolding size signedView folded bitsOf rotated field minus lowered stepped losslessCode number digits bytesFor largest widthOf packed groupBytes fractionBits widthNeed modeNeed need kBits binFor groupSize codeAt codesAfter groupsIn groupsBytes chunkBytes chunksIn joined spell piece pieceBytes dataOf startsOf headerNumbers endOf body stream threeValues placed addSides entries parts twoParts withIds
 high-id-added = refl
 
--- a need above that of the stream, read by each reader at level 10: the other width, too little room, an index past the end, and then the need
+-- a need above that of the stream, at level 10, read by check, by unpack of the other width, with too little room and with enough, and by probe, at 0 and past the
+-- end: behind 14, 4 and 11 it is 8
 needNine : List ℕ
 needNine = spell (1 ∷ 9 ∷ 9 ∷ 32 ∷ 0 ∷ 0 ∷ 3 ∷ 1 ∷ 48 ∷ 52 ∷ 0 ∷ 55 ∷ 0 ∷ []) ++ (0x03 ∷ 0x10 ∷ 0x01 ∷ [])
 
@@ -115,7 +117,8 @@ need-nine-probed : probeAnswer32 10 needNine 0 ∷ probeAnswer32 10 needNine 3 �
 unfolding size signedView folded bitsOf number digits bytesFor largest widthOf givenWidth groupLength groupNumber groupCodes within goodGroup highestLevel knownLevel knownWidth fractionBits widthNeed modeNeed need highId someHigh streamNeed losslessMode isZero allowedSetting binFor groupSize limitOf groupsIn firstFault chunkAnswer first answer word headerOf kOf chunksIn tooMany needRight settingRight layoutRight every startAt startRight chunkTableRight sideId sidePlace sideLength idFloor partAt entryRight sideTableRight idsFrom idsIn countOf chunkOf chunkState spell headerRows openingRows needRow idRow sideRows tableRows faultDetail faultRow rowsFrom chunkRow chunkRows contentRows checkRows checkAnswer widthRow indexRow ownRows probeRows probeAnswer32 probed32 needNine
 need-nine-probed = refl
 
--- a need below that of the setting, the list of mode 2 with 10 where it needs 11, at level 11: it is 8 before all of these
+-- a need below that of the setting, at the level that this needs: mode 2 with 10 where it needs 11, and width 64 with 9 where it needs 10. It is 8 before all of these,
+-- and so is a need above the written minor.
 needTen : List ℕ
 needTen = spell (1 ∷ 11 ∷ 10 ∷ 32 ∷ 2 ∷ 0 ∷ 4 ∷ 1 ∷ 48 ∷ 52 ∷ 0 ∷ 55 ∷ 0 ∷ []) ++ (0x04 ∷ 0x4A ∷ 0x50 ∷ [])
 
@@ -126,6 +129,27 @@ need-ten-read = refl
 need-ten-probed : probeAnswer32 11 needTen 0 ∷ probeAnswer32 11 needTen 4 ∷ [] ≡ replicate 2 (p32.Refused 8 0)
 unfolding size signedView folded bitsOf number digits bytesFor largest widthOf givenWidth groupLength groupNumber groupCodes within goodGroup highestLevel knownLevel knownWidth fractionBits widthNeed modeNeed need highId someHigh streamNeed losslessMode isZero allowedSetting binFor groupSize limitOf groupsIn firstFault chunkAnswer first answer word headerOf kOf chunksIn tooMany needRight settingRight layoutRight every startAt startRight chunkTableRight sideId sidePlace sideLength idFloor partAt entryRight sideTableRight idsFrom idsIn countOf chunkOf chunkState spell headerRows openingRows needRow idRow sideRows tableRows faultDetail faultRow rowsFrom chunkRow chunkRows contentRows checkRows checkAnswer widthRow indexRow ownRows probeRows probeAnswer32 probed32 needTen
 need-ten-probed = refl
+
+needNine64 : List ℕ
+needNine64 = spell (1 ∷ 10 ∷ 9 ∷ 64 ∷ 0 ∷ 0 ∷ 0 ∷ 0 ∷ 48 ∷ 48 ∷ 0 ∷ 48 ∷ [])
+
+need-nine64-read : checkAnswer 10 needNine64 ∷ unpackAnswer 32 10 needNine64 0 ∷ unpackAnswer 64 10 needNine64 0 ∷ [] ≡ replicate 3 (Refused 8 0)
+unfolding size signedView folded bitsOf number digits bytesFor largest widthOf givenWidth groupLength groupNumber groupCodes within goodGroup highestLevel knownLevel knownWidth fractionBits widthNeed modeNeed need highId someHigh streamNeed losslessMode isZero allowedSetting binFor groupSize limitOf groupsIn firstFault chunkAnswer first answer word headerOf kOf chunksIn tooMany needRight settingRight layoutRight every startAt startRight chunkTableRight sideId sidePlace sideLength idFloor partAt entryRight sideTableRight idsFrom idsIn countOf chunkOf chunkState spell headerRows openingRows needRow idRow sideRows tableRows faultDetail faultRow rowsFrom chunkRow chunkRows contentRows checkRows checkAnswer widthRow roomRow unpackRows unpackAnswer needNine64
+need-nine64-read = refl
+
+-- the list with the high id, written 8 and needed 12
+writtenEight : List ℕ
+writtenEight = placed 4 8 (withIds 12 0x8000_0000)
+
+written-eight-read : checkAnswer 12 writtenEight ∷ unpackAnswer 64 12 writtenEight 3 ∷ unpackAnswer 32 12 writtenEight 2 ∷ unpackAnswer 32 12 writtenEight 3 ∷ []
+    ≡ replicate 4 (Refused 8 0)
+unfolding size signedView folded bitsOf number digits bytesFor largest widthOf givenWidth groupLength groupNumber groupCodes within goodGroup highestLevel knownLevel knownWidth fractionBits widthNeed modeNeed need highId someHigh streamNeed losslessMode isZero allowedSetting binFor groupSize limitOf groupsIn firstFault chunkAnswer first answer word headerOf kOf chunksIn tooMany needRight settingRight layoutRight every startAt startRight chunkTableRight sideId sidePlace sideLength idFloor partAt entryRight sideTableRight idsFrom idsIn countOf chunkOf chunkState spell headerRows openingRows needRow idRow sideRows tableRows faultDetail faultRow rowsFrom chunkRow chunkRows contentRows checkRows checkAnswer widthRow roomRow unpackRows unpackAnswer placed withIds writtenEight
+written-eight-read = refl
+
+-- levels that are not known
+levels-known : map (λ (level : ℕ). checkAnswer level theirBytes) (0 ∷ 7 ∷ 13 ∷ []) ≡ replicate 3 (Refused 1 0)
+unfolding size signedView folded bitsOf number digits bytesFor largest widthOf givenWidth groupLength groupNumber groupCodes within goodGroup highestLevel knownLevel knownWidth fractionBits widthNeed modeNeed need highId someHigh streamNeed losslessMode isZero allowedSetting binFor groupSize limitOf groupsIn firstFault chunkAnswer first answer word headerOf kOf chunksIn tooMany needRight settingRight layoutRight every startAt startRight chunkTableRight sideId sidePlace sideLength idFloor partAt entryRight sideTableRight idsFrom idsIn countOf chunkOf chunkState spell headerRows openingRows needRow idRow sideRows tableRows faultDetail faultRow rowsFrom chunkRow chunkRows contentRows checkRows checkAnswer widthRow roomRow unpackRows unpackAnswer theirBytes
+levels-known = refl
 
 -- The difference restarts at each chunk, and not at each group: of 1,025 sevens the first of each chunk has a code of 4 bits, in a group of 1 + 16 bytes
 -- and in one of 1 + 1, and the 31 other groups have no bits.

@@ -1,8 +1,10 @@
 -- The rows 8 and 15, from the ids of the side table and from the first high one that the loop over them finds.
-use mathlib.Core.Path.{_≡_, refl, sym, ap, _∙_}
+use mathlib.Core.Path.{_≡_, refl, sym, ap, subst, _∙_}
 use mathlib.Core.Bool.{Bool, true, false, _||_, cond}
 use mathlib.Core.List.{List, [], _∷_, _++_, map}
 use Prim.Native.Nat.{ℕ, zero, suc, _+_, _-_, _^_, _≤_, _<_}
+use native.Mathlib.Nat.{add-zero, zero-add}
+use native.Mathlib.Omega.{arith}
 use borrow.Author.Tests.{le-leb, lt-leb, eq-eqb, ne-eqb}
 use lib.Dec.{leb}
 use lib.ListN.{length, replicate}
@@ -13,7 +15,7 @@ use Rattle.stream.specs.Rows.{Row, first, numbersOf}
 use Rattle.stream.specs.Operations.{needRow, idRow, sideRows}
 use Rattle.stream.specs.declared.answers.Step.the-variants.{Pass, Stop}
 use Rattle.stream.specs.declared.header.Header.{Header}
-use Rattle.stream.proofs.Law.Plain.Truth.{or-false}
+use Rattle.stream.proofs.Law.Plain.Truth.{or-true, or-false}
 use Rattle.stream.proofs.Law.Plain.Scan.{next, all-left, none-left}
 use Rattle.stream.proofs.Law.Rows.First.{passed-both, not-given}
 
@@ -66,6 +68,18 @@ module _ (h : Header) (s : List ℕ) where
   pub length-ids : length (idsIn h s) ≡ h .sides
   unfolding idsIn
   length-ids = length-from (h .sides) 0
+
+  -- an entry with a high id is seen among them
+  high-from : (k i j : ℕ) → j < k → highId (sideId h s (i + j)) ≡ true → someHigh (idsFrom h s k i) ≡ true
+  unfolding idsFrom someHigh
+  high-from zero i j l e = absurd (omega arith)
+  high-from (suc k) i zero l e = rw (subst (λ (n : ℕ). highId (sideId h s n) ≡ true) (add-zero i) e)
+  high-from (suc k) i (suc j) l e =
+      rw (high-from k (suc i) j (omega arith) (subst (λ (n : ℕ). highId (sideId h s n) ≡ true) (let q : i + suc j ≡ suc i + j = omega arith in q) e)) (or-true (highId (sideId h s i)))
+
+  pub high-entry : (i : ℕ) → i < h .sides → 2 ^ 31 ≤ sideId h s i → someHigh (idsIn h s) ≡ true
+  unfolding idsIn highId
+  high-entry i l high = high-from (h .sides) 0 i l (subst (λ (n : ℕ). highId (sideId h s n) ≡ true) (sym (zero-add i)) (le-leb (2 ^ 31) (sideId h s i) high))
 
   -- ---- the loop: the id that was looked at last, and then the others
 
