@@ -14,7 +14,7 @@ use Rattle.stream.specs.Relied.{Layout}
 use Rattle.stream.specs.Rows.{Row, row, first, numbersOf}
 use Rattle.stream.specs.Stream.{countOf, chunkOf, chunkState}
 use Rattle.stream.specs.Tables.{idsIn}
-use Rattle.stream.specs.Operations.{headerRows, openingRows, needRow, idRow, sideRows, tableRows, faultDetail, faultRow, chunkRow, chunkRows, contentRows, widthRow, roomRow, indexRow, ownRows, checkRows, unpackRows, probeRows}
+use Rattle.stream.specs.Operations.{openingRows, needRow, idRow, sideRows, tableRows, faultDetail, faultRow, chunkRow, chunkRows, contentRows, widthRow, indexRow, ownRows, checkRows, unpackRows, probeRows}
 use Rattle.stream.specs.Theorem.{FirstBad, BadGroup, Fault}
 use Rattle.stream.specs.declared.answers.Step.the-variants.{Pass, Stop}
 use Rattle.stream.specs.declared.chunk.ChunkAnswer.{ChunkAnswer}
@@ -25,7 +25,7 @@ use Rattle.stream.proofs.Law.Header.Layout.{laid-out}
 use Rattle.stream.proofs.Law.Setting.Allowed.{size-some, groups-most}
 use Rattle.stream.proofs.Law.Chunk.FirstBad.{bad-exactly}
 use Rattle.stream.proofs.Law.Rows.First.{opened, passed-both, not-given, without, others}
-use Rattle.stream.proofs.Law.Rows.Given.{probe-own}
+use Rattle.stream.proofs.Law.Rows.Given.{probe-own, check-behind, unpack-behind, probe-behind}
 use Rattle.stream.proofs.Law.Rows.Passed.{opening}
 use Rattle.stream.proofs.Law.Rows.Chunks.{good-row, bad-row, passed-good}
 
@@ -92,11 +92,6 @@ module _ (level : ℕ) (s : List ℕ) (detail : ℕ) where
   laid : first (openingRows level s) ≡ Pass → Layout (length s) (headerOf s)
   laid pass = laid-out (length s) (headerOf s) (opening level s pass .layout)
 
-  -- 1 5 6 7 8
-  opening-others : (rows : List Row) → first (openingRows level s ++ rows) ≡ Stop 10 detail → (first (openingRows level s) ≡ Pass) × (first rows ≡ Stop 10 detail)
-  unfolding openingRows headerRows numbersOf without
-  opening-others rows e = others 10 detail (openingRows level s) rows refl e
-
   -- 9 8 15
   table-others : (rows : List Row) → first (tableRows (headerOf s) s ++ rows) ≡ Stop 10 detail → (first (tableRows (headerOf s) s) ≡ Pass) × (first rows ≡ Stop 10 detail)
   unfolding tableRows sideRows needRow numbersOf without
@@ -113,16 +108,15 @@ module _ (level : ℕ) (s : List ℕ) (detail : ℕ) where
       }
 
   pub check-named : first (checkRows level s) ≡ Stop 10 detail → Fault s (detail / 32) (detail % 32)
-  unfolding checkRows
-  check-named e = let o = opening-others (contentRows (headerOf s) s) e in content-named (o .0) (o .1)
+  unfolding without
+  check-named e = let b = check-behind level s 10 detail refl e in content-named (b .0) (b .1)
 
   -- unpack's rows before 9 are others too, so it stops where check does
   pub unpack-checked : (W room : ℕ) → first (unpackRows W level s room) ≡ Stop 10 detail → first (checkRows level s) ≡ Stop 10 detail
-  unfolding unpackRows checkRows widthRow roomRow numbersOf without
+  unfolding checkRows without
   unpack-checked W room e =
-      let h = headerOf s in
-      let o = opening-others (widthRow W h ∷ roomRow room h ∷ contentRows h s) e in
-      opened (openingRows level s) (contentRows h s) (o .0) ∙ others 10 detail (widthRow W h ∷ roomRow room h ∷ []) (contentRows h s) refl (o .1) .1
+      let b = unpack-behind level s 10 detail refl W room refl e in
+      opened (openingRows level s) (contentRows (headerOf s) s) (b .0) ∙ b .1
 
   -- ---- probe: what is known where it stops at 10
 
@@ -134,15 +128,14 @@ module _ (level : ℕ) (s : List ℕ) (detail : ℕ) where
     row : first (chunkRow (headerOf s) s (i / 1024) ∷ []) ≡ Stop 10 detail
 
   probed : (W i : ℕ) → first (probeRows W level s i) ≡ Stop 10 detail → Probed W i
-  unfolding probeRows widthRow indexRow ownRows numbersOf without
+  unfolding widthRow indexRow ownRows without
   probed W i e =
       let h = headerOf s in
-      let o = opening-others (widthRow W h ∷ indexRow i h ∷ ownRows h s i) e in
-      let m = others 10 detail (widthRow W h ∷ indexRow i h ∷ []) (ownRows h s i) refl (o .1) in
-      let both = passed-both (widthRow W h) (indexRow i h ∷ []) (m .0) in
-      let t = table-others (chunkRow h s (i / 1024) ∷ []) (m .1) in
+      let b = probe-behind level s 10 detail refl W i refl e in
+      let both = passed-both (widthRow W h) (indexRow i h ∷ []) (b .1) in
+      let t = table-others (chunkRow h s (i / 1024) ∷ []) (b .2) in
       record {
-        pass = o .0;
+        pass = b .0;
         width = eqb-true (h .width) W (not-false (eqb (h .width) W) (not-given 14 0 (not (eqb (h .width) W)) (both .0)));
         below = ltb-true i (h .count) (not-false (ltb i (h .count)) (not-given 11 0 (not (ltb i (h .count))) (both .1)));
         right = t .0;
@@ -175,8 +168,8 @@ module _ (level : ℕ) (s : List ℕ) (detail : ℕ) where
   -- where check refuses, so does the probe of each value of the named chunk; the values of every good chunk are read
   module _ (refused : first (checkRows level s) ≡ Stop 10 detail) (W i : ℕ) (width : headerOf s .width ≡ W) (below : i < headerOf s .count) where
     open-tables : (first (openingRows level s) ≡ Pass) × (first (tableRows (headerOf s) s) ≡ Pass)
-    unfolding checkRows contentRows
-    open-tables = let o = opening-others (contentRows (headerOf s) s) refused in (o .0, table-others (chunkRows (headerOf s) s) (o .1) .0)
+    unfolding contentRows without
+    open-tables = let b = check-behind level s 10 detail refl refused in (b .0, table-others (chunkRows (headerOf s) s) (b .1) .0)
 
     pub probe-lost : i / 1024 ≡ detail / 32 → first (probeRows W level s i) ≡ Stop 10 detail
     probe-lost same =

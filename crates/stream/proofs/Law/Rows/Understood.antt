@@ -11,11 +11,12 @@ use Rattle.stream.specs.Setting.{streamNeed}
 use Rattle.stream.specs.Header.{headerOf, settingIn}
 use Rattle.stream.specs.Tables.{chunkTableRight, sideTableRight, idsIn, someHigh, firstHigh}
 use Rattle.stream.specs.Rows.{Row, row, first, numbersOf}
-use Rattle.stream.specs.Operations.{headerRows, openingRows, needRow, idRow, sideRows, tableRows, chunkRow, chunkRows, contentRows, widthRow, roomRow, indexRow, ownRows, checkRows, unpackRows, probeRows}
+use Rattle.stream.specs.Operations.{openingRows, needRow, idRow, sideRows, tableRows, chunkRow, chunkRows, contentRows, ownRows, checkRows, unpackRows, probeRows}
 use Rattle.stream.specs.Theorem.{NotUnderstood}
 use Rattle.stream.specs.declared.answers.Step.the-variants.{Pass, Stop}
 use Rattle.stream.proofs.Law.Plain.Truth.{and-left, and-right}
 use Rattle.stream.proofs.Law.Rows.First.{opened, shut, passed-both, not-given, without, others}
+use Rattle.stream.proofs.Law.Rows.Given.{check-behind, unpack-behind, probe-behind}
 use Rattle.stream.proofs.Law.Rows.Passed.{opening}
 use Rattle.stream.proofs.Law.Rows.Ids.{low-pass, high-stop}
 use Rattle.stream.proofs.Law.Rows.Chunks.{chunk-numbers, own-number}
@@ -65,31 +66,21 @@ module _ (level : ℕ) (s : List ℕ) (id : ℕ) where
           reached = opening level s pass .needed;
         }
 
-  -- 1 5 6 7 8
-  opening-others : (rows : List Row) → first (openingRows level s ++ rows) ≡ Stop 15 id → (first (openingRows level s) ≡ Pass) × (first rows ≡ Stop 15 id)
-  unfolding openingRows headerRows numbersOf without
-  opening-others rows e = others 15 id (openingRows level s) rows refl e
-
   content-told : first (openingRows level s) ≡ Pass → first (contentRows (headerOf s) s) ≡ Stop 15 id → NotUnderstood level s id
   unfolding contentRows
   content-told pass e =
       not-understood pass (chunkRows (headerOf s) s) (ap (without 15) (chunk-numbers (headerOf s) s) ∙ tens (headerOf s .chunks)) e
 
   pub check-told : first (checkRows level s) ≡ Stop 15 id → NotUnderstood level s id
-  unfolding checkRows
-  check-told e = let o = opening-others (contentRows (headerOf s) s) e in content-told (o .0) (o .1)
+  unfolding without
+  check-told e = let b = check-behind level s 15 id refl e in content-told (b .0) (b .1)
 
   pub unpack-told : (W room : ℕ) → first (unpackRows W level s room) ≡ Stop 15 id → NotUnderstood level s id
-  unfolding unpackRows widthRow roomRow numbersOf without
-  unpack-told W room e =
-      let h = headerOf s in
-      let o = opening-others (widthRow W h ∷ roomRow room h ∷ contentRows h s) e in
-      content-told (o .0) (others 15 id (widthRow W h ∷ roomRow room h ∷ []) (contentRows h s) refl (o .1) .1)
+  unfolding without
+  unpack-told W room e = let b = unpack-behind level s 15 id refl W room refl e in content-told (b .0) (b .1)
 
   pub probe-told : (W i : ℕ) → first (probeRows W level s i) ≡ Stop 15 id → NotUnderstood level s id
-  unfolding probeRows widthRow indexRow ownRows numbersOf without
+  unfolding ownRows without
   probe-told W i e =
-      let h = headerOf s in
-      let o = opening-others (widthRow W h ∷ indexRow i h ∷ ownRows h s i) e in
-      not-understood (o .0) (chunkRow h s (i / 1024) ∷ []) (ap (without 15) (own-number h s (i / 1024)))
-      (others 15 id (widthRow W h ∷ indexRow i h ∷ []) (ownRows h s i) refl (o .1) .1)
+      let b = probe-behind level s 15 id refl W i refl e in
+      not-understood (b .0) (chunkRow (headerOf s) s (i / 1024) ∷ []) (ap (without 15) (own-number (headerOf s) s (i / 1024))) (b .2)
