@@ -20,7 +20,7 @@ fn pair(s: &[u8], at: usize) -> u64
     wide(s[at]) + wide(s[at + 1]) * 256
 }
 
-fn quad(s: &[u8], at: usize) -> u64
+pub fn quad(s: &[u8], at: usize) -> u64
     requires { ⌜ at + 4 ≤ length (now s) ⌝ }
     ensures { λ r. ⌜ (r ≡ number 256 (take 4 (drop at (now (s .entry))))) × (r < 4294967296) ⌝ }
 {

@@ -10,4 +10,6 @@ pub mod Rows
 pub mod Values
 pub mod Written
 pub mod ReadBack
+pub mod Access
+pub mod Accepted
 pub mod Listing

@@ -4,6 +4,7 @@ pub mod Theorems
 pub mod Known
 pub mod KnownStream
 pub mod Readers
+pub mod Access
 pub mod Place
 pub mod Cut
 pub mod Understood

@@ -5,8 +5,15 @@ use mathlib.Core.List.{List, _++_}
 use Prim.Native.Nat.{ℕ}
 use lib.IntN.{ℤ}
 use lib.ListN.{length, drop}
-use Rattle.stream.specs.Operations.{checkAnswer, unpackAnswer, unpackOut, probeAnswer32, probeAnswer64, lengthAnswer, packAnswer, packOut}
+use Rattle.stream.specs.Operations.{openingRows, checkRows, checkAnswer, unpackAnswer, unpackOut, probeAnswer32, probeAnswer64, lengthAnswer, packAnswer, packOut}
 use Rattle.stream.specs.Listing.{listing}
+use Rattle.stream.specs.Header.{headerOf}
+use Rattle.stream.specs.Opening.{openedBy}
+use Rattle.stream.specs.Rows.{first}
+use Rattle.stream.specs.Access.{chunkRead, chunkOut, sidePart}
+use Rattle.stream.specs.declared.header.Opening.{Opening}
+use Rattle.stream.specs.declared.answers.ChunkRead.{ChunkRead}
+use Rattle.stream.specs.declared.answers.SidePart.{SidePart}
 use Rattle.stream.specs.declared.answers.Answer.{Answer}
 use Rattle.stream.specs.declared.answers.Probe32.{Probe32}
 use Rattle.stream.specs.declared.answers.Probe64.{Probe64}
@@ -59,3 +66,19 @@ pub listing-is-settled : (s text : List ℕ) (r r′ : ℕ) (now now′ : List �
     → Promised (length (listing s)) (listing s ++ drop (length (listing s)) text) r′ now′
     → (r ≡ r′) × (now ≡ now′)
 listing-is-settled s text r r′ now now′ = both
+
+-- ---- for libraries above: header::opened, reading::check_opening, one_chunk::values32, values64, sides::part
+
+module _ (level : ℕ) (s : List ℕ) where
+  pub opened-is-settled : (r r′ : Opening) → r ≡ openedBy (first (openingRows level s)) (headerOf s) → r′ ≡ openedBy (first (openingRows level s)) (headerOf s) → r ≡ r′
+  opened-is-settled r r′ = one
+
+  pub check-opening-is-settled : (r r′ : Opening) → r ≡ openedBy (first (checkRows level s)) (headerOf s) → r′ ≡ openedBy (first (checkRows level s)) (headerOf s) → r ≡ r′
+  check-opening-is-settled r r′ = one
+
+pub a-chunk-is-settled : (W : ℕ) (s : List ℕ) (j : ℕ) (out : List ℕ) (r r′ : ChunkRead) (now now′ : List ℕ)
+    → Promised (chunkRead W s j (length out)) (chunkOut W s j out) r now → Promised (chunkRead W s j (length out)) (chunkOut W s j out) r′ now′ → (r ≡ r′) × (now ≡ now′)
+a-chunk-is-settled W s j out r r′ now now′ = both
+
+pub a-side-part-is-settled : (s : List ℕ) (id : ℕ) (r r′ : SidePart) → r ≡ sidePart s id → r′ ≡ sidePart s id → r ≡ r′
+a-side-part-is-settled s id r r′ = one

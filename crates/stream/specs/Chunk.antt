@@ -1,10 +1,10 @@
 -- Document 01, "The stream", of a chunk: "It is cut into groups of 32 (the last may be shorter)." The size of a group is an argument.
 use Prim.Native.Nat.{ℕ, zero, suc, _+_, _-_, _/_, min}
-use mathlib.Core.Bool.{cond}
+use mathlib.Core.Bool.{Bool, true, _&&_, cond}
 use mathlib.Core.List.{List, [], _++_}
 use lib.Dec.{eqb}
 use lib.ListN.{length, take, drop}
-use Rattle.stream.specs.Group.{groupBytes, groupLength, groupCodes, goodGroup}
+use Rattle.stream.specs.Group.{groupBytes, groupLength, groupCodes, wholeGroup, goodGroup}
 use Rattle.stream.specs.declared.chunk.ChunkAnswer.{ChunkAnswer}
 use Rattle.stream.specs.declared.chunk.ChunkAnswer.the-variants.{Good, Bad}
 
@@ -30,6 +30,14 @@ firstFault W U size (suc q) n s i =
 
 unfoldable pub chunkAnswer : ℕ → ℕ → ℕ → ℕ → List ℕ → ChunkAnswer
 chunkAnswer W U size n s = firstFault W U size (groupsIn size n) n s 0
+
+-- Each of q groups is there to be read: all that reading a chunk's codes takes. Bytes left over do not count.
+unfoldable pub wholeGroups : ℕ → ℕ → ℕ → ℕ → List ℕ → Bool
+wholeGroups W size zero n s = true
+wholeGroups W size (suc q) n s = wholeGroup W (min size n) s && wholeGroups W size q (n - size) (drop (groupLength (min size n) s) s)
+
+unfoldable pub wholeChunk : ℕ → ℕ → ℕ → List ℕ → Bool
+wholeChunk W size n s = wholeGroups W size (groupsIn size n) n s
 
 unfoldable pub groupsCodes : ℕ → ℕ → ℕ → List ℕ → List ℕ
 groupsCodes size zero n s = []

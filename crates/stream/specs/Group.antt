@@ -55,12 +55,15 @@ unfoldable pub within : ℕ → List ℕ → Bool
 within U [] = true
 within U (c ∷ cs) = leb (c / 2) U && within U cs
 
+-- not "w above W" and not "bytes missing": a group whose codes are there to be read
+abbrev pub wholeGroup : ℕ → ℕ → List ℕ → Bool
+wholeGroup W n s = leb (givenWidth s) W && leb (groupLength n s) (length s)
+
 -- Refusal 10, of one group: it is good when none of these holds: "w above W or not smallest, bytes missing .., a padding bit set, u above
 -- its largest". Bytes left over are the chunk's to see, not the group's.
 unfoldable pub goodGroup : ℕ → ℕ → ℕ → List ℕ → Bool
 goodGroup W U n s =
-    leb (givenWidth s) W
-    && leb (groupLength n s) (length s)
+    wholeGroup W n s
     && eqb (givenWidth s) (widthOf (groupCodes n s))
     && ltb (groupNumber n s) (2 ^ (givenWidth s * n))
     && within U (groupCodes n s)

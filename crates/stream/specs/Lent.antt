@@ -1,14 +1,13 @@
 -- For the contracts of private functions: values are lent as one list for each width, of which the one of the setting's width counts. So a
 -- walk over a chunk or a stream exists once, and only the leaves look at the width.
 use mathlib.Core.Path.{_≡_}
-use mathlib.Core.Bool.{cond}
+use mathlib.Core.Bool.{true, cond}
 use mathlib.Core.List.{List, map, _++_}
 use Prim.Native.Nat.{ℕ, _+_}
 use lib.Dec.{eqb}
 use lib.ListN.{length, take, drop}
-use Rattle.stream.specs.Setting.{groupSize, codeAt, codesOf, patternsAfter, limitOf}
-use Rattle.stream.specs.Chunk.{chunkAnswer}
-use Rattle.stream.specs.declared.chunk.ChunkAnswer.the-variants.{Good}
+use Rattle.stream.specs.Setting.{groupSize, codeAt, codesOf, patternsAfter}
+use Rattle.stream.specs.Chunk.{wholeChunk}
 use Rattle.stream.specs.declared.setting.Setting.{Setting}
 
 -- the list of the width
@@ -31,9 +30,9 @@ Staged t v32 c32 = t .width ≡ 32 → (t .mode ≡ 0 → ⊥) → (t .mode ≡ 
 abbrev pub SameBehind : Setting → ℕ → ℕ → Type 0
 SameBehind t a b = (cs : List ℕ) → patternsAfter t a cs ≡ patternsAfter t b cs
 
--- the bytes begin with those of a good chunk of n values
+-- the bytes begin with those of a chunk of n values that is there to be read
 pub record Begun (t : Setting) (n : ℕ) (s : List ℕ) : Type 0 where
   pub bytes : List ℕ
   pub rest : List ℕ
   pub split : s ≡ bytes ++ rest
-  pub good : chunkAnswer (t .width) (limitOf t) (groupSize t) n bytes ≡ Good
+  pub whole : wholeChunk (t .width) (groupSize t) n bytes ≡ true

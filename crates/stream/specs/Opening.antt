@@ -1,4 +1,4 @@
--- For the contracts of private functions: the header of a stream where no row is given, else the first that is.
+-- For `header::opened`, `reading::check_opening` and private functions: the header of a stream where no row is given, else the first that is.
 use Rattle.stream.specs.declared.answers.Step.{Step}
 use Rattle.stream.specs.declared.answers.Step.the-variants.{Pass, Stop}
 use Rattle.stream.specs.declared.header.Header.{Header}

@@ -8,7 +8,7 @@ use lib.ListN.{length}
 use Rattle.bins.specs.Tolerance.{lastBin}
 use Rattle.stream.specs.Setting.{knownWidth, fractionBits, allowedSetting}
 use Rattle.stream.specs.Header.{kOf}
-use Rattle.stream.specs.Tables.{chunkTableRight}
+use Rattle.stream.specs.Tables.{startAt, chunkTableRight}
 use Rattle.stream.specs.declared.header.Header.{Header}
 use Rattle.stream.specs.declared.setting.Setting.{Setting}
 
@@ -41,6 +41,10 @@ pub record Layout (size : ℕ) (h : Header) : Type 0 where
   pub sides : h .sides ≤ 64
   pub ordered : h .start ≤ h .end
   pub within : h .end ≤ size
+
+-- the bytes of the chunk j lie within the data
+abbrev pub Placed : Header → List ℕ → ℕ → Type 0
+Placed h s j = (startAt h s j < startAt h s (j + 1)) × (h .start + startAt h s (j + 1) ≤ h .end)
 
 -- all of an accepted header
 pub record Opened (size : ℕ) (h : Header) : Type 0 where

@@ -7,9 +7,21 @@ pub enum Answer {
 }
 
 // What some rows of the refusal table find together: none is given, or the number and the detail of the first that is.
-pub(crate) enum Step {
+pub enum Step {
     Pass,
     Stop(usize, usize),
+}
+
+// What a library above this one reads of one chunk: how many values it has, or that it is not there to be read.
+pub enum ChunkRead {
+    Read(usize),
+    NotThere,
+}
+
+// Where a side part lies and how many bytes it has, or that there is none with the id.
+pub enum SidePart {
+    Part(usize, usize),
+    NoPart,
 }
 
 // "Probe tells apart a finite number as a float, an infinity with its sign, and a not-a-number with its pattern." A negative infinity is

@@ -1,12 +1,13 @@
 // The walks over a chunk, once for all widths: its groups measured, written, checked, restored, and one value of them.
 ghost use mathlib.Core.Path.{_≡_};
+ghost use mathlib.Core.Bool.{cond};
 ghost use mathlib.Core.List.{_++_};
 ghost use Prim.Native.Nat.{_≤_, _<_, _-_, min};
 ghost use lib.ListN.{length, drop, getD};
-ghost use Rattle.stream.specs.Group.{groupLength};
+ghost use Rattle.stream.specs.Group.{groupLength, wholeGroup};
 ghost use Rattle.stream.specs.Setting.{groupSize, patternsOf, limitOf};
 ghost use Rattle.stream.specs.Lent.{chosen, lentCodes, Begun};
-ghost use Rattle.stream.specs.Chunk.{chunkBytes, chunkAnswer, chunkCodes};
+ghost use Rattle.stream.specs.Chunk.{chunkBytes, chunkAnswer, chunkCodes, wholeChunk};
 ghost use Rattle.stream.specs.Relied.{Allowed};
 use crate::group;
 use crate::group::GroupAnswer;
@@ -120,7 +121,45 @@ fn group_length(s: &[u8], n: usize) -> usize
     1 + (w * n + 7) / 8
 }
 
-// The values of a good chunk of n values, whose bytes `s` begins with, at the front of the output of the width.
+// How many bytes the group at the front of `s` has; 0 where it is not there to be read.
+fn bytes_there(width: u32, s: &[u8], n: usize) -> usize
+    requires { ⌜ n ≤ 32 ⌝ }
+    ensures { λ r. ⌜ r ≡ cond (wholeGroup width n (now (s .entry))) (groupLength n (now (s .entry))) 0 ⌝ }
+{
+    if s.len() == 0 {
+        return 0;
+    }
+    let w = s[0] as usize;
+    if (width as usize) < w {
+        return 0;
+    }
+    let bytes = 1 + (w * n + 7) / 8;
+    if s.len() < bytes {
+        return 0;
+    }
+    bytes
+}
+
+// Whether every group of a chunk of n values is there to be read: of each, only the first byte is looked at.
+pub(crate) fn whole(t: Setting, s: &[u8], n: usize) -> bool
+    ensures { λ r. ⌜ r ≡ wholeChunk (t .width) (groupSize t) n (now (s .entry)) ⌝ }
+{
+    let size = setting::group_size(t);
+    let mut left = n;
+    let mut at: usize = 0;
+    while 0 < left {
+        let count = group_count(size, left);
+        let bytes = bytes_there(t.width, &s[at..], count);
+        if bytes == 0 {
+            return false;
+        }
+        at += bytes;
+        left -= count;
+    }
+    true
+}
+
+// The values of a chunk of n values that is there to be read, whose bytes `s` begins with, at the front of the output of the width.
 pub(crate) fn restored(
     t: Setting,
     s: &[u8],

@@ -7,9 +7,10 @@ ghost use lib.ListN.{length, drop};
 ghost use Rattle.stream.specs.Setting.{groupSize};
 ghost use Rattle.stream.specs.Chunk.{groupsIn};
 ghost use Rattle.stream.specs.Header.{settingIn};
-ghost use Rattle.stream.specs.Relied.{Words, Settled, Layout, Opened};
+ghost use Rattle.stream.specs.Relied.{Words, Settled, Layout, Placed, Opened};
 ghost use Rattle.stream.specs.Tables.{chunkTableRight, startAt};
 ghost use Rattle.stream.specs.Stream.{countOf, chunkOf};
+ghost use Rattle.stream.specs.Access.{chunkPlaced};
 ghost use Rattle.stream.specs.Rows.{first};
 ghost use Rattle.stream.specs.Operations.{chunkRow, chunkRows, contentRows, ownRows};
 use crate::answers::Step;
@@ -22,7 +23,7 @@ use crate::tables;
 
 // The bytes of a chunk.
 pub(crate) fn chunk_at(h: Header, bytes: &[u8], j: usize) -> &[u8]
-    requires { ⌜ Layout (length (now bytes)) h × (chunkTableRight h (now bytes) ≡ true) × (j < h .chunks) ⌝ }
+    requires { ⌜ Layout (length (now bytes)) h × Placed h (now bytes) j × (j < h .chunks) ⌝ }
     ensures { λ r. ⌜ now r ≡ chunkOf h (now (bytes .entry)) j ⌝ }
 {
     let from = h.start + tables::start_at(h, bytes, j);
@@ -32,7 +33,7 @@ pub(crate) fn chunk_at(h: Header, bytes: &[u8], j: usize) -> &[u8]
 
 // The bytes from a chunk on, to the stream's end.
 pub(crate) fn chunk_on(h: Header, bytes: &[u8], j: usize) -> &[u8]
-    requires { ⌜ Layout (length (now bytes)) h × (chunkTableRight h (now bytes) ≡ true) × (j < h .chunks) ⌝ }
+    requires { ⌜ Layout (length (now bytes)) h × Placed h (now bytes) j × (j < h .chunks) ⌝ }
     ensures { λ r. ⌜ now r ≡ drop (h .start + startAt h (now (bytes .entry)) j) (now (bytes .entry)) ⌝ }
 {
     let from = h.start + tables::start_at(h, bytes, j);
@@ -53,6 +54,16 @@ pub(crate) fn count_at(h: Header, j: usize) -> usize
         return count - before;
     }
     1024
+}
+
+// Whether the bytes of a chunk lie within the data.
+pub(crate) fn placed(h: Header, bytes: &[u8], j: usize) -> bool
+    requires { ⌜ Layout (length (now bytes)) h × (j < h .chunks) ⌝ }
+    ensures { λ r. ⌜ r ≡ chunkPlaced h (now (bytes .entry)) j ⌝ }
+{
+    let from = tables::start_at(h, bytes, j);
+    let to = tables::start_at(h, bytes, j + 1);
+    (from < to) & (to <= h.end - h.start)
 }
 
 // How many groups a chunk is cut into.

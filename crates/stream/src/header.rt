@@ -6,6 +6,7 @@ ghost use Rattle.stream.specs.Header.{word, headerOf, kOf, settingIn, se
 ghost use Rattle.stream.specs.Relied.{Words, Allowed, Settled};
 ghost use Rattle.stream.specs.Rows.{first};
 ghost use Rattle.stream.specs.Operations.{headerRows, openingRows};
+ghost use Rattle.stream.specs.Access.{headerRight};
 ghost use Rattle.stream.specs.Opening.{openedBy};
 use crate::answers::Step;
 use crate::setting;
@@ -30,7 +31,7 @@ pub struct Header {
 }
 
 // What opening a stream finds: its header, or the first refusal that is given.
-pub(crate) enum Opening {
+pub enum Opening {
     Open(Header),
     Shut(usize, usize),
 }
@@ -120,6 +121,17 @@ fn layout_right(size: usize, h: Header) -> bool
         & (h.end <= size)
 }
 
+// The header's rules but for the levels.
+pub(crate) fn right(bytes: &[u8]) -> bool
+    ensures { λ r. ⌜ r ≡ headerRight (now (bytes .entry)) ⌝ }
+{
+    if bytes.len() < 48 {
+        return false;
+    }
+    let h = header_of(bytes);
+    setting_right(h) & layout_right(bytes.len(), h)
+}
+
 // 6 7 8
 fn header_step(level: usize, size: usize, h: Header) -> Step
     requires { ⌜ Words h ⌝ }
@@ -149,7 +161,7 @@ pub(crate) fn opening_of(step: Step, h: Header) -> Opening
 }
 
 // 1 5 6 7 8: what every reader begins with; and the header where none of them is given, so that a reader has it from here.
-pub(crate) fn opened(level: usize, bytes: &[u8]) -> Opening
+pub fn opened(level: usize, bytes: &[u8]) -> Opening
     ensures { λ r. ⌜ r ≡ openedBy (first (openingRows level (now (bytes .entry)))) (headerOf (now (bytes .entry))) ⌝ }
 {
     if !setting::known_level(level) {

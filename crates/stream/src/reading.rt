@@ -13,8 +13,8 @@ use crate::header;
 use crate::header::Opening;
 use crate::restore;
 
-// 1 5 6 7 8 9 8 15 10, and the header where none of them is given.
-fn check_opening(level: usize, bytes: &[u8]) -> Opening
+// 1 5 6 7 8 9 8 15 10, and the header where none of them is given: what a library above this one begins with.
+pub fn check_opening(level: usize, bytes: &[u8]) -> Opening
     ensures { λ r. ⌜ r ≡ openedBy (first (checkRows level (now (bytes .entry)))) (headerOf (now (bytes .entry))) ⌝ }
 {
     let opening = header::opened(level, bytes);

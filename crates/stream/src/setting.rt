@@ -19,7 +19,7 @@ pub(crate) struct Setting {
 
 pub(crate) const HIGHEST_LEVEL: u32 = 12;
 
-pub(crate) fn known_level(level: usize) -> bool
+pub fn known_level(level: usize) -> bool
     ensures { λ r. ⌜ r ≡ knownLevel level ⌝ }
 {
     (8 <= level) & (level <= HIGHEST_LEVEL as usize)

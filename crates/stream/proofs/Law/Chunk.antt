@@ -3,11 +3,13 @@
 --   BytesLeft: the bytes of the codes that are left
 --   Checking: how far a check has come
 --   FirstBad: the first bad group, from what each group is
+--   Whole: all groups are there to be read
 --   Restoring: how far restoring has come
 --   LongerBytes: a chunk's bytes at the front of longer ones
 pub mod Groups
 pub mod BytesLeft
 pub mod Checking
 pub mod FirstBad
+pub mod Whole
 pub mod Restoring
 pub mod LongerBytes

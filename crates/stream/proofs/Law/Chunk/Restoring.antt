@@ -1,29 +1,28 @@
--- A good chunk's values restored group by group: what has been put, and what the rest of the bytes has still to give. Over the width, the
+-- The values of a chunk that is there to be read, restored group by group: what has been put, and what the rest of the bytes has still to give. Over the width, the
 -- setting and the group size.
 use mathlib.Core.Path.{_≡_, refl, sym, ap, ap₂, _∙_}
-use mathlib.Core.Bool.{Bool, true, false, cond}
+use mathlib.Core.Bool.{Bool, true, false, cond, false≢true}
 use mathlib.Core.List.{List, [], _++_, map}
 use Prim.Native.Nat.{ℕ, _+_, _-_, _^_, _≤_, _<_, min}
 use native.Mathlib.Nat.{lt-of-lt-of-le, le-trans}
 use native.Mathlib.Omega.{arith}
 use lib.Dec.{eqb}
-use lib.ListN.{length, take, drop, getD, length-take, List·getD-append, take-append-drop}
+use lib.ListN.{length, take, drop, getD, length-take, length-drop, List·getD-append, take-append-drop}
 use lib.Seq.{drop-drop, getD-append-add, length-take-le}
 use Rattle.numbers.specs.Difference.{runningSums, lastOf}
 use lib.Pow.{pow-mono}
 use Rattle.blocks.specs.Bytes.{Below}
 use Rattle.numbers.proofs.Theorems.{no-sums}
-use Rattle.stream.specs.Group.{givenWidth, groupLength, groupCodes, goodGroup}
-use Rattle.stream.specs.declared.chunk.ChunkAnswer.the-variants.{Good}
+use Rattle.stream.specs.Group.{givenWidth, groupLength, groupCodes, wholeGroup}
 use Rattle.stream.specs.Setting.{patternAt, patternsAfter, patternsOf}
 use Rattle.stream.specs.Lent.{SameBehind}
-use Rattle.stream.specs.Chunk.{chunkAnswer, chunkCodes}
+use Rattle.stream.specs.Chunk.{chunkCodes, wholeChunk}
 use Rattle.stream.specs.declared.setting.Setting.{Setting}
 use Rattle.stream.proofs.Law.Group.RoundTrip.{codes-below, length-codes}
-use Rattle.stream.proofs.Law.Group.Exact.{true-good}
-use Rattle.stream.proofs.Law.Chunk.Groups.{codes-step, length-chunk-codes, never-good}
+use Rattle.stream.proofs.Law.Chunk.Groups.{codes-step, length-chunk-codes}
 use Rattle.stream.proofs.Law.Setting.Codes.{length-patterns, patterns-append}
-use Rattle.stream.proofs.Law.Chunk.Checking.{found, found-bad, found-good, part-is, within-bytes}
+use Rattle.stream.proofs.Law.Chunk.Checking.{part-is}
+use Rattle.stream.proofs.Law.Chunk.Whole.{whole-facts, whole-left, torn-here, whole-here}
 
 pub patterns-none : (t : Setting) (before : ℕ) → patternsAfter t before [] ≡ []
 unfolding patternsAfter
@@ -57,31 +56,30 @@ module _ (size : ℕ) (some : 0 < size) (s : List ℕ) (left at count k : ℕ) (
   patterns-next t before =
       ap (patternsAfter t before) codes-next ∙ patterns-append t before (groupCodes count (drop at s)) (chunkCodes size (left - count) (drop (at + k) s))
 
-module _ (size : ℕ) (some : 0 < size) (W U : ℕ) (s : List ℕ) where
+module _ (size : ℕ) (some : 0 < size) (W : ℕ) (s : List ℕ) where
   -- where a walk that ends well stands: `left` values in the bytes from `at` on
   pub record Onward (left at : ℕ) : Type 0 where
     pub inside : at ≤ length s
-    pub index : ℕ
-    pub good : found size some W U s left at index ≡ Good
+    pub whole : whole-left size some W left (drop at s) ≡ true
 
-  pub starts-onward : (n : ℕ) → chunkAnswer W U size n s ≡ Good → Onward n 0
-  unfolding chunkAnswer
-  starts-onward n e = record { inside = omega arith; index = 0; good = e }
+  pub starts-onward : (n : ℕ) → wholeChunk W size n s ≡ true → Onward n 0
+  unfolding wholeChunk
+  starts-onward n e = record { inside = omega arith; whole = e }
 
   module _ (left at count : ℕ) (o : Onward left at) (h : 0 < left) (is : count ≡ min size left) where
-    next-good : (b : Bool) → goodGroup W U count (drop at s) ≡ b → goodGroup W U count (drop at s) ≡ true
-    next-good true e = e
-    next-good false e = absurd (never-good (o .index) (sym (found-bad size some W U s left at (o .index) count h is e) ∙ o .good))
+    -- the group that comes next is there
+    next-there : (b : Bool) → wholeGroup W count (drop at s) ≡ b → wholeGroup W count (drop at s) ≡ true
+    next-there true e = e
+    next-there false e = absurd (false≢true (sym (torn-here size some W s left at count h is e) ∙ o .whole))
 
-    -- the group that comes next is good
-    pub next-is-good : goodGroup W U count (drop at s) ≡ true
-    next-is-good = next-good (goodGroup W U count (drop at s)) refl
+    next-is-there : wholeGroup W count (drop at s) ≡ true
+    next-is-there = next-there (wholeGroup W count (drop at s)) refl
 
     pub next-wide : givenWidth (drop at s) ≤ W
-    next-wide = true-good W U count (drop at s) next-is-good .wide
+    next-wide = whole-facts W count (drop at s) next-is-there .0
 
     pub next-whole : groupLength count (drop at s) ≤ length (drop at s)
-    next-whole = true-good W U count (drop at s) next-is-good .whole
+    next-whole = whole-facts W count (drop at s) next-is-there .1
 
     pub next-below : Below (2 ^ W) (groupCodes count (drop at s))
     next-below i = lt-of-lt-of-le (codes-below count (drop at s) i) (pow-mono next-wide)
@@ -92,9 +90,8 @@ module _ (size : ℕ) (some : 0 < size) (W U : ℕ) (s : List ℕ) where
 
     pub goes-on : (k : ℕ) → k ≡ groupLength count (drop at s) → Onward (left - count) (at + k)
     goes-on k l = record {
-      inside = within-bytes W U count s at k (o .inside) next-is-good l;
-      index = o .index + 1;
-      good = sym (found-good size some W U s left at (o .index) count k h is next-is-good l) ∙ o .good;
+      inside = omega (arith, o .inside, next-whole, length-drop at s);
+      whole = sym (whole-here size some W s left at count k h is next-is-there l) ∙ o .whole;
     }
 
   -- an index behind the next group, and one within it

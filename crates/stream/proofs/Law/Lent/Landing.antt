@@ -9,16 +9,20 @@ use borrow.Rule.Slice.PartMut.{putMid, same-len-mid}
 use lib.Dec.{eqb}
 use lib.ListN.{length, take, drop, length-append, length-take, length-drop, drop-of-length-le}
 use lib.Seq.{take-at, drop-at, take-all, drop-drop}
-use Rattle.stream.specs.Stream.{joined, countOf, chunkState, chunkValues, valuesIn}
+use Rattle.stream.specs.Stream.{joined, countOf, chunkOf, chunkValues, valuesIn}
+use Rattle.stream.specs.Setting.{groupSize}
+use Rattle.stream.specs.Chunk.{wholeChunk}
+use Rattle.stream.specs.Header.{settingIn}
 use Rattle.stream.specs.Rows.{first}
 use Rattle.stream.specs.Operations.{chunkRows}
-use Rattle.stream.specs.Relied.{Layout, Readable}
+use Rattle.stream.specs.Relied.{Layout, Placed, Readable}
 use Rattle.stream.specs.declared.answers.Step.the-variants.{Pass}
-use Rattle.stream.specs.declared.chunk.ChunkAnswer.the-variants.{Good}
 use Rattle.stream.specs.declared.header.Header.{Header}
 use Rattle.stream.specs.Lent.{chosen, landed}
 use Rattle.stream.proofs.Law.Values.Counts.{length-chunk}
 use Rattle.stream.proofs.Law.Plain.Appended.{landed-mid}
+use Rattle.stream.proofs.Law.Tables.Starts.{placed}
+use Rattle.stream.proofs.Law.Chunk.LongerBytes.{state-whole}
 use Rattle.stream.proofs.Law.Rows.Chunks.{all-good}
 
 -- xs stands at the front of `out`, and the stretch from `at` on, the whole rest, was lent and came back as ys: new values, and then what lay there
@@ -117,9 +121,13 @@ module _ (W : ℕ) (h : Header) (s base : List ℕ) (pre : Readable W h s × (fi
     unfolding countOf
     fits = simp (length-take, length-drop) (omega (arith, more, pre .2, r .same))
 
-    pub asked-whole : Readable W h s × (j < h .chunks) × (chunkState h s j ≡ Good) × (1024 * j + countOf h j ≤ length out)
+    -- the chunk is there to be read, and its stretch is in the output
+    pub asked-chunk : Placed h s j × (wholeChunk (h .width) (groupSize (settingIn h)) (countOf h j) (chunkOf h s j) ≡ true)
+    asked-chunk = (placed (length s) h s l (pre .0 .table) j below, state-whole h s j (all-good h s (pre .1) j below))
+
+    pub asked-room : (1024 * j ≤ 1048576) × (1024 * j + countOf h j ≤ length out)
     unfolding countOf
-    asked-whole = (pre .0, below, all-good h s (pre .1) j below, omega (arith, more, pre .2, r .same))
+    asked-room = (omega (arith, more, l .few), omega (arith, more, pre .2, r .same))
 
     pub turned : (ys : List ℕ) → ys ≡ chunkValues h s j ++ drop (countOf h j) (take (length out - 1024 * j) (drop (1024 * j) out))
         → length ys ≡ length (take (length out - 1024 * j) (drop (1024 * j) out))

@@ -57,12 +57,12 @@ SmallAnswer b (Done n) = n < b
 SmallAnswer b (Refused number detail) = Told b number detail
 
 module _ {b : ℕ} where
-  no-rows : Small b []
+  pub no-rows : Small b []
   unfolding first
   no-rows number detail e = let z : Pass ≡ Stop number detail = e in let y : _≡_ {A = ℕ} 0 1 = cc in absurd (omega arith)
 
   -- a row asks for its detail where it is given, and for the rows behind it where it is not
-  row-small : (number : ℕ) (given : Bool) (detail : ℕ) (rows : List Row) → (0 < number) × (number < b) → (given ≡ true → detail < b) → (given ≡ false → Small b rows)
+  pub row-small : (number : ℕ) (given : Bool) (detail : ℕ) (rows : List Row) → (0 < number) × (number < b) → (given ≡ true → detail < b) → (given ≡ false → Small b rows)
       → Small b (row number given detail ∷ rows)
   unfolding first
   row-small number true detail rows n d r x y e =
@@ -73,10 +73,10 @@ module _ {b : ℕ} where
   row-small number false detail rows n d r x y e = r refl x y e
 
   -- a row whose detail is 0
-  plain : (number : ℕ) (given : Bool) (rows : List Row) → (0 < number) × (number < b) → Small b rows → Small b (row number given 0 ∷ rows)
+  pub plain : (number : ℕ) (given : Bool) (rows : List Row) → (0 < number) × (number < b) → Small b rows → Small b (row number given 0 ∷ rows)
   plain number given rows n r = row-small number given 0 rows n (λ _. omega (arith, n .1)) (λ _. r)
 
-  append-small : (before rows : List Row) → Small b before → (first before ≡ Pass → Small b rows) → Small b (before ++ rows)
+  pub append-small : (before rows : List Row) → Small b before → (first before ≡ Pass → Small b rows) → Small b (before ++ rows)
   append-small before rows s r number detail e = go (first before) refl
     where
       go : (a : Step) → first before ≡ a → Told b number detail
@@ -90,7 +90,7 @@ module _ {b : ℕ} where
       append-small (f i ∷ []) (rowsFrom f k (suc i)) (h i (omega arith) (omega arith))
       (λ _. from-small f k (suc i) (λ j l m. h j (omega arith) (omega arith)))
 
-  answer-small : (rows : List Row) (n : ℕ) → Small b rows → (first rows ≡ Pass → n < b) → SmallAnswer b (answer (first rows) n)
+  pub answer-small : (rows : List Row) (n : ℕ) → Small b rows → (first rows ≡ Pass → n < b) → SmallAnswer b (answer (first rows) n)
   unfolding answer
   answer-small rows n s done = go (first rows) refl
     where
@@ -111,7 +111,7 @@ module _ (level : ℕ) (s : List ℕ) (bytes : Below 256 s) where
       (row-small 7 _ _ _ (lit< tt, lit< tt) (λ _. word-small s 8 bytes) (λ _. plain 8 _ _ (lit< tt, lit< tt) no-rows))))
 
   -- the count, four bytes of the header too
-  count-small : headerOf s .count < 2 ^ 32
+  pub count-small : headerOf s .count < 2 ^ 32
   unfolding headerOf
   count-small = word-small s 24 bytes
 
@@ -142,7 +142,7 @@ module _ (level : ℕ) (s : List ℕ) (bytes : Below 256 s) where
         fault-small j (chunkState (headerOf s) s j)
         (λ g e. omega (arith, group-small (headerOf s) s (length s) layout j l g e, layout .few, layout .chunks))
 
-    content-small : Small (2 ^ 32) (contentRows (headerOf s) s)
+    pub content-small : Small (2 ^ 32) (contentRows (headerOf s) s)
     unfolding contentRows chunkRows
     content-small =
         append-small (tableRows (headerOf s) s) (chunkRows (headerOf s) s) tables-small
@@ -154,7 +154,7 @@ module _ (level : ℕ) (s : List ℕ) (bytes : Below 256 s) where
         append-small (tableRows (headerOf s) s) (chunkRow (headerOf s) s (i / 1024) ∷ []) tables-small
         (λ _. chunk-small (i / 1024) (omega (arith, layout .chunks)))
 
-  check-small : Small (2 ^ 32) (checkRows level s)
+  pub check-small : Small (2 ^ 32) (checkRows level s)
   unfolding checkRows
   check-small = append-small (openingRows level s) (contentRows (headerOf s) s) opening-small content-small
 

@@ -1,20 +1,28 @@
 -- How many values there are: a chunk's bytes, whatever they are, are read as the chunk's count of values, so a stream has n of them, and the
 -- value at an index is the one that its own chunk has there.
-use mathlib.Core.Path.{_≡_, sym, ap, _∙_}
+use mathlib.Core.Path.{_≡_, sym, ap, ap₂, _∙_}
 use mathlib.Core.Logic.{_⊎_, inl, inr}
-use mathlib.Core.List.{List, _++_}
-use Prim.Native.Nat.{ℕ, zero, suc, _+_, _*_, _/_, _%_, _≤_, _<_, min}
+use mathlib.Core.List.{List, [], _++_, append-nil}
+use Prim.Native.Nat.{ℕ, zero, suc, _+_, _-_, _*_, _/_, _%_, _≤_, _<_, min}
 use native.Mathlib.Omega.{arith}
-use lib.ListN.{length, getD, length-append, List·getD-append}
-use lib.Seq.{getD-append-add}
+use lib.ListN.{length, take, drop, getD, length-append, length-drop, List·getD-append}
+use lib.Seq.{getD-append-add, take-all}
 use Rattle.stream.specs.Setting.{groupSize}
 use Rattle.stream.specs.Header.{settingIn}
 use Rattle.stream.specs.Stream.{joined, countOf, chunkOf, chunkValues, valuesIn, valueIn}
 use Rattle.stream.specs.Relied.{Layout}
 use Rattle.stream.specs.declared.header.Header.{Header}
 use Rattle.blocks.proofs.Law.Truth.{le-or-lt}
+use Rattle.stream.proofs.Law.Plain.Joined.{joined-part}
 use Rattle.stream.proofs.Law.Setting.Allowed.{size-some}
 use Rattle.stream.proofs.Law.Chunk.Restoring.{length-restored}
+
+clipped : (n : ℕ) (xs : List ℕ) → take (min n (length xs)) xs ≡ take n xs
+clipped n xs = go (le-or-lt (length xs) n)
+  where
+    go : (length xs ≤ n) ⊎ (n < length xs) → take (min n (length xs)) xs ≡ take n xs
+    go (inl h) = take-all (min n (length xs)) xs (omega arith) ∙ sym (take-all n xs h)
+    go (inr h) = ap (λ (k : ℕ). take k xs) (let e : min n (length xs) ≡ n = omega arith in e)
 
 module _ (h : Header) (s : List ℕ) where
   pub length-chunk : (j : ℕ) → length (chunkValues h s j) ≡ countOf h j
@@ -52,3 +60,17 @@ module _ (h : Header) (s : List ℕ) where
   pub value-of : (size : ℕ) → Layout size h → (i : ℕ) → i < h .count → getD (valuesIn h s) i 0 ≡ valueIn h s i
   unfolding valuesIn
   value-of size l i b = joined-at (h .chunks) i (omega (arith, l)) b
+
+  -- the stretch of a chunk in all values
+  pub chunk-stretch : (size : ℕ) → Layout size h → (j : ℕ) → j < h .chunks → chunkValues h s j ≡ take 1024 (drop (1024 * j) (valuesIn h s))
+  unfolding valuesIn countOf
+  chunk-stretch size l j below =
+      let f = chunkValues h s in
+      let all = joined f (h .chunks) in
+      let at : length (joined f j) ≡ 1024 * j = omega (arith, length-joined j, l) in
+      let many : length (joined f (j + 1)) - length (joined f j) ≡ min 1024 (length (drop (1024 * j) all)) =
+      omega (arith, length-joined j, length-joined (j + 1), length-drop (1024 * j) all, length-joined (h .chunks), l) in
+      sym (joined-part f j (h .chunks) [] below)
+      ∙ ap (λ (vs : List ℕ). take (length (joined f (j + 1)) - length (joined f j)) (drop (length (joined f j)) vs)) (append-nil all)
+      ∙ ap₂ (λ (k n : ℕ). take k (drop n all)) many at
+      ∙ clipped 1024 (drop (1024 * j) all)

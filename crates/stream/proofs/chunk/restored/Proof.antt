@@ -13,7 +13,7 @@ use Rattle.stream.proofs.Law.Chunk.Checking.{part-is}
 use Rattle.stream.specs.Chunk.{chunkCodes}
 use Rattle.stream.specs.Group.{givenWidth, groupLength, groupCodes}
 use Rattle.stream.specs.Lent.{chosen, landed}
-use Rattle.stream.specs.Setting.{groupSize, patternsAfter, patternsOf, limitOf}
+use Rattle.stream.specs.Setting.{groupSize, patternsAfter, patternsOf}
 use Rattle.stream.specs.declared.setting.Setting.{Setting}
 use borrow.Author.Needs.{needs}
 use lib.ListN.{length, take, drop}
@@ -27,7 +27,7 @@ use Rattle.stream.proofs.chunk.restored.Tie as tie
 
 abbrev Inv-loop : tie.InvT-loop
 Inv-loop t s n c32₀ c64₀ o32₀ o64₀ size left₀ at₀ done₀ c32 c64 o32 o64 left at done =
-    (done + left ≡ n) × Going (groupSize t) (size-some t) (t .width) (limitOf t) s left at
+    (done + left ≡ n) × Going (groupSize t) (size-some t) (t .width) s left at
     × Appended (patternsOf t (chunkCodes (groupSize t) n s)) (patternsAfter t (lastOf 0 (take done (chosen (t .width) o32 o64))) (chunkCodes (groupSize t) left (drop at s))) (chosen (t .width) o32₀ o64₀) (chosen (t .width) o32 o64) done
     × (length c32 ≡ length c32₀) × (length c64 ≡ length c64₀) × (length o32 ≡ length o32₀) × (length o64 ≡ length o64₀)
 
@@ -46,7 +46,7 @@ module _ (l : tie.At-loop Inv-loop μ-loop) where
   t = start l .args .t
 
   inside : l .loop .at ≤ length (bytes l)
-  inside = going-inside (groupSize t) (size-some t) (t .width) (limitOf t) (bytes l) (l .loop .left) (l .loop .at) (l .loop .inv .1)
+  inside = going-inside (groupSize t) (size-some t) (t .width) (bytes l) (l .loop .left) (l .loop .at) (l .loop .inv .1)
 
 -- how many codes the next group has, and that it is a good one
 count-is : (c : tie.After-group-count Inv-loop μ-loop) → let l = c .before .before in c .group-count .result ≡ min (groupSize (t l)) (l .loop .left)
@@ -59,11 +59,11 @@ count-some : (c : tie.After-group-count Inv-loop μ-loop) → 0 < c .group-count
 count-some c = omega (arith, c .group-count .ensures, c .before .before .before .group-size .ensures .1, c .before .loop-test .taken)
 
 wide : (c : tie.After-group-count Inv-loop μ-loop) → let l = c .before .before in givenWidth (drop (l .loop .at) (bytes l)) ≤ t l .width
-wide c = let l = c .before .before in going-wide (groupSize (t l)) (size-some (t l)) (t l .width) (limitOf (t l)) (bytes l) (l .loop .left) (l .loop .at) (l .loop .inv .1) (c .group-count .result) (c .before .loop-test .taken) (count-is c)
+wide c = let l = c .before .before in going-wide (groupSize (t l)) (size-some (t l)) (t l .width) (bytes l) (l .loop .left) (l .loop .at) (l .loop .inv .1) (c .group-count .result) (c .before .loop-test .taken) (count-is c)
 
 whole : (c : tie.After-group-count Inv-loop μ-loop) → let l = c .before .before in
     groupLength (c .group-count .result) (drop (l .loop .at) (bytes l)) ≤ length (drop (l .loop .at) (bytes l))
-whole c = let l = c .before .before in going-whole (groupSize (t l)) (size-some (t l)) (t l .width) (limitOf (t l)) (bytes l) (l .loop .left) (l .loop .at) (l .loop .inv .1) (c .group-count .result) (c .before .loop-test .taken) (count-is c)
+whole c = let l = c .before .before in going-whole (groupSize (t l)) (size-some (t l)) (t l .width) (bytes l) (l .loop .left) (l .loop .at) (l .loop .inv .1) (c .group-count .result) (c .before .loop-test .taken) (count-is c)
 
 -- where the count was made, and the loop, behind a turn
 abbrev counted : tie.After-group-length Inv-loop μ-loop → tie.After-group-count Inv-loop μ-loop
@@ -77,11 +77,11 @@ bytes-are : (c : tie.After-group-length Inv-loop μ-loop) → c .group-length .r
 bytes-are c = c .group-length .ensures ∙ ap (groupLength (counted c .group-count .result)) (part-is (bytes (turn c)) (turn c .loop .at))
 
 on : (c : tie.After-group-length Inv-loop μ-loop) → let l = turn c in
-    Going (groupSize (t l)) (size-some (t l)) (t l .width) (limitOf (t l)) (bytes l) (l .loop .left - counted c .group-count .result) (l .loop .at + c .group-length .result)
+    Going (groupSize (t l)) (size-some (t l)) (t l .width) (bytes l) (l .loop .left - counted c .group-count .result) (l .loop .at + c .group-length .result)
 on c =
     let l = turn c in
     let e = counted c in
-    goes (groupSize (t l)) (size-some (t l)) (t l .width) (limitOf (t l)) (bytes l) (l .loop .left) (l .loop .at) (l .loop .inv .1) (e .group-count .result) (e .before .loop-test .taken) (count-is e) (c .group-length .result) (bytes-are c)
+    goes (groupSize (t l)) (size-some (t l)) (t l .width) (bytes l) (l .loop .left) (l .loop .at) (l .loop .inv .1) (e .group-count .result) (e .before .loop-test .taken) (count-is e) (c .group-length .result) (bytes-are c)
 
 group-size-requires : tie.Need-group-size-requires Inv-loop μ-loop
 group-size-requires c κs = search needs
@@ -92,7 +92,7 @@ loop-holds c =
     let v = s .args in
     let b = s .pre .0 .2 in (
       zero-add (v .n),
-      starts-going (groupSize (v .t)) (size-some (v .t)) (v .t .width) (limitOf (v .t)) (v .s .now) (v .n) (b .bytes) (b .rest) (b .split) (b .good),
+      starts-going (groupSize (v .t)) (size-some (v .t)) (v .t .width) (v .s .now) (v .n) (b .bytes) (b .rest) (b .split) (b .whole),
       rw (nothing-carries-on 0) (nothing-yet _ _ (rw (length-restored (groupSize (v .t)) (size-some (v .t)) (v .t) (v .n) (v .s .now)) (s .pre .1 .1))),
       refl,
       refl,
@@ -138,7 +138,7 @@ group-length-requires : tie.Need-group-length-requires Inv-loop μ-loop
 group-length-requires c κs = let e = c .before .before .before .before .before .before .before .before .before .before .before .before .before .before .before in let l = e .before .before in (count-most e, rw (part-is (bytes l) (l .loop .at)) (whole e))
 
 add-at : tie.Need-add-at Inv-loop μ-loop
-add-at c = let l = turn c in omega (arith, going-inside (groupSize (t l)) (size-some (t l)) (t l .width) (limitOf (t l)) (bytes l) _ _ (on c), start l .good)
+add-at c = let l = turn c in omega (arith, going-inside (groupSize (t l)) (size-some (t l)) (t l .width) (bytes l) _ _ (on c), start l .good)
 
 sub-left : tie.Need-sub-left Inv-loop μ-loop
 sub-left c = omega (arith, counted c .group-count .ensures)

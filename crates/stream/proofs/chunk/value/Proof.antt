@@ -1,6 +1,7 @@
 -- `stream::chunk::value` meets its contract. The invariant: the value at `index` of what is left is the value that is asked for.
 use Prim.Native.Nat.{ℕ, _+_, _-_, _^_, _≤_, _<_, min}
 use Rattle.stream.proofs.Law.Chunk.Restoring.{Onward, starts-onward, long-enough, part-opens, next-wide, next-below, goes-on, behind-next, within-next}
+use Rattle.stream.proofs.Law.Chunk.Whole.{good-whole}
 use Rattle.stream.proofs.Law.Setting.Allowed.{size-some, width-most}
 use Rattle.stream.proofs.Law.Chunk.Checking.{part-is}
 use Rattle.stream.proofs.Law.Group.RoundTrip.{length-codes}
@@ -24,7 +25,7 @@ use Rattle.stream.proofs.chunk.value.Tie as tie
 
 abbrev Inv-loop : tie.InvT-loop
 Inv-loop t s n i size left₀ at₀ index₀ before₀ left at index before =
-    (index < left) × (left ≤ n) × Onward (groupSize t) (size-some t) (t .width) (limitOf t) s left at
+    (index < left) × (left ≤ n) × Onward (groupSize t) (size-some t) (t .width) s left at
     × (getD (patternsAfter t before (chunkCodes (groupSize t) left (drop at s))) index 0 ≡ getD (patternsOf t (chunkCodes (groupSize t) n s)) i 0) × (before < 2 ^ t .width)
 
 abbrev μ-loop : tie.MeasureT-loop
@@ -57,8 +58,8 @@ passed : (c : tie.After-group-length Inv-loop μ-loop) → let l = turn c in c .
 passed c = let l = turn c in c .group-length .ensures ∙ ap (groupLength (size l)) (part-is (bytes l) (l .loop .at))
 
 on : (c : tie.After-group-length Inv-loop μ-loop) → let l = turn c in
-    Onward (groupSize (t l)) (size-some (t l)) (t l .width) (limitOf (t l)) (bytes l) (l .loop .left - size l) (l .loop .at + c .group-length .result)
-on c = let l = turn c in goes-on (groupSize (t l)) (size-some (t l)) (t l .width) (limitOf (t l)) (bytes l) (l .loop .left) (l .loop .at) (size l) (l .loop .inv .2) (some-left l) (full l (c .before .before .before .before .loop-test .taken)) (c .group-length .result) (passed c)
+    Onward (groupSize (t l)) (size-some (t l)) (t l .width) (bytes l) (l .loop .left - size l) (l .loop .at + c .group-length .result)
+on c = let l = turn c in goes-on (groupSize (t l)) (size-some (t l)) (t l .width) (bytes l) (l .loop .left) (l .loop .at) (size l) (l .loop .inv .2) (some-left l) (full l (c .before .before .before .before .loop-test .taken)) (c .group-length .result) (passed c)
 
 -- the group of the index
 count-is : (c : tie.After-group-count Inv-loop μ-loop) → let l = c .before .before .before in c .group-count .result ≡ min (groupSize (t l)) (l .loop .left)
@@ -74,7 +75,7 @@ loop-holds : tie.Need-loop-holds Inv-loop μ-loop
 loop-holds c =
     let f = c .before .before in
     let v = f .args in
-    (f .pre .2, le-refl (v .n), starts-onward (groupSize (v .t)) (size-some (v .t)) (v .t .width) (limitOf (v .t)) (v .s .now) (v .n) (f .pre .3), refl, pow-pos (v .t .width))
+    (f .pre .2, le-refl (v .n), starts-onward (groupSize (v .t)) (size-some (v .t)) (v .t .width) (v .s .now) (v .n) (good-whole (groupSize (v .t)) (size-some (v .t)) (v .t .width) (limitOf (v .t)) (v .n) (v .s .now) (f .pre .3)), refl, pow-pos (v .t .width))
 
 sub-group-length : tie.Need-sub-group-length Inv-loop μ-loop
 sub-group-length c = c .before .before .before .loop .inv .2 .inside
@@ -102,14 +103,14 @@ carried-requires c κs =
       p,
       l .loop .inv .4,
       l .before .group-size .ensures .2,
-      rw (part-is (bytes l) (l .loop .at)) (next-wide (groupSize (t l)) (size-some (t l)) (t l .width) (limitOf (t l)) (bytes l) (l .loop .left) (l .loop .at) (size l) (l .loop .inv .2) (some-left l) far),
-      part-opens (groupSize (t l)) (size-some (t l)) (t l .width) (limitOf (t l)) (bytes l) (l .loop .left) (l .loop .at) (size l) (l .loop .inv .2) (some-left l) far (width-most (t l .width) (p .known)) .1,
+      rw (part-is (bytes l) (l .loop .at)) (next-wide (groupSize (t l)) (size-some (t l)) (t l .width) (bytes l) (l .loop .left) (l .loop .at) (size l) (l .loop .inv .2) (some-left l) far),
+      part-opens (groupSize (t l)) (size-some (t l)) (t l .width) (bytes l) (l .loop .left) (l .loop .at) (size l) (l .loop .inv .2) (some-left l) far (width-most (t l .width) (p .known)) .1,
     )
 
 group-length-requires : tie.Need-group-length-requires Inv-loop μ-loop
 group-length-requires c κs =
     let l = c .before .before .before .before in
-    (l .before .group-size .ensures .2, part-opens (groupSize (t l)) (size-some (t l)) (t l .width) (limitOf (t l)) (bytes l) (l .loop .left) (l .loop .at) (size l) (l .loop .inv .2) (some-left l) (full l (c .before .before .before .loop-test .taken)) (width-most (t l .width) (start l .pre .0 .known)) .1)
+    (l .before .group-size .ensures .2, part-opens (groupSize (t l)) (size-some (t l)) (t l .width) (bytes l) (l .loop .left) (l .loop .at) (size l) (l .loop .inv .2) (some-left l) (full l (c .before .before .before .loop-test .taken)) (width-most (t l .width) (start l .pre .0 .known)) .1)
 
 add-at : tie.Need-add-at Inv-loop μ-loop
 add-at c = omega (arith, on c .inside, start (turn c) .good)
@@ -129,7 +130,7 @@ loop-again c =
       omega (arith, l .loop .inv .0, far),
       omega (arith, l .loop .inv .1),
       on c,
-      sym (behind-next (groupSize (t l)) (size-some (t l)) (t l .width) (limitOf (t l)) (bytes l) (l .loop .left) (l .loop .at) (size l) (l .loop .inv .2) (some-left l) (full l far) (t l) (l .loop .before) (c .group-length .result) (passed c) (l .loop .index) (k .result) far behind) ∙ l .loop .inv .3,
+      sym (behind-next (groupSize (t l)) (size-some (t l)) (t l .width) (bytes l) (l .loop .left) (l .loop .at) (size l) (l .loop .inv .2) (some-left l) (full l far) (t l) (l .loop .before) (c .group-length .result) (passed c) (l .loop .index) (k .result) far behind) ∙ l .loop .inv .3,
       k .ensures .0,
     )
 
@@ -148,7 +149,7 @@ group-count-requires c κs = search needs
 codes-of-requires : tie.Need-codes-of-requires Inv-loop μ-loop
 codes-of-requires c κs =
     let l = c .before .before .before in
-    let opens = part-opens (groupSize (t l)) (size-some (t l)) (t l .width) (limitOf (t l)) (bytes l) (l .loop .left) (l .loop .at) (c .group-count .result) (l .loop .inv .2) (some-left l) (count-is c) (width-most (t l .width) (start l .pre .0 .known)) in
+    let opens = part-opens (groupSize (t l)) (size-some (t l)) (t l .width) (bytes l) (l .loop .left) (l .loop .at) (c .group-count .result) (l .loop .inv .2) (some-left l) (count-is c) (width-most (t l .width) (start l .pre .0 .known)) in
     (omega (arith, c .group-count .ensures, c .before .before .before .before .group-size .ensures .2), opens .0, opens .1)
 
 slice-aggregate-value : tie.Need-slice-aggregate-value Inv-loop μ-loop
@@ -178,7 +179,7 @@ value-requires : tie.Need-value-requires Inv-loop μ-loop
 value-requires c κs =
     let g = c .before .before in
     let l = here g in
-    let below = next-below (groupSize (t l)) (size-some (t l)) (t l .width) (limitOf (t l)) (bytes l) (l .loop .left) (l .loop .at) (many g) (l .loop .inv .2) (some-left l) (count-is (g .before)) in (
+    let below = next-below (groupSize (t l)) (size-some (t l)) (t l .width) (bytes l) (l .loop .left) (l .loop .at) (many g) (l .loop .inv .2) (some-left l) (count-is (g .before)) in (
       start l .pre .0,
       l .loop .inv .4,
       omega (arith, long g, within (g .before)),
@@ -192,7 +193,7 @@ returns c =
     let l = here g in
     c .value .ensures
     ∙ ap (λ (cs : List ℕ). getD (patternsAfter (t l) (l .loop .before) cs) (l .loop .index) 0) (upto g)
-    ∙ sym (within-next (groupSize (t l)) (size-some (t l)) (t l .width) (limitOf (t l)) (bytes l) (l .loop .left) (l .loop .at) (many g) (l .loop .inv .2) (some-left l) (count-is (g .before)) (t l) (l .loop .before) _ refl (l .loop .index) (within (g .before)))
+    ∙ sym (within-next (groupSize (t l)) (size-some (t l)) (t l .width) (bytes l) (l .loop .left) (l .loop .at) (many g) (l .loop .inv .2) (some-left l) (count-is (g .before)) (t l) (l .loop .before) _ refl (l .loop .index) (within (g .before)))
     ∙ l .loop .inv .3
 
 pub value-spec : {M : Type 1} → statement M

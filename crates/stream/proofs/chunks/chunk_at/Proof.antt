@@ -1,7 +1,6 @@
 -- `stream::chunks::chunk_at` meets its contract.
 use native.Mathlib.Omega.{arith}
-use lib.ListN.{length}
-use Rattle.stream.proofs.Law.Tables.Starts.{placed, ends-are}
+use Rattle.stream.proofs.Law.Tables.Starts.{ends-are}
 use borrow.Author.Needs.{needs}
 use Rattle.stream.proofs.chunks.chunk_at.Statement.{statement}
 use Rattle.stream.proofs.chunks.chunk_at.Tie as tie
@@ -12,7 +11,7 @@ start-at-requires c κs = search needs
 add-from : tie.Need-add-from
 add-from c =
     let start = c .before .before .before in
-    omega (arith, placed (length (start .args .bytes .now)) (start .args .h) (start .args .bytes .now) (start .pre .0) (start .pre .1) (start .args .j) (start .pre .2))
+    omega (arith, start .pre .0, start .pre .1)
 
 add-start-at : tie.Need-add-start-at
 add-start-at c = search needs
@@ -23,22 +22,22 @@ start-at-requires-2 c κs = search needs
 add-to : tie.Need-add-to
 add-to c =
     let start = c .before .before .before .before .before in
-    omega (arith, placed (length (start .args .bytes .now)) (start .args .h) (start .args .bytes .now) (start .pre .0) (start .pre .1) (start .args .j) (start .pre .2))
+    omega (arith, start .pre .0, start .pre .1)
 
 sub-result : tie.Need-sub-result
 sub-result c =
     let start = c .before .before .before .before .before in
-    omega (arith, placed (length (start .args .bytes .now)) (start .args .h) (start .args .bytes .now) (start .pre .0) (start .pre .1) (start .args .j) (start .pre .2))
+    omega (arith, start .pre .0, start .pre .1)
 
 part-result-start : tie.Need-part-result-start
 part-result-start c =
     let start = c .before .before .before .before .before in
-    omega (arith, placed (length (start .args .bytes .now)) (start .args .h) (start .args .bytes .now) (start .pre .0) (start .pre .1) (start .args .j) (start .pre .2))
+    omega (arith, start .pre .0, start .pre .1)
 
 part-result-end : tie.Need-part-result-end
 part-result-end c =
     let start = c .before .before .before .before .before in
-    omega (arith, placed (length (start .args .bytes .now)) (start .args .h) (start .args .bytes .now) (start .pre .0) (start .pre .1) (start .args .j) (start .pre .2))
+    omega (arith, start .pre .0, start .pre .1)
 
 returns : tie.Need-returns
 returns c =

@@ -4,7 +4,6 @@ use Prim.Native.Nat.{ℕ, _+_, _≤_}
 use native.Mathlib.Omega.{arith}
 use lib.ListN.{length, drop}
 use borrow.Author.Needs.{needs}
-use Rattle.stream.proofs.Law.Tables.Starts.{placed}
 use Rattle.stream.proofs.Law.Chunk.Checking.{part-is}
 use Rattle.stream.proofs.chunks.chunk_on.Statement.{statement}
 use Rattle.stream.proofs.chunks.chunk_on.Tie as tie
@@ -12,7 +11,7 @@ use Rattle.stream.proofs.chunks.chunk_on.Tie as tie
 inside : (c : tie.After-start-at) → let a = c .before .before .args in a .h .start + c .start-at .result ≤ length (a .bytes .now)
 inside c =
     let s = c .before .before in
-    omega (arith, placed (length (s .args .bytes .now)) (s .args .h) (s .args .bytes .now) (s .pre .0) (s .pre .1) (s .args .j) (s .pre .2), c .start-at .ensures, s .pre .0 .within)
+    omega (arith, s .pre .1, c .start-at .ensures, s .pre .0 .within)
 
 start-at-requires : tie.Need-start-at-requires
 start-at-requires c κs = search needs

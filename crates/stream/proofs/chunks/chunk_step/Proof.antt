@@ -1,4 +1,5 @@
 -- `stream::chunks::chunk_step` meets its contract.
+use Rattle.stream.proofs.Law.Tables.Starts.{placed}
 use Rattle.stream.proofs.Law.Rows.Chunks.{found-is, good-row, bad-row}
 use Rattle.stream.proofs.Law.Rows.Place.{group-small}
 use Rattle.stream.specs.Stream.{chunkState}
@@ -20,7 +21,10 @@ setting-in-requires : tie.Need-setting-in-requires
 setting-in-requires c κs = (c .before .pre .0 .words, c .before .pre .0 .setting)
 
 chunk-at-requires : tie.Need-chunk-at-requires
-chunk-at-requires c κs = let p = c .before .before .pre in (p .0 .layout, p .1, p .2)
+chunk-at-requires c κs =
+    let s = c .before .before in
+    let p = s .pre in
+    (p .0 .layout, placed _ (s .args .h) (s .args .bytes .now) (p .0 .layout) (p .1) (s .args .j) (p .2), p .2)
 
 count-at-requires : tie.Need-count-at-requires
 count-at-requires c κs = omega arith

@@ -10,7 +10,7 @@ use Rattle.stream.specs.Operations.{chunkRows}
 use Rattle.stream.specs.Relied.{Readable}
 use Rattle.stream.specs.declared.answers.Step.the-variants.{Pass}
 use Rattle.stream.proofs.Law.Lent.Chosen.{chosen-long}
-use Rattle.stream.proofs.Law.Lent.Landing.{Restored, begun, asked-whole, turned-landed, ended}
+use Rattle.stream.proofs.Law.Lent.Landing.{Restored, begun, asked-chunk, asked-room, turned-landed, ended}
 use Rattle.stream.proofs.restore.restore.Statement.{statement}
 use Rattle.stream.proofs.restore.restore.Tie as tie
 
@@ -38,18 +38,23 @@ ready s = (s .pre .0, s .pre .1, s .pre .2)
 loop-holds : tie.Need-loop-holds Inv-loop μ-loop
 loop-holds c = let s = c .before .before .before .before .before in (begun (s .args .h .width) (s .args .h) (s .args .bytes .now) (base s) (ready s), refl, refl, refl, refl)
 
+mul-restore-chunk : tie.Need-mul-restore-chunk Inv-loop μ-loop
+mul-restore-chunk c = let l = c .before .before in let s = start l in omega (arith, c .if1 .taken, s .pre .0 .opened .layout)
+
 restore-chunk-requires : tie.Need-restore-chunk-requires Inv-loop μ-loop
 restore-chunk-requires c κs =
     let i = c .before .before .before .before in
     let l = i .before .before in
     let s = start l in
     let a = s .args in
-    let w = asked-whole (a .h .width) (a .h) (a .bytes .now) (base s) (ready s) (l .loop .j) (out l) (l .loop .inv .0) (i .if1 .taken) in (
-      w .0,
-      w .1,
-      w .2,
-      w .3,
-      omega (arith, s .pre .3, chosen-long (a .h .width) (a .c32 .now) (a .c64 .now) (l .loop .c32) (l .loop .c64) (l .loop .inv .3) (l .loop .inv .4)),
+    let q = asked-chunk (a .h .width) (a .h) (a .bytes .now) (base s) (ready s) (l .loop .j) (out l) (l .loop .inv .0) (i .if1 .taken) in
+    let w = asked-room (a .h .width) (a .h) (a .bytes .now) (base s) (ready s) (l .loop .j) (out l) (l .loop .inv .0) (i .if1 .taken) in (
+      (s .pre .0 .opened, i .if1 .taken, q .0, q .1),
+      (
+        w .0,
+        w .1,
+        omega (arith, s .pre .3, chosen-long (a .h .width) (a .c32 .now) (a .c64 .now) (l .loop .c32) (l .loop .c64) (l .loop .inv .3) (l .loop .inv .4)),
+      ),
     )
 
 add-j : tie.Need-add-j Inv-loop μ-loop
@@ -65,10 +70,10 @@ loop-again c =
     let l = i .before .before in
     let s = start l in (
       turned-landed (s .args .h .width) (s .args .h) (s .args .bytes .now) (base s) (ready s) (l .loop .j) (out l) (l .loop .inv .0) (i .if1 .taken) _ (r .ensures),
-      r .kept .1 .1 .1 .1 .1 .0 ∙ l .loop .inv .1,
-      r .kept .1 .1 .1 .1 .1 .1 .0 ∙ l .loop .inv .2,
-      r .kept .1 .1 .1 .0 ∙ l .loop .inv .3,
-      r .kept .1 .1 .1 .1 .0 ∙ l .loop .inv .4,
+      r .kept .1 .1 .1 .1 .1 .1 .0 ∙ l .loop .inv .1,
+      r .kept .1 .1 .1 .1 .1 .1 .1 .0 ∙ l .loop .inv .2,
+      r .kept .1 .1 .1 .1 .0 ∙ l .loop .inv .3,
+      r .kept .1 .1 .1 .1 .1 .0 ∙ l .loop .inv .4,
     )
 
 same-length : tie.Need-same-length Inv-loop μ-loop
@@ -96,6 +101,7 @@ restore-spec =
     Inv-loop
     μ-loop
     loop-holds
+    mul-restore-chunk
     restore-chunk-requires
     add-j
     loop-less

@@ -1,5 +1,6 @@
 -- `stream::restore::value_at` meets its contract.
-use Prim.Native.Nat.{_/_, _%_}
+use Prim.Native.Nat.{_/_, _%_, _<_}
+use Rattle.stream.proofs.Law.Tables.Starts.{placed}
 use Rattle.stream.proofs.Law.Rows.Chunks.{good-is, value-is}
 use Rattle.stream.proofs.Law.Header.Layout.{own-place}
 use Rattle.stream.specs.Stream.{valueIn}
@@ -11,7 +12,11 @@ setting-in-requires : tie.Need-setting-in-requires
 setting-in-requires c κs = let p = c .before .pre .0 .opened in (p .words, p .setting)
 
 chunk-at-requires : tie.Need-chunk-at-requires
-chunk-at-requires c κs = let p = c .before .before .pre in (p .0 .opened .layout, p .0 .table, omega arith)
+chunk-at-requires c κs =
+    let s = c .before .before in
+    let p = s .pre .0 in
+    let own : s .args .i / 1024 < s .args .h .chunks = omega (arith, s .pre .1, p .opened .layout .chunks) in
+    (p .opened .layout, placed _ (s .args .h) (s .args .bytes .now) (p .opened .layout) (p .table) (s .args .i / 1024) own, own)
 
 count-at-requires : tie.Need-count-at-requires
 count-at-requires c κs = omega arith
