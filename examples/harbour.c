@@ -1,9 +1,10 @@
 /*
- * The field of the first run: packed, and read back and measured.
+ * The field of the first run: packed, summed up, and read back and measured.
  *
- *     harbour pack FIELD FOLDER METRES       packs FIELD into FOLDER: lossless in both ways, within a tolerance, and a cut file
- *     harbour read FIELD FOLDER METRES       reads the four files back and compares them with FIELD
- *     harbour verdict FIELD FOLDER METRES    the same in three lines, with the three streams cut at every length
+ *     harbour pack FIELD FOLDER METRES       packs FIELD into FOLDER: lossless in both ways, within a tolerance, the same with a
+ *                                            summary beside it, and a cut file
+ *     harbour read FIELD FOLDER METRES       reads the five files back, compares them with FIELD, and lists the chunks with high water
+ *     harbour verdict FIELD FOLDER METRES    the same in three lines, with the four streams cut at every length
  *
  * The exit status is 0 only where every file could be read or written, every call was answered as it must be,
  * and every cell came back as promised. examples/make_harbour.py says what the field is.
@@ -17,13 +18,17 @@
 #include <string.h>
 
 enum { ROWS = 64, COLUMNS = 96, CELLS = ROWS * COLUMNS, RAW_BYTES = 4 * CELLS };
-enum { LONGEST = GWZ_LONGEST_STREAM(32, CELLS) };
+enum { CHUNK = 1024, CHUNKS = (CELLS + CHUNK - 1) / CHUNK, ENTRY_BYTES = 12 }; /* a chunk's entry in a summary, at width 32 */
+enum { LONGEST = GWZ_LONGEST_STREAM(32, CELLS) + GWZ_SUMMARY_BYTES(32, CELLS) };
+
+/* Which chunks reach this level, in metres, is asked of the summary. */
+static const float high_water = 1.9f;
 
 /* The cells to probe: in the mouth of the harbour, and on the western breakwater. */
 enum { MOUTH_ROW = 46, MOUTH_COLUMN = 47, WALL_ROW = 46, WALL_COLUMN = 10 };
 
 static const char lossless_name[] = "lossless.gwz", differences_name[] = "differences.gwz";
-static const char tolerance_name[] = "tolerance.gwz", cut_name[] = "cut.gwz";
+static const char tolerance_name[] = "tolerance.gwz", summary_name[] = "summary.gwz", cut_name[] = "cut.gwz";
 
 static void stop(const char *format, ...)
 {
@@ -71,15 +76,19 @@ static void write_file(const char *path, const uint8_t *bytes, size_t length)
         stop("cannot write %s", path);
 }
 
-/* The shipped field is little-endian whatever the machine is. */
+/* The shipped field is little-endian whatever the machine is, and so is a stream. */
+static uint32_t pattern_at(const uint8_t *bytes)
+{
+    return (uint32_t)bytes[0] | (uint32_t)bytes[1] << 8 | (uint32_t)bytes[2] << 16 | (uint32_t)bytes[3] << 24;
+}
+
 static void read_field(const char *path, uint32_t *field)
 {
     static uint8_t bytes[RAW_BYTES];
     if (read_file(path, bytes, sizeof bytes) != sizeof bytes)
         stop("%s must have %d rows of %d values of 4 bytes", path, (int)ROWS, (int)COLUMNS);
     for (size_t i = 0; i < CELLS; i++)
-        field[i] = (uint32_t)bytes[4 * i] | (uint32_t)bytes[4 * i + 1] << 8 | (uint32_t)bytes[4 * i + 2] << 16
-            | (uint32_t)bytes[4 * i + 3] << 24;
+        field[i] = pattern_at(bytes + 4 * i);
 }
 
 /* ---- Values */
@@ -151,6 +160,48 @@ static size_t unpacked(const char *path, uint8_t *stream, uint32_t *field)
     return length;
 }
 
+/* ---- High water */
+
+/* The numbers of chunks, in order. */
+struct chunks {
+    uint32_t numbers[CHUNKS];
+    size_t count;
+};
+
+/* The chunks that reach high water, by the summary of a stream, which is first tested against the values. */
+static struct chunks listed(const uint8_t *stream, size_t length)
+{
+    struct chunks high = {{0}, 0};
+    uint32_t pattern;
+    memcpy(&pattern, &high_water, sizeof pattern);
+    uint64_t result = gwz_chunks_from32(GWZ_HIGHEST_LEVEL, pattern, stream, length, high.numbers, CHUNKS);
+    high.count = gwz_answer(not_refused("chunks_from", result));
+    return high;
+}
+
+/* The same by the cells. A dry cell is at least nothing. */
+static struct chunks looked_for(const uint32_t *cells)
+{
+    struct chunks high = {{0}, 0};
+    for (size_t i = 0; i < CELLS; i++) {
+        int known = high.count > 0 && high.numbers[high.count - 1] == i / CHUNK;
+        if (!known && metres_of(cells[i]) >= (double)high_water)
+            high.numbers[high.count++] = (uint32_t)(i / CHUNK);
+    }
+    return high;
+}
+
+static int same_chunks(const struct chunks *a, const struct chunks *b)
+{
+    return a->count == b->count && memcmp(a->numbers, b->numbers, a->count * sizeof a->numbers[0]) == 0;
+}
+
+/* The last number of a chunk's entry in the summary, which ends with the stream: the chunk's largest value. */
+static double highest_in(const uint8_t *stream, size_t length, uint32_t chunk)
+{
+    return metres_of(pattern_at(stream + length - (CHUNKS - 1 - chunk) * ENTRY_BYTES - 4));
+}
+
 /* ---- harbour pack */
 
 static void print_packed(const char *how, size_t length, const char *path)
@@ -162,9 +213,9 @@ static void print_packed(const char *how, size_t length, const char *path)
 static void pack(const char *field_path, const char *folder, double metres)
 {
     static uint32_t field[CELLS];
-    static uint8_t stream[LONGEST];
+    static uint8_t stream[LONGEST], copy[LONGEST];
     struct path lossless = path_of(folder, lossless_name), differences = path_of(folder, differences_name);
-    struct path tolerance = path_of(folder, tolerance_name), cut = path_of(folder, cut_name);
+    struct path tolerance = path_of(folder, tolerance_name), summary = path_of(folder, summary_name), cut = path_of(folder, cut_name);
     int dry = 0;
 
     read_field(field_path, field);
@@ -188,8 +239,12 @@ static void pack(const char *field_path, const char *folder, double metres)
            (long)k);
     print_packed("within it", length, tolerance.text);
 
+    size_t summed = gwz_answer(not_refused("add_summary", gwz_add_summary(GWZ_LEVEL_9, stream, length, copy, LONGEST)));
+    write_file(summary.text, copy, summed);
+    printf("Added a summary to that: %lu bytes more, for %d chunks, in %s\n", (unsigned long)(summed - length), (int)CHUNKS, summary.text);
+
     write_file(cut.text, stream, length / 2);
-    printf("Cut on purpose: the first %lu bytes of that, in %s\n", (unsigned long)(length / 2), cut.text);
+    printf("Cut on purpose: the first %lu bytes of %s, in %s\n", (unsigned long)(length / 2), tolerance.text, cut.text);
 }
 
 /* ---- harbour read */
@@ -270,6 +325,26 @@ static void print_probe(const char *where, const uint8_t *stream, size_t length,
         printf("%.9g m\n", metres_of(pattern));
 }
 
+/* The stream with a summary holds the same cells, and the summary names the chunks that reach high water. */
+static void print_high_water(const char *path, const uint32_t *without)
+{
+    static uint32_t back[CELLS];
+    static uint8_t stream[LONGEST];
+    size_t length = unpacked(path, stream, back);
+    struct chunks high = listed(stream, length), found = looked_for(back);
+    if (memcmp(back, without, sizeof back) != 0)
+        stop("a cell of %s is not as it is without the summary", path);
+    printf("With a summary, read back: %d of %d cells are as they are without it\n", (int)CELLS, (int)CELLS);
+    printf("Chunks that reach %.4g m, by the summary: %lu of %d\n", (double)high_water, (unsigned long)high.count, (int)CHUNKS);
+    for (size_t i = 0; i < high.count; i++) {
+        uint32_t chunk = high.numbers[i], first = CHUNK * chunk, last = first + CHUNK < CELLS ? first + CHUNK - 1 : CELLS - 1;
+        printf("  chunk %lu, from row %lu to row %lu: the highest level is %.9g m\n", (unsigned long)chunk,
+               (unsigned long)(first / COLUMNS), (unsigned long)(last / COLUMNS), highest_in(stream, length, chunk));
+    }
+    if (!same_chunks(&high, &found))
+        stop("the cells of %s reach %.4g m in other chunks", path, (double)high_water);
+}
+
 /* A cut file must be refused, and no value of it handed out. */
 static void print_refusal(const char *path)
 {
@@ -293,7 +368,7 @@ static void read_back(const char *field_path, const char *folder, double metres)
     static uint32_t field[CELLS], back[CELLS];
     static uint8_t stream[LONGEST];
     struct path lossless = path_of(folder, lossless_name), differences = path_of(folder, differences_name);
-    struct path tolerance = path_of(folder, tolerance_name), cut = path_of(folder, cut_name);
+    struct path tolerance = path_of(folder, tolerance_name), summary = path_of(folder, summary_name), cut = path_of(folder, cut_name);
 
     read_field(field_path, field);
     compare_lossless("Lossless", lossless.text, field);
@@ -302,6 +377,7 @@ static void read_back(const char *field_path, const char *folder, double metres)
     compare_within(tolerance.text, field, back, exponent_of(metres));
     print_probe("the harbour mouth", stream, length, MOUTH_ROW, MOUTH_COLUMN);
     print_probe("the western breakwater", stream, length, WALL_ROW, WALL_COLUMN);
+    print_high_water(summary.text, back);
     print_refusal(cut.text);
 }
 
@@ -326,7 +402,7 @@ static size_t cuts_refused(const uint8_t *stream, size_t length)
 static int verdict(const char *field_path, const char *folder, double metres)
 {
     static uint32_t field[CELLS], back[CELLS];
-    static uint8_t lossless[LONGEST], differences[LONGEST], tolerance[LONGEST];
+    static uint8_t lossless[LONGEST], differences[LONGEST], tolerance[LONGEST], summary[LONGEST];
     double allowed = ldexp(1, (int)exponent_of(metres));
     read_field(field_path, field);
     size_t lossless_length = unpacked(path_of(folder, lossless_name).text, lossless, back);
@@ -335,16 +411,21 @@ static int verdict(const char *field_path, const char *folder, double metres)
     struct measured summed = measured_of(field, back, 0);
     size_t tolerance_length = unpacked(path_of(folder, tolerance_name).text, tolerance, back);
     struct measured near = measured_of(field, back, allowed);
-    size_t cuts = lossless_length + differences_length + tolerance_length;
+    struct chunks found = looked_for(back);
+    size_t summary_length = unpacked(path_of(folder, summary_name).text, summary, back);
+    struct chunks high = listed(summary, summary_length);
+    size_t cuts = lossless_length + differences_length + tolerance_length + summary_length;
     size_t refused = cuts_refused(lossless, lossless_length) + cuts_refused(differences, differences_length)
-        + cuts_refused(tolerance, tolerance_length);
+        + cuts_refused(tolerance, tolerance_length) + cuts_refused(summary, summary_length);
 
     printf("Cells kept: %d and %d of %d lossless, bit for bit, and %d within the tolerance; dry cells kept: %d, %d and %d of %d\n",
            exact.same, summed.same, (int)CELLS, near.within, exact.same_dry, summed.same_dry, near.same_dry, near.dry);
-    printf("Worst error: %.6f mm, %.4f of the tolerance of %.6f mm\n", 1000 * near.largest, near.largest / allowed, 1000 * allowed);
-    printf("Cut files refused: %lu of %lu, every length of the three files; accepted: %lu\n", (unsigned long)refused, (unsigned long)cuts,
+    printf("Worst error: %.6f mm, %.4f of the tolerance of %.6f mm; ", 1000 * near.largest, near.largest / allowed, 1000 * allowed);
+    printf("chunks that reach %.4g m: %lu of %d by the summary, %lu by the cells%s\n", (double)high_water, (unsigned long)high.count,
+           (int)CHUNKS, (unsigned long)found.count, same_chunks(&high, &found) ? "" : ", not the same");
+    printf("Cut files refused: %lu of %lu, every length of the four files; accepted: %lu\n", (unsigned long)refused, (unsigned long)cuts,
            (unsigned long)(cuts - refused));
-    return exact.same == CELLS && summed.same == CELLS && near.within == CELLS && refused == cuts;
+    return exact.same == CELLS && summed.same == CELLS && near.within == CELLS && same_chunks(&high, &found) && refused == cuts;
 }
 
 int main(int count, char **words)

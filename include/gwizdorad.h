@@ -24,10 +24,10 @@
  *   may be: behind `pattern` and `code`, one element is lent.
  * - Pointers to uint32_t and uint64_t are aligned as C has it. Bytes may lie anywhere.
  *
- * Any content is safe to lend. Bytes that break a rule of the format get a refusal, never a fault: from check and
- * unpack, and from probe where the rule is of the header, the tables or the value's own chunk. A cut file (a proper
- * beginning of a stream that some reader accepts) is accepted by none, at any level; the call that accepts the whole
- * refuses it by 5, 8 or 9.
+ * Any content is safe to lend. Bytes that break a rule of the format get a refusal, never a fault: from check, unpack
+ * and the calls about summaries, and from probe where the rule is of the header, the tables or the value's own chunk. A
+ * cut file (a proper beginning of a stream that some reader accepts) is accepted by none, at any level; check, unpack or
+ * probe, where it accepts the whole, refuses it by 5, 8 or 9.
  *
  *
  * WHAT IS NOT SEEN
@@ -36,7 +36,7 @@
  * GWZ_DIFFERENCES it also moves every value behind it in its chunk: of single bits flipped at random in streams of a
  * harbour field, 94 % and more were accepted, nearly each with one wrong value, or with wrong values to the end of a
  * chunk (README.md has the figures). A file that travels needs a checksum around it; examples/pack_field.c keeps a
- * CRC-32.
+ * CRC-32. A summary is none: beside it too, a wrong value is not seen that leaves what the summary says of its chunk.
  *
  *
  * WHAT IS ANSWERED
@@ -56,13 +56,14 @@
  *
  * SIDE PARTS
  *
- * A stream may have up to 64 side parts behind its data, which others put there: bytes with an id. This library writes none,
- * and hands none out. Ids below GWZ_FIRST_HIGH_ID, which is 2^31, may be skipped: every reader does. An id from there up says
- * that the values must not be used by who does not understand it, as where a part holds a datum shift. NONE IS DEFINED YET, so
- * at every level such a stream is refused. Who adds such a part also raises the needed minor to 12, and the written one if it
- * is below (docs/FORMAT.md has the bytes): then readers of this library refuse the stream by 7 below level 12 and by 15, with
- * the first such id, at 12; and older ones, which knew no such ids, by 7 too. Where the need was not raised, a reader that
- * reaches it refuses the stream by 8 in this library, and skips the part in older ones.
+ * A stream may have up to 64 side parts behind its data: bytes with an id. Pack writes none. gwz_add_summary adds the one with
+ * the id GWZ_SUMMARY_ID, which is 1; others put the rest there, and this library hands none out. Ids below GWZ_FIRST_HIGH_ID,
+ * which is 2^31, may be skipped: every reader does, that of the summary too. An id from there up says that the values must not
+ * be used by who does not understand it, as where a part holds a datum shift. NONE IS DEFINED YET, so at every level such a
+ * stream is refused. Who adds such a part also raises the needed minor to 12, and the written one if it is below
+ * (docs/FORMAT.md has the bytes): then readers of this library refuse the stream by 7 below level 12 and by 15, with the first
+ * such id, at 12; and older ones, which knew no such ids, by 7 too. Where the need was not raised, a reader that reaches it
+ * refuses the stream by 8 in this library, and skips the part in older ones.
  *
  *
  * PATTERNS, NOT FLOATS
@@ -114,6 +115,9 @@ enum gwz_kind {
     GWZ_NOT_A_NUMBER = 2
 };
 
+/* The id of the side part that is a summary of the chunks: see below, "The summary beside the data". */
+#define GWZ_SUMMARY_ID UINT32_C(1)
+
 /* The first id of a side part that must be understood; those below may be skipped. */
 #define GWZ_FIRST_HIGH_ID UINT32_C(0x80000000)
 
@@ -134,6 +138,18 @@ enum gwz_limit {
 GWZ_HELPER size_t gwz_longest_stream(uint32_t width, size_t n)
 {
     return GWZ_LONGEST_STREAM(width, n);
+}
+
+/*
+ * The bytes that gwz_add_summary adds to a stream of n values (at most GWZ_MOST_VALUES) of a width, 32 or 64: an entry of
+ * the side table, and for each chunk a count and two patterns. A constant where n is one.
+ */
+#define GWZ_SUMMARY_BYTES(width, n) (12u + ((size_t)(n) + 1023u) / 1024u * (4u + 2u * ((size_t)(width) / 8u)))
+
+/* The same for a language that has no macros. */
+GWZ_HELPER size_t gwz_summary_bytes(uint32_t width, size_t n)
+{
+    return GWZ_SUMMARY_BYTES(width, n);
 }
 
 /* GWZ_FORMAT_MAJOR and GWZ_HIGHEST_LEVEL of the library that is linked. */
@@ -193,11 +209,58 @@ uint64_t gwz_unpack64(uint32_t level, const uint8_t *bytes, size_t len, uint64_t
 uint64_t gwz_probe32(uint32_t level, const uint8_t *bytes, size_t len, uint64_t index, uint32_t *pattern);
 uint64_t gwz_probe64(uint32_t level, const uint8_t *bytes, size_t len, uint64_t index, uint64_t *pattern);
 
+/* ---- The summary beside the data */
+
+/*
+ * A summary is side part 1, GWZ_SUMMARY_ID. For each chunk of 1,024 values (the last: what is left) it holds a count of
+ * not-a-numbers, and the smallest and the largest other value as patterns: 0 and 0 if there is none, and -0 stands below 0.
+ * Infinities are values. All is said of the values as unpack gives them back, so within a tolerance not of those that were
+ * packed. docs/FORMAT.md has the bytes. Adding a summary changes no value that any level shows, and a stream needs no other
+ * level for it: a reader that knows no summaries skips the part.
+ *
+ * Each of these calls reads every chunk at most twice, to check it and for its values (of each group the first byte once
+ * more), and has 8,192 bytes on the stack for the values of one chunk. No call hands out a summary: its bytes are in the stream.
+ */
+
+/*
+ * Copies a stream of either width without side parts to the front of `out`, which has room for `room` bytes and must not
+ * overlap `bytes`, and adds its summary. Answers the bytes written; behind them nothing is altered. Of the stream's own bytes
+ * only the count of side parts is another in the copy, 1 in place of 0: the written minor stays. The room needed is len +
+ * GWZ_SUMMARY_BYTES, or the detail of refusal 4: with room 0, that is a way to ask.
+ *
+ * Refusals, in order: 1 5 6 7 8 9 8 15 10 16 4. 16, GWZ_HAS_SIDE_PARTS: the stream already has side parts. Add the summary to
+ * the stream as it was packed, and make the side table anew for the other parts; docs/FORMAT.md has the bytes.
+ */
+uint64_t gwz_add_summary(uint32_t level, const uint8_t *bytes, size_t len, uint8_t *out, size_t room);
+
+/*
+ * Tests the summary of a stream of either width against its values. Answers the count of values, where the summary is true in
+ * every byte. Other side parts may stand beside it.
+ *
+ * Refusals, in order: 1 5 6 7 8 9 8 15 10 17. 17, GWZ_NO_TRUE_SUMMARY: there is no summary or a false one. The values are still
+ * read by check, unpack and probe, which skip it. Where the stream had a true one, it was altered since: fetch it again.
+ */
+uint64_t gwz_test_summary(uint32_t level, const uint8_t *bytes, size_t len);
+
+/*
+ * Lists the chunks that hold some value at least x, as IEEE 754 compares: -0 equals 0, and a not-a-number is at least nothing.
+ * Writes their numbers, counted from 0, in order, to the front of `out`, which has room for `room` elements. Answers how many
+ * there are; behind them nothing is altered. Enough room is an element for each chunk, (n + 1023) / 1024 of them, or what the
+ * detail of refusal 4 says. Chunk j has the values with the indices from 1024 * j on. A chunk of not-a-numbers only is never
+ * listed. The summary is tested first, as by gwz_test_summary: what is listed is true of the values.
+ *
+ * x        the pattern of a number, which may be an infinity
+ *
+ * Refusals, in order: 1 2 5 6 7 8 14 9 8 15 10 17 4; 2 where x is a not-a-number, 17 as in gwz_test_summary.
+ */
+uint64_t gwz_chunks_from32(uint32_t level, uint32_t x, const uint8_t *bytes, size_t len, uint32_t *out, size_t room);
+uint64_t gwz_chunks_from64(uint32_t level, uint64_t x, const uint8_t *bytes, size_t len, uint32_t *out, size_t room);
+
 /* ---- Where a stream is bad */
 
 /*
  * The detail of refusal 10, GWZ_BROKEN_CHUNK, taken apart: a chunk and a group of it, both counted from 0. From
- * gwz_check and gwz_unpack it is the first bad chunk, from gwz_probe the value's own; the group is the first bad one
+ * gwz_probe it is the value's own chunk, from all others the first bad one; the group is the first bad one
  * in it. (Bytes left over behind a chunk's last group count for that group.) The chunk's values have the indices from
  * 1024 * chunk on, 1,024 of them, and the group's those from 1024 * chunk + 32 * group on, 32 of them; the last chunk
  * and its last group have what is left.
@@ -206,7 +269,7 @@ uint64_t gwz_probe64(uint32_t level, const uint8_t *bytes, size_t len, uint64_t 
  *   the header or the chunk table.
  * - gwz_probe, at the same level, refuses every value of that chunk with the same detail: those of the good groups in
  *   it too. It reads the values of every good chunk.
- * - From gwz_check and gwz_unpack: every chunk before it is good. Of the chunks behind it nothing is told; gwz_probe at
+ * - From all others than gwz_probe: every chunk before it is good. Of the chunks behind it nothing is told; gwz_probe at
  *   the index 1024 * j asks about chunk j.
  * - From gwz_probe: nothing is told of any other chunk.
  */

@@ -37,9 +37,9 @@
  * means, may change where the second number does.
  */
 #define GWZ_VERSION_MAJOR 0
-#define GWZ_VERSION_MINOR 10
+#define GWZ_VERSION_MINOR 11
 #define GWZ_VERSION_PATCH 0
-#define GWZ_VERSION "0.10.0"
+#define GWZ_VERSION "0.11.0"
 
 #ifndef GWZ_HELPER
 #define GWZ_HELPER static inline
@@ -56,7 +56,8 @@ const char *gwz_version(void);
 enum gwz_refusal_number {
     GWZ_DONE = 0,                 /* not refused: the low 32 bits are the answer */
     GWZ_UNKNOWN_LEVEL = 1,        /* level not 8 to 12 */
-    GWZ_NOT_ALLOWED = 2,          /* mode or k not allowed, or its need exceeds the level; bound: width not 32 or 64 */
+    GWZ_NOT_ALLOWED = 2,          /* mode or k not allowed, or its need exceeds the level; bound: width not 32 or 64; list of
+                                     chunks: x is a not-a-number */
     GWZ_TOO_MANY_VALUES = 3,      /* more than GWZ_MOST_VALUES */
     GWZ_TOO_SHORT = 4,            /* lent output too short; detail: the length needed, in that output's elements */
     GWZ_NO_HEADER = 5,            /* fewer than GWZ_HEADER_BYTES bytes */
@@ -70,7 +71,9 @@ enum gwz_refusal_number {
     GWZ_NO_TOLERANCE = 12,        /* tolerance not a finite number above 0 */
     GWZ_TOLERANCE_TOO_SMALL = 13, /* no allowed k is small enough */
     GWZ_OTHER_WIDTH = 14,         /* the stream has the other width */
-    GWZ_MUST_BE_UNDERSTOOD = 15   /* a side part has an id from GWZ_FIRST_HIGH_ID up; detail: the first such id */
+    GWZ_MUST_BE_UNDERSTOOD = 15,  /* a side part has an id from GWZ_FIRST_HIGH_ID up; detail: the first such id */
+    GWZ_HAS_SIDE_PARTS = 16,      /* a summary is to be added, and the stream already has side parts */
+    GWZ_NO_TRUE_SUMMARY = 17      /* no summary or a false one */
 };
 
 /* The exponent k of a tolerance 2^k, for values of each width. */
@@ -117,7 +120,8 @@ GWZ_HELPER const char *gwz_refusal_text(uint32_t number)
     case GWZ_UNKNOWN_LEVEL:
         return "The level is not known: pass 8, 9, 10, 11 or 12.";
     case GWZ_NOT_ALLOWED:
-        return "The setting is not allowed: check mode, k and width, or pass the higher level that the setting needs.";
+        return "The setting is not allowed: check mode, k and width, or pass the higher level that the setting needs. (Of a list "
+               "of chunks: x is a not-a-number, and no value is at least that; pass the pattern of a number.)";
     case GWZ_TOO_MANY_VALUES:
         return "There are more than 1048576 values: cut the list and pack each part as its own stream.";
     case GWZ_TOO_SHORT:
@@ -147,6 +151,12 @@ GWZ_HELPER const char *gwz_refusal_text(uint32_t number)
     case GWZ_MUST_BE_UNDERSTOOD:
         return "A side part that must not be skipped, with the id that the detail names, is not understood here: the values "
                "would mislead without it. Update this program, or ask who wrote the file.";
+    case GWZ_HAS_SIDE_PARTS:
+        return "The stream already has side parts, and a summary is added only to one that has none: test whether it has one "
+               "already, or add it to the stream as it was packed.";
+    case GWZ_NO_TRUE_SUMMARY:
+        return "The stream has no summary or a false one: add one to the stream as it was packed, or read the values without it. "
+               "(If it had a true one, the file was altered since: fetch it again.)";
     default:
         return "The refusal number is not known to this header: use the header that came with the library.";
     }

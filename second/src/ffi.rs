@@ -117,6 +117,66 @@ pub fn bound(width: u32, tolerance: u64) -> u64 {
     unsafe { gwz_bound(width, tolerance) }
 }
 
+extern "C" {
+    fn gwz_add_summary(level: u32, bytes: *const u8, len: usize, out: *mut u8, room: usize) -> u64;
+    fn gwz_test_summary(level: u32, bytes: *const u8, len: usize) -> u64;
+}
+
+pub fn add_summary(level: u32, stream: &[u8], buffer: &mut [u8], room: Range<usize>) -> u64 {
+    let (len, out) = (stream.len(), start(buffer, &room));
+    // SAFETY: the bytes come with their length, the output with a room that
+    // `start` found inside its buffer.
+    unsafe { gwz_add_summary(level, stream.as_ptr(), len, out, room.len()) }
+}
+
+pub fn test_summary(level: u32, stream: &[u8]) -> u64 {
+    // SAFETY: the bytes come with their length.
+    unsafe { gwz_test_summary(level, stream.as_ptr(), stream.len()) }
+}
+
+/// The list of the chunks from a pattern of one width on.
+pub trait ChunksFrom: Sized {
+    fn chunks_from(
+        level: u32,
+        x: Self,
+        stream: &[u8],
+        buffer: &mut [u32],
+        room: Range<usize>,
+    ) -> u64;
+}
+
+macro_rules! chunks_from {
+    ($word:ident, $chunks_from:ident) => {
+        extern "C" {
+            fn $chunks_from(
+                level: u32,
+                x: $word,
+                bytes: *const u8,
+                len: usize,
+                out: *mut u32,
+                room: usize,
+            ) -> u64;
+        }
+
+        impl ChunksFrom for $word {
+            fn chunks_from(
+                level: u32,
+                x: $word,
+                stream: &[u8],
+                buffer: &mut [u32],
+                room: Range<usize>,
+            ) -> u64 {
+                let (len, out) = (stream.len(), start(buffer, &room));
+                // SAFETY: as with `add_summary`; the pointer is aligned.
+                unsafe { $chunks_from(level, x, stream.as_ptr(), len, out, room.len()) }
+            }
+        }
+    };
+}
+
+chunks_from!(u32, gwz_chunks_from32);
+chunks_from!(u64, gwz_chunks_from64);
+
 /// The lower library's functions of one width.
 pub trait NumberRules: Sized {
     fn lossless_code(pattern: Self) -> Self;

@@ -1,13 +1,36 @@
 //! What the linked library makes of a call.
 
-use crate::ffi::{bound, Library, NumberRules};
+use crate::ffi::{add_summary, bound, test_summary, ChunksFrom, Library, NumberRules};
 use second::compare::call::Call;
 use second::compare::operations::by_operations;
 use second::compare::outcome::{lend, Element, Outcome};
 use second::numbers::WIDTH_32;
 
 pub fn by_library(call: &Call) -> Outcome {
-    by_operations::<Library>(call).unwrap_or_else(|| by_number_rules(call))
+    let outcome = by_operations::<Library>(call).or_else(|| by_summaries(call));
+    outcome.unwrap_or_else(|| by_number_rules(call))
+}
+
+/// Nothing for a call that is of no summary.
+fn by_summaries(call: &Call) -> Option<Outcome> {
+    match *call {
+        Call::AddSummary { level, stream, room } => {
+            Some(lend(room, |buffer, room| add_summary(level, stream, buffer, room)))
+        }
+        Call::TestSummary { level, stream } => Some(Outcome::bare(test_summary(level, stream))),
+        Call::ChunksFrom { width, .. } if width == WIDTH_32 => Some(by_chunks_from::<u32>(call)),
+        Call::ChunksFrom { .. } => Some(by_chunks_from::<u64>(call)),
+        _ => None,
+    }
+}
+
+fn by_chunks_from<P: ChunksFrom + Element>(call: &Call) -> Outcome {
+    match *call {
+        Call::ChunksFrom { level, x, stream, room, .. } => {
+            lend(room, |buffer, room| P::chunks_from(level, P::cut(x), stream, buffer, room))
+        }
+        _ => unreachable!("answered by the caller"),
+    }
 }
 
 fn by_number_rules(call: &Call) -> Outcome {

@@ -1,8 +1,7 @@
 //! The listing, as a function from the bytes on standard input to the text
 //! printed. Every line ends with a newline.
 
-use crate::stream::{self, Header};
-use std::ops::Range;
+use crate::stream::{self, Whole};
 
 const MOST_BYTES: usize = 65_536;
 
@@ -12,12 +11,13 @@ pub fn listing(input: &[u8]) -> String {
         return "too long\n".to_string();
     }
     match stream::checked(stream::HIGHEST_LEVEL, input) {
-        Ok((header, stretches)) => described(&header, &stretches),
+        Ok(whole) => described(&whole),
         Err(refusal) => format!("refused {} detail {}\n", refusal.number, refusal.detail),
     }
 }
 
-fn described(header: &Header, stretches: &[Range<u64>]) -> String {
+fn described(whole: &Whole) -> String {
+    let header = &whole.header;
     // The major number is 1 in every stream that passed the check.
     let mut text = format!("format 1.{} needs 1.{}\n", header.written, header.needed);
     let setting = header.setting;
@@ -28,7 +28,7 @@ fn described(header: &Header, stretches: &[Range<u64>]) -> String {
         setting.k()
     );
     text += &format!("values {} chunks {} sides {}\n", header.n, header.c, header.sides);
-    for (chunk, stretch) in (0..).zip(stretches) {
+    for (chunk, stretch) in (0..).zip(&whole.tables.stretches) {
         text += &format!(
             "chunk {} at {} bytes {} groups {}\n",
             chunk,

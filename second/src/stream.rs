@@ -13,13 +13,13 @@ pub const HIGHEST_LEVEL: u32 = 12;
 
 const HEADER_BYTES: u64 = 48;
 const TABLE_ENTRY_BYTES: u64 = 4;
-const SIDE_ENTRY_BYTES: u64 = 12;
+pub(crate) const SIDE_ENTRY_BYTES: u64 = 12;
 const MOST_SIDES: u64 = 64;
 /// Ids from here up mean "must be understood". None is defined yet.
 const FIRST_HIGH_ID: u32 = 1 << 31;
 /// What a stream with such an id needs.
 const NEED_OF_HIGH_ID: u32 = 12;
-const VALUES_IN_CHUNK: u64 = 1024;
+pub(crate) const VALUES_IN_CHUNK: u64 = 1024;
 const VALUES_IN_GROUP: u64 = 32;
 const GROUPS_IN_CHUNK: u64 = 32;
 
@@ -137,7 +137,7 @@ impl Setting {
 }
 
 /// Refusal 1, first in every operation.
-fn level_known(level: u32) -> Result<(), Refusal> {
+pub(crate) fn level_known(level: u32) -> Result<(), Refusal> {
     match level {
         8..=HIGHEST_LEVEL => Ok(()),
         _ => Err(Refusal::bare(1)),
@@ -290,7 +290,7 @@ fn header_numbers(stream: &[u8]) -> Option<[u32; 12]> {
     Some(numbers)
 }
 
-fn read_header(level: u32, stream: &[u8]) -> Result<Header, Refusal> {
+pub(crate) fn read_header(level: u32, stream: &[u8]) -> Result<Header, Refusal> {
     let numbers = header_numbers(stream).ok_or(Refusal::bare(5))?;
     let [major, written, needed, width, mode, k, n, c, table, data, sides, end] = numbers;
     if major != 1 {
@@ -331,18 +331,31 @@ fn read_header(level: u32, stream: &[u8]) -> Result<Header, Refusal> {
 
 // ------------------------------------------ the tables, 9 8 (late) 15
 
-/// The chunks as stretches of the data, if both tables keep their rules, the
-/// need is exact, and every side part may be skipped.
-fn read_tables(stream: &[u8], header: &Header) -> Result<Vec<Range<u64>>, Refusal> {
-    let ids = side_ids(stream, header).ok_or(Refusal::bare(9))?;
+/// What the tables of a stream say that passed refusals 9 8 15.
+pub(crate) struct Tables {
+    /// The chunks as stretches of the data, counted from the data.
+    pub(crate) stretches: Vec<Range<u64>>,
+    pub(crate) sides: Vec<Side>,
+}
+
+/// A side part: its id, and its bytes as a stretch of the stream.
+pub(crate) struct Side {
+    pub(crate) id: u32,
+    pub(crate) bytes: Range<u64>,
+}
+
+/// The tables, if both keep their rules, the need is exact, and every side part
+/// may be skipped.
+fn read_tables(stream: &[u8], header: &Header) -> Result<Tables, Refusal> {
+    let sides = side_parts(stream, header).ok_or(Refusal::bare(9))?;
     let stretches = chunk_stretches(stream, header).ok_or(Refusal::bare(9))?;
-    let high_id = ids.into_iter().find(|&id| id >= FIRST_HIGH_ID);
+    let high_id = sides.iter().map(|side| side.id).find(|&id| id >= FIRST_HIGH_ID);
     if header.needed != need_of_stream(header.setting, high_id) {
         return Err(Refusal::bare(8));
     }
     match high_id {
         Some(id) => Err(Refusal::with_detail(15, id as u64)),
-        None => Ok(stretches),
+        None => Ok(Tables { stretches, sides }),
     }
 }
 
@@ -354,8 +367,7 @@ fn need_of_stream(setting: Setting, high_id: Option<u32>) -> u32 {
     }
 }
 
-/// Each chunk's stretch of the data, counted from the data, or nothing if the
-/// chunk table breaks a rule.
+/// Each chunk's stretch of the data, or nothing if the chunk table breaks a rule.
 fn chunk_stretches(stream: &[u8], header: &Header) -> Option<Vec<Range<u64>>> {
     let mut starts: Vec<u64> = Vec::new();
     for chunk in 0..header.c {
@@ -376,25 +388,25 @@ fn chunk_stretches(stream: &[u8], header: &Header) -> Option<Vec<Range<u64>>> {
     Some(starts.iter().zip(ends).map(|(&start, end)| start..end).collect())
 }
 
-/// The ids of the side parts, or nothing if the side table breaks a rule: ids
-/// increase strictly; the parts follow the table and each other without a gap;
-/// the last, or with none the data, ends with the stream.
-fn side_ids(stream: &[u8], header: &Header) -> Option<Vec<u32>> {
+/// The side parts, or nothing if the side table breaks a rule: ids increase
+/// strictly; the parts follow the table and each other without a gap; the last,
+/// or with none the data, ends with the stream.
+fn side_parts(stream: &[u8], header: &Header) -> Option<Vec<Side>> {
     let mut next_place = header.data_end + SIDE_ENTRY_BYTES * header.sides;
-    let mut ids: Vec<u32> = Vec::new();
+    let mut sides: Vec<Side> = Vec::new();
     for side in 0..header.sides {
         let entry = header.data_end + SIDE_ENTRY_BYTES * side;
         // Nothing where the table runs past the bytes.
         let id = number_at(stream, entry)?;
         let place = number_at(stream, entry + 4)?;
         let length = number_at(stream, entry + 8)?;
-        if ids.last().is_some_and(|&last| id <= last) || place as u64 != next_place {
+        if sides.last().is_some_and(|last| id <= last.id) || place as u64 != next_place {
             return None;
         }
-        ids.push(id);
         next_place += length as u64;
+        sides.push(Side { id, bytes: place as u64..next_place });
     }
-    (next_place == stream.len() as u64).then_some(ids)
+    (next_place == stream.len() as u64).then_some(sides)
 }
 
 // -------------------------------------------------------- the chunks, 10
@@ -467,21 +479,34 @@ fn codes_of_group(bytes: &[u8], count: usize, width: Width) -> Option<(Vec<u64>,
 
 // ------------------------------------------------ check, unpack and probe
 
-/// A whole stream's header and chunk stretches, every rule checked. Order
-/// 1 5 6 7 8 9 8 15 10.
-pub(crate) fn checked(level: u32, stream: &[u8]) -> Result<(Header, Vec<Range<u64>>), Refusal> {
+/// A stream that passed every rule.
+pub(crate) struct Whole {
+    pub(crate) header: Header,
+    pub(crate) tables: Tables,
+    /// The restored patterns, chunk by chunk.
+    pub(crate) chunks: Vec<Vec<u64>>,
+}
+
+/// A whole stream, every rule checked. Order 1 5 6 7 8 9 8 15 10.
+pub(crate) fn checked(level: u32, stream: &[u8]) -> Result<Whole, Refusal> {
     level_known(level)?;
     let header = read_header(level, stream)?;
-    let stretches = read_tables(stream, &header)?;
-    for (chunk, stretch) in (0..).zip(&stretches) {
-        read_chunk(stream, &header, stretch, chunk)?;
+    read_rest(stream, header)
+}
+
+/// The whole stream of a header. Order 9 8 15 10.
+pub(crate) fn read_rest(stream: &[u8], header: Header) -> Result<Whole, Refusal> {
+    let tables = read_tables(stream, &header)?;
+    let mut chunks = Vec::new();
+    for (chunk, stretch) in (0..).zip(&tables.stretches) {
+        chunks.push(read_chunk(stream, &header, stretch, chunk)?);
     }
-    Ok((header, stretches))
+    Ok(Whole { header, tables, chunks })
 }
 
 /// Checks a whole stream of either width and answers n.
 pub fn check(level: u32, stream: &[u8]) -> Answer {
-    checked(level, stream).map(|(header, _)| header.n)
+    checked(level, stream).map(|whole| whole.header.n)
 }
 
 /// Writes the n values to the front of the output and answers n. Order
@@ -496,15 +521,11 @@ pub fn unpack<P: Pattern>(level: u32, stream: &[u8], output: &mut [P]) -> Answer
     if (output.len() as u64) < header.n {
         return Err(Refusal::with_detail(4, header.n));
     }
-    let stretches = read_tables(stream, &header)?;
-    let mut patterns = Vec::new();
-    for (chunk, stretch) in (0..).zip(&stretches) {
-        patterns.extend(read_chunk(stream, &header, stretch, chunk)?);
-    }
-    for (element, pattern) in output.iter_mut().zip(patterns) {
+    let whole = read_rest(stream, header)?;
+    for (element, &pattern) in output.iter_mut().zip(whole.chunks.iter().flatten()) {
         *element = P::of_number(pattern);
     }
-    Ok(header.n)
+    Ok(whole.header.n)
 }
 
 /// One value by index. Order 1 5 6 7 8 14 11 9 8 15 10, the last for the
@@ -525,9 +546,9 @@ fn pattern_at(level: u32, stream: &[u8], index: u64, width: Width) -> Result<u64
     if index >= header.n {
         return Err(Refusal::bare(11));
     }
-    let stretches = read_tables(stream, &header)?;
+    let tables = read_tables(stream, &header)?;
     let chunk = index / VALUES_IN_CHUNK;
-    let patterns = read_chunk(stream, &header, &stretches[chunk as usize], chunk)?;
+    let patterns = read_chunk(stream, &header, &tables.stretches[chunk as usize], chunk)?;
     Ok(patterns[(index % VALUES_IN_CHUNK) as usize])
 }
 

@@ -1,11 +1,11 @@
 /*
- * What the library answers to streams at each reader level: the lines of tests/ages/answers, whose heading says what
- * stands in them.
+ * What the library answers to streams at each reader level: the lines of tests/ages/answers, or with --summaries those of
+ * tests/ages/summaries. Their headings say what stands in them.
  *
- *     ages [LEVEL]... STREAM...       numbers in front are levels; without one, every level that the header has
+ *     ages [--summaries] [LEVEL]... STREAM...       numbers in front are levels; without one, every level that the header has
  *
- * Each output is lent between marked margins. A refused call must leave all of it as it was, any other the margins;
- * where a byte was altered that must not be, the answer has ALTERED behind it.
+ * Each output is lent between marked margins. A refused call must leave all of it as it was, any other the margins and
+ * what it says it has not written; where a byte was altered that must not be, the answer has ALTERED behind it.
  */
 #include "gwizdorad.h"
 
@@ -14,6 +14,9 @@
 #include <string.h>
 
 enum { MARK = 0xA5, MARGIN = 64, CELL = 64 };
+
+/* A list of chunks has at most so many, each a number below it and a comma in the cell. */
+enum { MOST_CHUNKS = GWZ_MOST_VALUES / 1024, LIST_CELL = CELL + 5 * MOST_CHUNKS };
 
 struct stream {
     uint8_t *bytes;
@@ -73,11 +76,11 @@ static struct lent lend(size_t bytes)
     return lent;
 }
 
-/* Whether all bytes are as they were, but for those of the room where it was to be written. */
-static int is_unaltered(const struct lent *lent, int written)
+/* Whether all bytes are as they were, but for so many at the front of the room. */
+static int is_unaltered(const struct lent *lent, size_t written)
 {
     for (size_t i = 0; i < MARGIN + lent->bytes + MARGIN; i++)
-        if (lent->block[i] != MARK && (!written || i < MARGIN || i >= MARGIN + lent->bytes))
+        if (lent->block[i] != MARK && (i < MARGIN || i >= MARGIN + written || written > lent->bytes))
             return 0;
     return 1;
 }
@@ -100,10 +103,10 @@ static void tell_written(char *cell, uint64_t written, int digits)
     sprintf(cell + strlen(cell), ":%0*llX", digits, (unsigned long long)written);
 }
 
-/* Ends the cell of a call that had an output. */
-static void take_back(char *cell, uint64_t result, struct lent *lent)
+/* Ends the cell of a call that had an output, and writes so many bytes of it where it is not refused. */
+static void take_back(char *cell, uint64_t result, struct lent *lent, size_t written)
 {
-    if (!is_unaltered(lent, is_done(result)))
+    if (!is_unaltered(lent, is_done(result) ? written : 0))
         strcat(cell, ":ALTERED");
     free(lent->block);
 }
@@ -130,7 +133,7 @@ static void unpack_cell(char *cell, uint32_t width, uint32_t level, const struct
     tell(cell, result);
     if (is_done(result))
         tell_written(cell, checksum_of((uint8_t *)lent.room, lent.bytes), 8);
-    take_back(cell, result, &lent);
+    take_back(cell, result, &lent, lent.bytes);
 }
 
 static void probe_cell(char *cell, uint32_t level, const struct stream *stream, uint64_t index)
@@ -144,12 +147,46 @@ static void probe_cell(char *cell, uint32_t level, const struct stream *stream, 
     memcpy(&pattern, lent.room, lent.bytes);
     if (is_done(result))
         tell_written(cell, pattern, (int)stream->width / 4);
-    take_back(cell, result, &lent);
+    take_back(cell, result, &lent, lent.bytes);
 }
 
-static void print_line(const char *path, uint32_t level, const struct stream *stream)
+/* With the very room that the header's width and count of values ask for. A count above the limit is refused before. */
+static void add_cell(char *cell, uint32_t level, const struct stream *stream)
+{
+    size_t n = stream->count <= GWZ_MOST_VALUES ? stream->count : 0;
+    struct lent lent = lend(stream->length + GWZ_SUMMARY_BYTES(stream->width, n));
+    uint64_t result = gwz_add_summary(level, stream->bytes, stream->length, (uint8_t *)lent.room, lent.bytes);
+    size_t written = is_done(result) && gwz_answer(result) <= lent.bytes ? gwz_answer(result) : 0;
+    tell(cell, result);
+    if (is_done(result))
+        tell_written(cell, checksum_of((uint8_t *)lent.room, written), 8);
+    take_back(cell, result, &lent, written);
+}
+
+/* The chunk numbers of a list that was not refused, with commas between them. */
+static void list_cell(char *cell, uint32_t width, uint32_t level, const struct stream *stream, uint64_t x, size_t room)
+{
+    struct lent lent = lend(4 * room);
+    uint32_t *numbers = (uint32_t *)lent.room;
+    uint64_t result = width == 64 ? gwz_chunks_from64(level, x, stream->bytes, stream->length, numbers, room)
+                                  : gwz_chunks_from32(level, (uint32_t)x, stream->bytes, stream->length, numbers, room);
+    size_t count = is_done(result) && gwz_answer(result) <= room ? gwz_answer(result) : 0;
+    tell(cell, result);
+    for (size_t i = 0; i < count; i++)
+        sprintf(cell + strlen(cell), "%c%lu", i == 0 ? ':' : ',', (unsigned long)numbers[i] % 10000);
+    take_back(cell, result, &lent, 4 * count);
+}
+
+/* ---- The lines */
+
+static void print_name(const char *path, uint32_t level, int columns)
 {
     const char *slash = strrchr(path, '/'), *name = slash == NULL ? path : slash + 1;
+    printf("%-*.*s  %5lu", columns, (int)strcspn(name, "."), name, (unsigned long)level);
+}
+
+static void print_answers(uint32_t level, const struct stream *stream)
+{
     const uint64_t n = stream->count, indices[4] = {0, n / 2, n - 1, n}; /* n - 1 of no values is 2^64 - 1 */
     char cells[7][CELL];
 
@@ -158,21 +195,47 @@ static void print_line(const char *path, uint32_t level, const struct stream *st
     unpack_cell(cells[2], 64, level, stream);
     for (size_t i = 0; i < 4; i++)
         probe_cell(cells[3 + i], level, stream, indices[i]);
-    printf("%-40.*s  %5lu  %-12s  %-18s  %-18s  %-20s  %-20s  %-20s  %s\n", (int)strcspn(name, "."), name,
-           (unsigned long)level, cells[0], cells[1], cells[2], cells[3], cells[4], cells[5], cells[6]);
+    printf("  %-12s  %-18s  %-18s  %-20s  %-20s  %-20s  %s\n", cells[0], cells[1], cells[2], cells[3], cells[4], cells[5],
+           cells[6]);
+}
+
+static void print_summaries(uint32_t level, const struct stream *stream)
+{
+    int wide = stream->width == 64;
+    const uint64_t below_all = wide ? 0xFFF0000000000000 : 0xFF800000, above_all = wide ? 0x7FF0000000000000 : 0x7F800000;
+    const uint64_t water = wide ? 0x3FFA000000000000 : 0x3FD00000;
+    char test[CELL], add[CELL], no_room[CELL];
+    static char lists[5][LIST_CELL];
+
+    tell(test, gwz_test_summary(level, stream->bytes, stream->length));
+    add_cell(add, level, stream);
+    list_cell(no_room, stream->width, level, stream, below_all, 0);
+    list_cell(lists[0], 32, level, stream, 0, MOST_CHUNKS);
+    list_cell(lists[1], 64, level, stream, 0, MOST_CHUNKS);
+    list_cell(lists[2], stream->width, level, stream, below_all, MOST_CHUNKS);
+    list_cell(lists[3], stream->width, level, stream, water, MOST_CHUNKS);
+    list_cell(lists[4], stream->width, level, stream, above_all, MOST_CHUNKS);
+    printf("  %-12s  %-18s  %-12s  %-13s  %-13s  %-13s  %-13s  %s\n", test, add, no_room, lists[0], lists[1], lists[2], lists[3],
+           lists[4]);
+}
+
+static void print_line(const char *path, uint32_t level, const struct stream *stream, int summaries)
+{
+    print_name(path, level, summaries ? 52 : 40);
+    (summaries ? print_summaries : print_answers)(level, stream);
 }
 
 int main(int argc, char **argv)
 {
-    int first = 1;
+    int summaries = argc > 1 && strcmp(argv[1], "--summaries") == 0, from = summaries ? 2 : 1, first = from;
     while (first < argc && argv[first][strspn(argv[first], "0123456789")] == 0)
         first++;
     for (int word = first; word < argc; word++) {
         struct stream stream = stream_of(argv[word]);
-        for (int i = 1; i < first; i++)
-            print_line(argv[word], (uint32_t)strtoul(argv[i], NULL, 10), &stream);
-        for (uint32_t level = GWZ_LEVEL_8; first == 1 && level <= GWZ_HIGHEST_LEVEL; level++)
-            print_line(argv[word], level, &stream);
+        for (int i = from; i < first; i++)
+            print_line(argv[word], (uint32_t)strtoul(argv[i], NULL, 10), &stream, summaries);
+        for (uint32_t level = GWZ_LEVEL_8; first == from && level <= GWZ_HIGHEST_LEVEL; level++)
+            print_line(argv[word], level, &stream, summaries);
         free(stream.bytes);
     }
     return 0;

@@ -9,7 +9,8 @@ under names of their own, and calls tests/ages/keep.
 
 A name has the width and the setting, then what was packed and the level that wrote it, and last what was added or
 edited; or `bad` and how the stream was damaged, where 1-2 is group 2 of chunk 1. A damaged stream is made from that of
-the lowest level that writes the setting.
+the lowest level that writes the setting. A name that ends with `summary` is that of a stream with a true summary and
+nothing else beside its data; what follows that word says what was then edited.
 """
 
 import pathlib
@@ -106,6 +107,16 @@ def resting(width):
     return [stops[i // 70 % len(stops)] for i in range(LONG)]
 
 
+def edges(width):
+    """Five chunks for what a summary tells apart, of few bits: 0 beside one -0, -0 alone, numbers just below 0 beside minus
+    infinity, infinity and dry cells among zeros, and in the last, of five values, dry cells alone."""
+    _, infinity, sign = parts_of(width)
+    values = [0] * 1024 + [sign] * 1024 + [sign + 1 + i % 3 for i in range(1024)] + [0] * 1024 + [dry(width, i) for i in range(5)]
+    values[500], values[2048 + 700] = sign, sign + infinity
+    values[3072 + 100:3072 + 104] = [infinity] + [dry(width, i) for i in range(3)]
+    return values
+
+
 def widths(width, mode, k):
     """A group for each width byte that the setting can have."""
     largest = 2 * reader.largest_u(width, k) + 1 if mode == 1 else 2**width - 1
@@ -196,7 +207,7 @@ def written(library):
         for level in levels:
             for what, values in lists.items():
                 yield f"{name}-{what}-by-{level}", packed(library, width, mode, k, level, values)
-        for what, values in (("calm", calm(width)), ("widths", widths(width, mode, k))):
+        for what, values in (("calm", calm(width)), ("widths", widths(width, mode, k)), ("edges", edges(width))):
             yield f"{name}-{what}-by-{levels[0]}", packed(library, width, mode, k, levels[0], values)
     for width in (32, 64):
         yield f"{width}-differences-resting-by-11", packed(library, width, 2, 0, 11, resting(width))
@@ -269,6 +280,86 @@ def guarded(streams):
     yield f"{name}-high-ids-added-byte", data + bytes(1)
     yield f"{name}-high-ids-w-255", with_byte(data, number_at(data, START), 255)
     yield f"{name}-high-ids-need-9", needing(data, 9)
+
+
+# ---- summaries
+
+def summarised(library, streams):
+    """What each level adds to what it wrote: a summary of 33 values; and of the lowest level, of longer and shorter lists."""
+    names = []
+    for width, mode, k, levels in SETTINGS:
+        name = setting_name(width, mode, k)
+        names += [f"{name}-33-by-{level}" for level in levels]
+        names += [f"{name}-{what}-by-{levels[0]}" for what in ("empty", "one", "field", "calm", "edges")]
+    for name in names + ["32-differences-resting-by-11", "64-differences-resting-by-11"]:
+        data = streams[name]
+        number, detail, copy = library.add_summary(number_at(data, WRITTEN), data, len(data) + 2**12)
+        if number != 0:
+            sys.exit(f"keep.py: the summary of {name} was refused by {number}, detail {detail}")
+        yield f"{name}-summary", copy
+
+
+def summary_of(data):
+    """The bytes of the one side part, and the stream without it."""
+    end = number_at(data, END)
+    return data[end + 12:], with_number(data, SIDES, 0)[:end]
+
+
+def with_summary(data, part, part_id=1):
+    """A stream with one side part in the place of the one that is there."""
+    return with_sides(summary_of(data)[1], [(part_id, part)])
+
+
+def false_summaries(width, part):
+    """Of the list `edges`: each one a name and what stands in the place of its summary."""
+    size, value = 4 + width // 4, width // 8
+    zero, minus_zero = bytes(value), (1 << (width - 1)).to_bytes(value, "little")
+    nan = dry(width, 0).to_bytes(value, "little")
+    yield "zeros-exchanged", part[:4] + zero + minus_zero + part[size:]
+    yield "byte-off", with_byte(part, 3 * size + 4 + value, part[3 * size + 4 + value] ^ 1)
+    yield "short", part[:-1]
+    yield "long", part + bytes(1)
+    yield "count-off", with_byte(part, 3 * size, part[3 * size] ^ 1)
+    yield "smallest-off", with_byte(part, 2 * size + 4, part[2 * size + 4] ^ 1)
+    yield "smallest-0", part[:4] + zero + part[4 + value:]
+    yield "chunk-missing", part[:-size]
+    yield "chunk-added", part + part[-size:]
+    yield "chunks-exchanged", part[size:2 * size] + part[:size] + part[2 * size:]
+    yield "ends-exchanged", part[:2 * size + 4] + part[2 * size + 4 + value:3 * size] + part[2 * size + 4:2 * size + 4 + value] + part[3 * size:]
+    yield "last-nan", part[:-2 * value] + nan + nan
+    yield "empty", b""
+
+
+BESIDE = [(0, b"tide"), (9, b""), (HIGH - 1, b"gauge")]
+
+
+def beside(streams):
+    """Summaries that are false, that have another id, or that stand beside other side parts; and in streams that are damaged besides."""
+    for width, mode, k, levels in SETTINGS:
+        name = f"{setting_name(width, mode, k)}-edges-by-{levels[0]}-summary"
+        part, plain = summary_of(streams[name])
+        falses = list(false_summaries(width, part))
+        for what, false in falses if (width, mode) in ((32, 0), (64, 1)) else falses[:4]:
+            yield f"{name}-{what}", with_summary(streams[name], false)
+        yield f"{name}-id-2", with_summary(streams[name], part, 2)
+        yield f"{name}-beside", with_sides(plain, sorted(BESIDE + [(1, part)]))
+        yield f"{name}-short-beside", with_sides(plain, sorted(BESIDE + [(1, part[:-1])]))
+        yield f"{name}-high-id", needing(with_sides(plain, [(1, part), (HIGH, b"datum")]), 12)
+    name = "32-lossless-33-by-8-summary"
+    data = streams[name]
+    part, plain = summary_of(data)
+    start, _, w, codes = group_of(data, 0, 0)
+    yield f"{name}-id-0", with_summary(data, part, 0)
+    yield f"{name}-high-id-need-8", with_sides(plain, [(1, part), (HIGH, b"datum")])
+    yield f"{name}-w-255", with_byte(data, start, 255)
+    yield f"{name}-first-start-1", with_number(data, 48, 1)
+    yield f"{name}-cut-last-byte", data[:-1]
+    yield f"{name}-cut-off", data[:number_at(data, END)]
+    yield f"{name}-added-byte", data + bytes(1)
+    yield f"{name}-n-34", with_number(data, COUNT, 34)
+    # The value 0 is the largest, and the value 8 neither that nor the smallest.
+    yield f"{name}-largest-altered", with_group(data, 0, 0, w, [codes[1]] + codes[1:])
+    yield f"{name}-between-altered", with_group(data, 0, 0, w, codes[:8] + [codes[7]] + codes[9:])
 
 
 # Numbers of the header that are not those of the setting, or not those of 33 values.
@@ -404,7 +495,8 @@ def keep(path, data):
 def main():
     folder, streams, status = pathlib.Path(sys.argv[1]), {}, 0
     with Caller(sys.argv[2:]) as library:
-        for some in (written(library), edited(streams), later(streams), guarded(streams), damaged(streams)):
+        for some in (written(library), edited(streams), later(streams), guarded(streams), damaged(streams),
+                     summarised(library, streams), beside(streams)):
             for name, data in some:
                 streams[name] = data
                 status |= not keep(folder / f"{name}.gwz", data)

@@ -17,6 +17,8 @@
 
 #define COUNT(array) (sizeof(array) / sizeof((array)[0]))
 
+enum { LAST_REFUSAL = GWZ_NO_TRUE_SUMMARY };
+
 /* ---- Counting */
 
 struct tally {
@@ -49,7 +51,7 @@ static void expect_numbers(struct tally *tally, const struct number_case *cases,
                  (unsigned long)gwz_refusal(got), (unsigned long)gwz_detail(got),
                  (unsigned long)gwz_refusal(wanted), (unsigned long)gwz_detail(wanted));
         record(tally, cases[i].what, got == wanted ? NULL : fault);
-        if (gwz_refusal(got) >= 1 && gwz_refusal(got) <= 15)
+        if (gwz_refusal(got) >= 1 && gwz_refusal(got) <= LAST_REFUSAL)
             tally->refusals_given |= 1u << gwz_refusal(got);
     }
 }
@@ -116,12 +118,14 @@ static int part_holds(const struct part *part, const void *front, size_t front_b
 
 enum operation {
     PACK32, PACK64, LENGTH32, LENGTH64, CHECK, UNPACK32, UNPACK64, PROBE32, PROBE64,
+    ADD_SUMMARY, TEST_SUMMARY, CHUNKS_FROM32, CHUNKS_FROM64,
     TOLERANCE_CODE32, TOLERANCE_CODE64, TOLERANCE_RESTORED32, TOLERANCE_RESTORED64
 };
 
 /* The bytes of an element that each operation reads and writes; 1 where it has no such part. */
 static const struct { size_t in, out; } element_sizes[] = {
-    {4, 1}, {8, 1}, {4, 1}, {8, 1}, {1, 1}, {1, 4}, {1, 8}, {1, 4}, {1, 8}, {4, 4}, {8, 8}, {4, 4}, {8, 8}
+    {4, 1}, {8, 1}, {4, 1}, {8, 1}, {1, 1}, {1, 4}, {1, 8}, {1, 4}, {1, 8}, {1, 1}, {1, 1}, {1, 4}, {1, 4},
+    {4, 4}, {8, 8}, {4, 4}, {8, 8}
 };
 
 struct call {
@@ -130,7 +134,7 @@ struct call {
     int32_t k;
     const void *in; /* values, the bytes of a stream, or the one pattern or code of a number rule */
     size_t count;
-    uint64_t index;
+    uint64_t index; /* of a list of chunks: x */
     size_t room;
 };
 
@@ -150,6 +154,11 @@ static uint64_t answer_of(const struct call *c, const void *in, void *out)
     case UNPACK64: return gwz_unpack64(c->level, bytes, c->count, (uint64_t *)out, c->room);
     case PROBE32: return gwz_probe32(c->level, bytes, c->count, c->index, (uint32_t *)out);
     case PROBE64: return gwz_probe64(c->level, bytes, c->count, c->index, (uint64_t *)out);
+    case ADD_SUMMARY: return gwz_add_summary(c->level, bytes, c->count, (uint8_t *)out, c->room);
+    case TEST_SUMMARY: return gwz_test_summary(c->level, bytes, c->count);
+    case CHUNKS_FROM32:
+        return gwz_chunks_from32(c->level, (uint32_t)c->index, bytes, c->count, (uint32_t *)out, c->room);
+    case CHUNKS_FROM64: return gwz_chunks_from64(c->level, c->index, bytes, c->count, (uint32_t *)out, c->room);
     case TOLERANCE_CODE32: return gwz_tolerance_code32(c->k, words[0], (uint32_t *)out);
     case TOLERANCE_CODE64: return gwz_tolerance_code64(c->k, longs[0], (uint64_t *)out);
     case TOLERANCE_RESTORED32: return gwz_tolerance_restored32(c->k, words[0], (uint32_t *)out);
@@ -193,6 +202,13 @@ static struct call reading(enum operation operation, uint32_t level, const uint8
 static struct call probing(enum operation operation, uint32_t level, const uint8_t *bytes, size_t len, uint64_t index)
 {
     struct call call = {operation, level, 0, 0, bytes, len, index, 1};
+    return call;
+}
+
+static struct call listing(enum operation operation, uint32_t level, uint64_t x, const uint8_t *bytes, size_t len,
+                           size_t room)
+{
+    struct call call = {operation, level, 0, 0, bytes, len, x, room};
     return call;
 }
 
@@ -274,10 +290,14 @@ static void test_helpers(struct tally *tally)
         {"longest stream of 1025 values of 32 bits", GWZ_LONGEST_STREAM(32, 1025), 48 + 8 + 33 + 4100},
         {"longest stream of 1 value of 64 bits", GWZ_LONGEST_STREAM(64, 1), 48 + 4 + 1 + 8},
         {"longest stream of all", GWZ_LONGEST_STREAM(64, GWZ_MOST_VALUES), 8425520},
+        {"summary of no values", GWZ_SUMMARY_BYTES(32, 0), 12},
+        {"summary of 1024 values of 32 bits", GWZ_SUMMARY_BYTES(32, 1024), 12 + 12},
+        {"summary of 1025 values of 64 bits", gwz_summary_bytes(64, 1025), 12 + 2 * 20},
+        {"summary of all", GWZ_SUMMARY_BYTES(64, GWZ_MOST_VALUES), 12 + 1024 * 20},
     };
     expect_numbers(tally, cases, COUNT(cases));
-    for (uint32_t number = 0; number <= 15; number++) {
-        const char *unknown = gwz_refusal_text(16), *next = gwz_refusal_text(number + 1);
+    for (uint32_t number = 0; number <= LAST_REFUSAL; number++) {
+        const char *unknown = gwz_refusal_text(LAST_REFUSAL + 1), *next = gwz_refusal_text(number + 1);
         int own = strcmp(gwz_refusal_text(number), unknown) != 0 && strcmp(gwz_refusal_text(number), next) != 0;
         record(tally, "a text of its own for each refusal", own ? NULL : gwz_refusal_text(number));
     }
@@ -878,6 +898,353 @@ static void test_reading_order(struct tally *tally)
     expect_call(tally, "1 before 5", probing(PROBE64, 7, bad, 47, 0), refused(1, 0), NULL, 0);
 }
 
+/* ---- Summaries */
+
+/* What a summary says of one chunk. */
+struct entry {
+    uint32_t nans;
+    uint64_t smallest, largest;
+};
+
+static size_t put_entries(uint8_t *at, uint32_t width, const struct entry *entries, size_t count)
+{
+    size_t value = width / 8, size = 4 + 2 * value;
+    for (size_t i = 0; i < count; i++) {
+        put_number(at + i * size, entries[i].nans);
+        for (size_t byte = 0; byte < value; byte++) {
+            at[i * size + 4 + byte] = (uint8_t)(entries[i].smallest >> 8 * byte & 0xFF);
+            at[i * size + 4 + value + byte] = (uint8_t)(entries[i].largest >> 8 * byte & 0xFF);
+        }
+    }
+    return count * size;
+}
+
+/* The stream with a summary beside its data, for the caller to free. */
+static uint8_t *copy_with(const uint8_t *stream, size_t len, uint32_t width, const struct entry *entries, size_t count,
+                          size_t *copy_len)
+{
+    uint8_t *copy = (uint8_t *)allocated(len + 12 + count * (4 + width / 4));
+    memcpy(copy, stream, len);
+    put_number(copy + 40, 1);
+    put_number(copy + len, GWZ_SUMMARY_ID);
+    put_number(copy + len + 4, (uint32_t)len + 12);
+    size_t bytes = put_entries(copy + len + 12, width, entries, count);
+    put_number(copy + len + 8, (uint32_t)bytes);
+    *copy_len = len + 12 + bytes;
+    return copy;
+}
+
+/* Added, tested, and read as the stream without it by every reader at every level, known or not. */
+static void expect_summary(struct tally *tally, const char *what, const uint8_t *stream, size_t len, const uint8_t *copy,
+                           size_t copy_len)
+{
+    uint32_t n = gwz_answer(gwz_check(GWZ_HIGHEST_LEVEL, stream, len)), room = (uint32_t)copy_len;
+    uint64_t *values = (uint64_t *)allocated(8 * (size_t)n), pattern;
+    for (uint32_t level = 7; level <= GWZ_HIGHEST_LEVEL + 1; level++) {
+        uint64_t checked = gwz_check(level, stream, len);
+        int accepted = gwz_refusal(checked) == GWZ_DONE;
+        expect_call(tally, what, reading(ADD_SUMMARY, level, stream, len, copy_len), accepted ? done(room) : checked, copy,
+                    accepted ? copy_len : 0);
+        expect_call(tally, what, reading(TEST_SUMMARY, level, copy, copy_len, 0), checked, NULL, 0);
+        expect_call(tally, what, reading(CHECK, level, copy, copy_len, 0), checked, NULL, 0);
+        for (int wide = 0; wide <= 1; wide++) {
+            enum operation unpack = wide ? UNPACK64 : UNPACK32, probe = wide ? PROBE64 : PROBE32;
+            uint64_t got = wide ? gwz_unpack64(level, stream, len, values, n)
+                                : gwz_unpack32(level, stream, len, (uint32_t *)values, n);
+            expect_call(tally, what, reading(unpack, level, copy, copy_len, n), got, values,
+                        gwz_refusal(got) == GWZ_DONE ? n : 0);
+            got = wide ? gwz_probe64(level, stream, len, n / 2, &pattern)
+                       : gwz_probe32(level, stream, len, n / 2, (uint32_t *)&pattern);
+            expect_call(tally, what, probing(probe, level, copy, copy_len, n / 2), got, &pattern,
+                        gwz_refusal(got) == GWZ_DONE ? 1 : 0);
+        }
+    }
+    expect_call(tally, what, reading(ADD_SUMMARY, GWZ_HIGHEST_LEVEL, stream, len, copy_len + 99), done(room), copy, copy_len);
+    expect_call(tally, what, reading(ADD_SUMMARY, GWZ_HIGHEST_LEVEL, stream, len, copy_len - 1), refused(4, room), NULL, 0);
+    expect_call(tally, what, reading(ADD_SUMMARY, GWZ_HIGHEST_LEVEL, stream, len, 0), refused(4, room), NULL, 0);
+    expect_call(tally, what, reading(ADD_SUMMARY, GWZ_HIGHEST_LEVEL, copy, copy_len, 2 * copy_len), refused(16, 0), NULL, 0);
+    expect_call(tally, what, reading(TEST_SUMMARY, GWZ_HIGHEST_LEVEL, stream, len, 0), refused(17, 0), NULL, 0);
+    free(values);
+}
+
+/* The chunks from x on; a room that is one too short is refused. */
+static void expect_list(struct tally *tally, const char *what, enum operation list, uint64_t x, const uint8_t *copy,
+                        size_t copy_len, const uint32_t *chunks, uint32_t count)
+{
+    expect_call(tally, what, listing(list, GWZ_HIGHEST_LEVEL, x, copy, copy_len, count), done(count), chunks, count);
+    expect_call(tally, what, listing(list, GWZ_HIGHEST_LEVEL, x, copy, copy_len, count + 9), done(count), chunks, count);
+    if (count > 0)
+        expect_call(tally, what, listing(list, GWZ_HIGHEST_LEVEL, x, copy, copy_len, count - 1), refused(4, count), NULL, 0);
+}
+
+/* The example with its summary: no not-a-number, -0, which stands below 0, and 2^-149. Its last 24 bytes by hand. */
+static const uint8_t example_summary[79] = {
+    1, 0, 0, 0, 8, 0, 0, 0, 8, 0, 0, 0, 32, 0, 0, 0, 0, 0, 0, 0, 0, 0, 0, 0, 3, 0, 0, 0, 1, 0, 0, 0,
+    48, 0, 0, 0, 52, 0, 0, 0, 1, 0, 0, 0, 55, 0, 0, 0, 0, 0, 0, 0, 0x03, 0x10, 0x01,
+    1, 0, 0, 0, 67, 0, 0, 0, 12, 0, 0, 0, 0, 0, 0, 0, 0, 0, 0, 0x80, 1, 0, 0, 0
+};
+
+static void test_example_summary(struct tally *tally)
+{
+    static const struct { const char *what; uint32_t x, count; } from[] = {
+        {"-infinity", 0xFF800000, 1}, {"-2^-149", 0x80000001, 1}, {"-0", 0x80000000, 1}, {"0", 0, 1}, {"2^-149", 1, 1},
+        {"2^-148", 2, 0}, {"infinity", 0x7F800000, 0},
+    };
+    static const uint32_t nans[] = {0x7F800001, 0x7FC00000, 0xFF800001, 0xFFFFFFFF};
+    const uint32_t first = 0;
+    uint8_t altered[79];
+    expect_summary(tally, "the example", example, sizeof example, example_summary, sizeof example_summary);
+    for (size_t i = 0; i < COUNT(from); i++)
+        expect_list(tally, from[i].what, CHUNKS_FROM32, from[i].x, example_summary, sizeof altered, &first, from[i].count);
+    for (size_t i = 0; i < COUNT(nans); i++)
+        expect_call(tally, "a not-a-number", listing(CHUNKS_FROM32, 8, nans[i], example_summary, 79, 1), refused(2, 0), NULL,
+                    0);
+    for (size_t room = 0; room < 79; room++)
+        expect_call(tally, "too short", reading(ADD_SUMMARY, 8, example, 55, room), refused(4, 79), NULL, 0);
+    for (size_t len = 0; len < 79; len++) {
+        uint64_t cut = refused(len < 48 ? 5 : len < 55 ? 8 : 9, 0);
+        expect_call(tally, "cut", reading(TEST_SUMMARY, 8, example_summary, len, 0), cut, NULL, 0);
+        expect_call(tally, "cut", listing(CHUNKS_FROM32, 8, 0, example_summary, len, 1), cut, NULL, 0);
+        expect_call(tally, "cut", reading(ADD_SUMMARY, 8, example_summary, len, 99), cut, NULL, 0);
+    }
+    for (size_t bit = 0; bit < 8 * 12; bit++) {
+        memcpy(altered, example_summary, sizeof altered);
+        altered[67 + bit / 8] ^= (uint8_t)(1u << bit % 8);
+        expect_call(tally, "a bit off", reading(CHECK, 8, altered, 79, 0), done(3), NULL, 0);
+        expect_call(tally, "a bit off", reading(UNPACK32, 8, altered, 79, 3), done(3), example_values, 3);
+        expect_call(tally, "a bit off", reading(TEST_SUMMARY, 8, altered, 79, 0), refused(17, 0), NULL, 0);
+        expect_call(tally, "a bit off", listing(CHUNKS_FROM32, 8, 0, altered, 79, 1), refused(17, 0), NULL, 0);
+    }
+}
+
+/* The other summaries that docs/FORMAT.md prints: of what comes back within a tolerance, of width 64, of one value; of none. */
+static void test_printed_summaries(struct tally *tally)
+{
+    static const struct entry within = {0, 0xBF800000, 0x3F800000}, wide = {1, 0x3FF0000000000000, 0x3FF0000000000000};
+    static const uint32_t values32[] = {0x3E800000, 0xBF400000, 0xBDCCCCCD, 0x3F800000};
+    static const uint64_t values64[] = {0x3FF0000000000000, 0x7FF8000000000000};
+    static const uint32_t narrow[] = {0x80000000, 0x7FC00000};
+    static const struct entry alone[] = {{0, 0x80000000, 0x80000000}, {1, 0, 0}};
+    const uint32_t first = 0;
+    uint8_t stream[GWZ_LONGEST_STREAM(64, 4)];
+    size_t copy_len, len = gwz_answer(gwz_pack32(10, GWZ_WITHIN_TOLERANCE, -2, values32, 4, stream, sizeof stream));
+    uint8_t *copy = copy_with(stream, len, 32, &within, 1, &copy_len);
+    expect_summary(tally, "within a tolerance", stream, len, copy, copy_len);
+    expect_list(tally, "within a tolerance, from 1", CHUNKS_FROM32, 0x3F800000, copy, copy_len, &first, 1);
+    free(copy);
+
+    len = gwz_answer(gwz_pack64(10, GWZ_WITHIN_TOLERANCE, -2, values64, 2, stream, sizeof stream));
+    copy = copy_with(stream, len, 64, &wide, 1, &copy_len);
+    expect_summary(tally, "width 64", stream, len, copy, copy_len);
+    expect_list(tally, "width 64, from 1", CHUNKS_FROM64, 0x3FF0000000000000, copy, copy_len, &first, 1);
+    expect_list(tally, "width 64, from above 1", CHUNKS_FROM64, 0x3FF0000000000001, copy, copy_len, &first, 0);
+    expect_call(tally, "width 64, from a not-a-number", listing(CHUNKS_FROM64, 10, 0x7FF0000000000001, copy, copy_len, 1),
+                refused(2, 0), NULL, 0);
+    free(copy);
+
+    for (uint32_t i = 0; i < 2; i++) {
+        len = gwz_answer(gwz_pack32(8, GWZ_LOSSLESS, 0, &narrow[i], 1, stream, sizeof stream));
+        copy = copy_with(stream, len, 32, &alone[i], 1, &copy_len);
+        expect_summary(tally, "one value", stream, len, copy, copy_len);
+        expect_list(tally, "-0 is at least 0, a not-a-number is not", CHUNKS_FROM32, 0, copy, copy_len, &first, 1 - i);
+        free(copy);
+    }
+    for (uint32_t width = 32; width <= 64; width += 32) {
+        const struct setting empty = {10, width, 0, 0};
+        put_header(stream, empty, 0, 0);
+        copy = copy_with(stream, 48, width, NULL, 0, &copy_len);
+        expect_summary(tally, "no values", stream, 48, copy, copy_len);
+        expect_list(tally, "no values", width == 32 ? CHUNKS_FROM32 : CHUNKS_FROM64, 0, copy, copy_len, NULL, 0);
+        free(copy);
+    }
+}
+
+/*
+ * Six chunks: 0 and one -0; -0; not-a-numbers; -1, one -infinity and a not-a-number; 1, one -1 and an infinity; and five
+ * values, of which one is -0 and the others are not-a-numbers. Every mode gives them back as they are.
+ */
+enum { SUMMED = 5 * 1024 + 5 };
+
+static uint64_t summed_value(size_t i)
+{
+    const uint64_t sign = 0x8000000000000000, one = 0x3FF0000000000000, infinity = 0x7FF0000000000000;
+    const uint64_t nan = infinity + ((uint64_t)1 << 40) + (i % 2 == 0 ? sign : 0);
+    switch (i / 1024) {
+    case 0: return i == 500 ? sign : 0;
+    case 1: return sign;
+    case 2: return nan;
+    case 3: return i % 1024 == 3 ? sign + infinity : i % 1024 == 4 ? nan : sign + one;
+    case 4: return i % 1024 == 1023 ? infinity : i % 1024 == 0 ? sign + one : one;
+    default: return i % 1024 == 1 ? sign : nan;
+    }
+}
+
+/* A pattern of 64 bits whose fraction has zeros at its end, in 32 bits. */
+static uint32_t narrowed(uint64_t pattern)
+{
+    uint32_t sign = (uint32_t)(pattern >> 63) << 31, fraction = (uint32_t)(pattern >> 29) & 0x7FFFFF;
+    uint32_t exponent = (uint32_t)(pattern >> 52) & 0x7FF;
+    return sign + (exponent == 0x7FF ? 0x7F800000u : exponent == 0 ? 0 : (exponent - 896) << 23) + fraction;
+}
+
+/* Each number of each entry, one off: the summary is false, and the stream as good as it was. */
+static void expect_false(struct tally *tally, enum operation list, size_t value, uint8_t *copy, size_t copy_len, size_t chunks)
+{
+    size_t size = 4 + 2 * value, first = copy_len - chunks * size;
+    for (size_t i = 0; i < 3 * chunks; i++) {
+        uint8_t *number = copy + first + i / 3 * size + (i % 3 == 0 ? 0 : i % 3 == 1 ? 4 : 4 + value);
+        *number ^= 1;
+        expect_call(tally, "one off", reading(CHECK, 11, copy, copy_len, 0), done(SUMMED), NULL, 0);
+        expect_call(tally, "one off", reading(TEST_SUMMARY, 11, copy, copy_len, 0), refused(17, 0), NULL, 0);
+        expect_call(tally, "one off", listing(list, 11, 0, copy, copy_len, chunks), refused(17, 0), NULL, 0);
+        *number ^= 1;
+    }
+}
+
+static void test_six_chunks(struct tally *tally)
+{
+    static const struct entry wide_entries[] = {
+        {0, 0x8000000000000000, 0}, {0, 0x8000000000000000, 0x8000000000000000}, {1024, 0, 0},
+        {1, 0xFFF0000000000000, 0xBFF0000000000000}, {0, 0xBFF0000000000000, 0x7FF0000000000000},
+        {4, 0x8000000000000000, 0x8000000000000000}
+    };
+    static const struct { const char *what; uint32_t narrow; uint64_t wide; uint32_t count, chunks[6]; } from[] = {
+        {"-infinity", 0xFF800000, 0xFFF0000000000000, 5, {0, 1, 3, 4, 5}},
+        {"-1", 0xBF800000, 0xBFF0000000000000, 5, {0, 1, 3, 4, 5}},
+        {"above -1", 0xBF7FFFFF, 0xBFEFFFFFFFFFFFFF, 4, {0, 1, 4, 5}},
+        {"-0", 0x80000000, 0x8000000000000000, 4, {0, 1, 4, 5}},
+        {"0", 0, 0, 4, {0, 1, 4, 5}},
+        {"the smallest above 0", 1, 1, 1, {4}},
+        {"infinity", 0x7F800000, 0x7FF0000000000000, 1, {4}},
+    };
+    static uint32_t narrow[SUMMED];
+    static uint64_t wide[SUMMED];
+    static uint8_t stream[GWZ_LONGEST_STREAM(64, SUMMED)];
+    struct entry entries[6];
+    for (size_t i = 0; i < SUMMED; i++) {
+        wide[i] = summed_value(i);
+        narrow[i] = narrowed(wide[i]);
+    }
+    for (size_t i = 0; i < 6; i++) {
+        entries[i].nans = wide_entries[i].nans;
+        entries[i].smallest = narrowed(wide_entries[i].smallest);
+        entries[i].largest = narrowed(wide_entries[i].largest);
+    }
+    for (uint32_t mode = 0; mode <= 2; mode++) {
+        int32_t k = mode == 1 ? -8 : 0;
+        size_t copy_len, len = gwz_answer(gwz_pack32(11, mode, k, narrow, SUMMED, stream, sizeof stream));
+        uint8_t *copy = copy_with(stream, len, 32, entries, 6, &copy_len);
+        expect_summary(tally, "six chunks of 32 bits", stream, len, copy, copy_len);
+        for (size_t i = 0; i < COUNT(from); i++)
+            expect_list(tally, from[i].what, CHUNKS_FROM32, from[i].narrow, copy, copy_len, from[i].chunks, from[i].count);
+        expect_false(tally, CHUNKS_FROM32, 4, copy, copy_len, 6);
+        free(copy);
+        len = gwz_answer(gwz_pack64(11, mode, k, wide, SUMMED, stream, sizeof stream));
+        copy = copy_with(stream, len, 64, wide_entries, 6, &copy_len);
+        expect_summary(tally, "six chunks of 64 bits", stream, len, copy, copy_len);
+        for (size_t i = 0; i < COUNT(from); i++)
+            expect_list(tally, from[i].what, CHUNKS_FROM64, from[i].wide, copy, copy_len, from[i].chunks, from[i].count);
+        expect_false(tally, CHUNKS_FROM64, 8, copy, copy_len, 6);
+        free(copy);
+    }
+}
+
+/* The example with up to three side parts; the summary is the one with the id 1, and its bytes are given. */
+static size_t put_parts(uint8_t *stream, const uint32_t *ids, size_t count, const uint8_t *part, size_t part_bytes)
+{
+    size_t place = 55 + 12 * count;
+    memcpy(stream, example, sizeof example);
+    put_number(stream + 40, (uint32_t)count);
+    for (size_t i = 0; i < count; i++) {
+        size_t bytes = ids[i] == GWZ_SUMMARY_ID ? part_bytes : i;
+        put_number(stream + 55 + 12 * i, ids[i]);
+        put_number(stream + 59 + 12 * i, (uint32_t)place);
+        put_number(stream + 63 + 12 * i, (uint32_t)bytes);
+        memset(stream + place, 0xEE, bytes);
+        if (ids[i] == GWZ_SUMMARY_ID)
+            memcpy(stream + place, part, bytes);
+        place += bytes;
+    }
+    return place;
+}
+
+/* True beside other side parts; false with another length, with the zeros exchanged, and where it has another id. */
+static void test_beside_others(struct tally *tally)
+{
+    static const struct { uint32_t ids[3]; size_t count; int there; } parts[] = {
+        {{1}, 1, 1}, {{0, 1}, 2, 1}, {{1, 9}, 2, 1}, {{0, 1, 0x7FFFFFFF}, 3, 1}, {{0}, 1, 0}, {{2}, 1, 0},
+        {{0, 2, 0x7FFFFFFF}, 3, 0}
+    };
+    static const uint8_t exchanged[12] = {0, 0, 0, 0, 1, 0, 0, 0, 0, 0, 0, 0x80};
+    static const uint8_t longer[24] = {0, 0, 0, 0, 0, 0, 0, 0x80, 1, 0, 0, 0};
+    const uint32_t first = 0;
+    uint8_t stream[55 + 36 + 24 + 6];
+    for (size_t i = 0; i < COUNT(parts); i++)
+        for (size_t bytes = 0; bytes <= 24; bytes++) {
+            int is_true = parts[i].there && bytes == 12;
+            size_t len = put_parts(stream, parts[i].ids, parts[i].count, longer, bytes);
+            expect_call(tally, "beside others", reading(CHECK, 8, stream, len, 0), done(3), NULL, 0);
+            expect_call(tally, "beside others", reading(ADD_SUMMARY, 8, stream, len, 999), refused(16, 0), NULL, 0);
+            expect_call(tally, "beside others", reading(TEST_SUMMARY, 8, stream, len, 0), is_true ? done(3) : refused(17, 0),
+                        NULL, 0);
+            expect_call(tally, "beside others", listing(CHUNKS_FROM32, 8, 0, stream, len, 1),
+                        is_true ? done(1) : refused(17, 0), &first, is_true ? 1 : 0);
+        }
+    size_t len = put_parts(stream, &parts[0].ids[0], 1, exchanged, 12);
+    expect_call(tally, "smallest and largest exchanged", reading(TEST_SUMMARY, 8, stream, len, 0), refused(17, 0), NULL, 0);
+}
+
+/* All four at once, into no room. */
+static void expect_refused(struct tally *tally, const char *what, struct call c, uint64_t added, uint64_t tested,
+                           uint64_t listed32, uint64_t listed64)
+{
+    const uint8_t *bytes = (const uint8_t *)c.in;
+    expect_call(tally, what, reading(ADD_SUMMARY, c.level, bytes, c.count, 0), added, NULL, 0);
+    expect_call(tally, what, reading(TEST_SUMMARY, c.level, bytes, c.count, 0), tested, NULL, 0);
+    expect_call(tally, what, listing(CHUNKS_FROM32, c.level, c.index >> 32, bytes, c.count, 0), listed32, NULL, 0);
+    expect_call(tally, what, listing(CHUNKS_FROM64, c.level, c.index, bytes, c.count, 0), listed64, NULL, 0);
+}
+
+/*
+ * Where several refusals apply, the first: of 1 5 6 7 8 9 8 15 10 16 4 (add), 1 5 6 7 8 9 8 15 10 17 (test) and
+ * 1 2 5 6 7 8 14 9 8 15 10 17 4 (list). Each step adds one that comes before all that are there.
+ */
+static void test_order_of_summaries(struct tally *tally)
+{
+    const uint32_t high = GWZ_FIRST_HIGH_ID;
+    const uint64_t other_width = refused(14, 0);
+    uint8_t stream[WITH_IDS];
+    struct call call = reading(CHECK, 12, example, 55, 0);
+    expect_refused(tally, "no room", call, refused(4, 79), refused(17, 0), refused(17, 0), other_width);
+    call = reading(CHECK, 12, example_summary, 79, 0);
+    expect_refused(tally, "side parts", call, refused(16, 0), done(3), refused(4, 1), other_width);
+    put_ids(stream, 8, 7, 8, 9);
+    call = reading(CHECK, 12, stream, WITH_IDS, 0);
+    expect_refused(tally, "16 before 4, 17 before 4", call, refused(16, 0), refused(17, 0), refused(17, 0), other_width);
+    stream[52] = 33;
+    expect_refused(tally, "10", call, refused(10, 0), refused(10, 0), refused(10, 0), other_width);
+    put_ids(stream, 12, 7, high + 2, high + 3);
+    stream[52] = 33;
+    expect_refused(tally, "15 before 10", call, refused(15, high + 2), refused(15, high + 2), refused(15, high + 2),
+                   other_width);
+    put_number(stream + 8, 9);
+    expect_refused(tally, "the late 8 before 15", call, refused(8, 0), refused(8, 0), refused(8, 0), other_width);
+    put_number(stream + 48, 1);
+    expect_refused(tally, "9 before the late 8, 14 before 9", call, refused(9, 0), refused(9, 0), refused(9, 0), other_width);
+    put_number(stream + 32, 0);
+    expect_refused(tally, "8 before 9 and 14", call, refused(8, 0), refused(8, 0), refused(8, 0), refused(8, 0));
+    put_number(stream + 8, 13);
+    expect_refused(tally, "7 before 8", call, refused(7, 13), refused(7, 13), refused(7, 13), refused(7, 13));
+    put_number(stream, 2);
+    expect_refused(tally, "6 before 7", call, refused(6, 0), refused(6, 0), refused(6, 0), refused(6, 0));
+    call.count = 47;
+    expect_refused(tally, "5 before 6", call, refused(5, 0), refused(5, 0), refused(5, 0), refused(5, 0));
+    call.index = 0x7FF800017FF80001; /* a not-a-number at either width */
+    expect_refused(tally, "2 before 5", call, refused(5, 0), refused(5, 0), refused(2, 0), refused(2, 0));
+    call.level = 13;
+    expect_refused(tally, "1 before all", call, refused(1, 0), refused(1, 0), refused(1, 0), refused(1, 0));
+}
+
 /* ---- Lengths up to the limit: all values 0, or all with the largest code */
 
 struct uniform {
@@ -912,6 +1279,32 @@ static struct uniform uniform_of(uint32_t width, uint32_t n, int full)
     return u;
 }
 
+/* A summary in which each chunk has the one value as its smallest and largest. */
+static void expect_uniform_summary(struct tally *tally, uint32_t width, uint32_t n, int full, const struct uniform *u)
+{
+    enum operation list = width == 32 ? CHUNKS_FROM32 : CHUNKS_FROM64;
+    uint64_t value = !full ? 0 : width == 32 ? 0x00800000 : 0x0010000000000000;
+    uint32_t count = (n + 1023) / 1024, *chunks = (uint32_t *)allocated(4 * (size_t)count);
+    struct entry *entries = (struct entry *)allocated(count * sizeof *entries);
+    size_t copy_len, added = GWZ_SUMMARY_BYTES(width, n);
+    for (uint32_t i = 0; i < count; i++) {
+        entries[i].nans = 0;
+        entries[i].smallest = entries[i].largest = value;
+        chunks[i] = i;
+    }
+    uint8_t *copy = copy_with(u->stream, u->length, width, entries, count, &copy_len);
+    record(tally, "the bytes that a summary adds", copy_len == u->length + added ? NULL : "another number");
+    expect_call(tally, "summed up", reading(ADD_SUMMARY, 10, u->stream, u->length, copy_len), done(copy_len), copy, copy_len);
+    expect_call(tally, "a byte short", reading(ADD_SUMMARY, 10, u->stream, u->length, copy_len - 1),
+                refused(4, (uint32_t)copy_len), NULL, 0);
+    expect_call(tally, "tested", reading(TEST_SUMMARY, 10, copy, copy_len, 0), done(n), NULL, 0);
+    expect_list(tally, "all chunks", list, value, copy, copy_len, chunks, count);
+    expect_list(tally, "no chunks", list, value + 1, copy, copy_len, chunks, 0);
+    free(copy);
+    free(entries);
+    free(chunks);
+}
+
 static void expect_uniform(struct tally *tally, uint32_t width, uint32_t n, int full)
 {
     enum operation pack = width == 32 ? PACK32 : PACK64, length = width == 32 ? LENGTH32 : LENGTH64;
@@ -933,6 +1326,7 @@ static void expect_uniform(struct tally *tally, uint32_t width, uint32_t n, int 
                     u.values, 1);
     }
     expect_call(tally, "none behind the last", probing(probe, 10, u.stream, u.length, n), refused(11, 0), NULL, 0);
+    expect_uniform_summary(tally, width, n, full, &u);
     free(u.values);
     free(u.stream);
 }
@@ -1075,6 +1469,13 @@ static void test_no_elements(struct tally *tally)
         {"unpack32 into no room", gwz_unpack32(10, example, 55, NULL, 0), refused(4, 3)},
         {"probe32 of no bytes", gwz_probe32(10, NULL, 0, 0, &word), refused(5, 0)},
         {"probe64 of no bytes", gwz_probe64(10, NULL, 0, 0, &number), refused(5, 0)},
+        {"a summary of no bytes", gwz_add_summary(10, NULL, 0, NULL, 0), refused(5, 0)},
+        {"a summary into no room", gwz_add_summary(10, empty32, 48, NULL, 0), refused(4, 60)},
+        {"no bytes tested", gwz_test_summary(10, NULL, 0), refused(5, 0)},
+        {"no bytes listed, width 32", gwz_chunks_from32(10, 0, NULL, 0, NULL, 0), refused(5, 0)},
+        {"no bytes listed, width 64", gwz_chunks_from64(10, 0, NULL, 0, NULL, 0), refused(5, 0)},
+        {"no chunks into no room", gwz_chunks_from32(10, 2, example_summary, 79, NULL, 0), done(0)},
+        {"a chunk into no room", gwz_chunks_from32(10, 1, example_summary, 79, NULL, 0), refused(4, 1)},
     };
     expect_numbers(tally, cases, COUNT(cases));
     record(tally, "pack32's stream of no values", memcmp(packed32, empty32, 48) == 0 ? NULL : "other bytes");
@@ -1084,8 +1485,8 @@ static void test_no_elements(struct tally *tally)
 
 static void test_each_refusal(struct tally *tally)
 {
-    for (uint32_t number = 1; number <= 15; number++)
-        record(tally, "each refusal 1 to 15 was given by some call above",
+    for (uint32_t number = 1; number <= LAST_REFUSAL; number++)
+        record(tally, "each refusal 1 to 17 was given by some call above",
                tally->refusals_given >> number & 1 ? NULL : gwz_refusal_text(number));
 }
 
@@ -1114,6 +1515,11 @@ int main(void)
         {"side parts that must be understood", test_must_be_understood},
         {"order of the late 8 and of 15", test_order_of_ids},
         {"order of refusals when reading", test_reading_order},
+        {"the summary of the example", test_example_summary},
+        {"summaries as they are printed", test_printed_summaries},
+        {"a summary of six chunks", test_six_chunks},
+        {"summaries beside other parts", test_beside_others},
+        {"order of refusals of summaries", test_order_of_summaries},
         {"lengths", test_lengths},
         {"the limit of 1,048,576 values", test_limit},
         {"mixed patterns of 32 bits", test_mixed32},

@@ -11,7 +11,7 @@
  *     4          mode
  *     4          k, in two's complement
  *     4          width, of `bound` alone: the others have it in their names
- *     8          number: the index, the tolerance, the pattern or the code
+ *     8          number: the index, the tolerance, the pattern (of `chunks_from` x) or the code
  *     8          count: elements of the input, values or bytes
  *     8          before: elements of the buffer that lie before the room
  *     8          room: elements of the buffer that are lent
@@ -22,6 +22,7 @@
  *
  *     pack32 32 8     length32 32 -    unpack32 8 32   probe32 8 32    check 8 -   bound - -
  *     pack64 64 8     length64 64 -    unpack64 8 64   probe64 8 64
+ *     add_summary 8 8   test_summary 8 -   chunks_from32 8 32   chunks_from64 8 32
  *     lossless_code32 - -   lossless_restored32 - -   tolerance_code32 - 32   tolerance_restored32 - 32    and so with 64
  *
  * AN ANSWER has a head of 16 bytes, then the whole buffer as it is after the call, unless the call has left all of it as it was.
@@ -103,6 +104,27 @@ static uint64_t call_probe64(const struct call *c, const void *in, void *out)
     return gwz_probe64(c->level, in, c->count, c->number, out);
 }
 
+static uint64_t call_add_summary(const struct call *c, const void *in, void *out)
+{
+    return gwz_add_summary(c->level, in, c->count, out, c->room);
+}
+
+static uint64_t call_test_summary(const struct call *c, const void *in, void *out)
+{
+    (void)out;
+    return gwz_test_summary(c->level, in, c->count);
+}
+
+static uint64_t call_chunks_from32(const struct call *c, const void *in, void *out)
+{
+    return gwz_chunks_from32(c->level, (uint32_t)c->number, in, c->count, out, c->room);
+}
+
+static uint64_t call_chunks_from64(const struct call *c, const void *in, void *out)
+{
+    return gwz_chunks_from64(c->level, c->number, in, c->count, out, c->room);
+}
+
 static uint64_t call_bound(const struct call *c, const void *in, void *out)
 {
     (void)in, (void)out;
@@ -177,6 +199,10 @@ static const struct operation operations[] = {
     {"unpack64", 1, 8, ANY, call_unpack64},
     {"probe32", 1, 4, ONE, call_probe32},
     {"probe64", 1, 8, ONE, call_probe64},
+    {"add_summary", 1, 1, ANY, call_add_summary},
+    {"test_summary", 1, 0, NONE, call_test_summary},
+    {"chunks_from32", 1, 4, ANY, call_chunks_from32}, /* chunk numbers have 32 bits at both widths */
+    {"chunks_from64", 1, 4, ANY, call_chunks_from64},
     {"bound", 0, 0, NONE, call_bound},
     {"lossless_code32", 0, 0, NONE, call_lossless_code32},
     {"lossless_code64", 0, 0, NONE, call_lossless_code64},

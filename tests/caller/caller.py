@@ -31,7 +31,7 @@ class Caller:
 
     def unpack(self, width, level, data, room):
         result, out = self.call_lent(f"unpack{width}", data, width // 8, room, lambda answer: answer, level=level)
-        return *parted(result), None if out is None else list(struct.unpack(f"<{len(out) * 8 // width}{letter(width)}", out))
+        return *parted(result), None if out is None else list_of(width, out)
 
     def probe(self, width, level, data, index):
         result, out = self.call_lent(f"probe{width}", data, width // 8, 1, lambda kind: 1, level=level, number=index)
@@ -44,6 +44,18 @@ class Caller:
 
     def length(self, width, level, mode, k, values):
         return parted(self.call(f"length{width}", list_bytes(width, values), count=len(values), level=level, mode=mode, k=k))
+
+    def add_summary(self, level, data, room):
+        result, out = self.call_lent("add_summary", data, 1, room, lambda answer: answer, level=level)
+        return *parted(result), out
+
+    def test_summary(self, level, data):
+        return parted(self.call("test_summary", data, level=level))
+
+    def chunks_from(self, width, level, x, data, room):
+        """Chunk numbers, which have 32 bits at both widths."""
+        result, out = self.call_lent(f"chunks_from{width}", data, 4, room, lambda answer: answer, level=level, number=x)
+        return *parted(result), None if out is None else list_of(32, out)
 
     def bound(self, width, tolerance):
         """On success the second is k, which may be negative."""
@@ -131,6 +143,10 @@ def letter(width):
 
 def list_bytes(width, values):
     return struct.pack(f"<{len(values)}{letter(width)}", *values)
+
+
+def list_of(width, data):
+    return list(struct.unpack(f"<{len(data) * 8 // width}{letter(width)}", data))
 
 
 def marks(length):

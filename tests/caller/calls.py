@@ -27,7 +27,23 @@ def good_calls(library):
     stream = library.pack(64, 10, 1, -20, doubles, 100)[2]
     assert library.unpack(64, 10, stream, 3) == (0, 3, [0x7FF0 << 48, 0, (1 << 64) - 1])
     assert library.probe(64, 10, stream, 2) == (0, 2, (1 << 64) - 1)
+    summaries(library)
     assert library.bound(32, 0x3EB0 << 48) == (0, -20) and library.bound(64, 0x4000 << 48) == (0, 1) and library.bound(16, 1) == (2, 0)
+
+
+def summaries(library):
+    """1,025 doubles in mode 2: a chunk of 1.0, and one of -0 alone."""
+    stream = library.pack(64, 11, 2, 0, [0x3FF0 << 48] * 1024 + [1 << 63], 20000)[2]
+    length = len(stream) + 12 + 2 * 20
+    done = library.add_summary(11, stream, length + 3)
+    copy = done[2]
+    assert done[:2] == (0, length) and len(copy) == length and copy[48:len(stream)] == stream[48:]
+    assert library.add_summary(11, stream, length - 1) == (4, length, None) and library.add_summary(11, copy, length) == (16, 0, None)
+    assert library.test_summary(11, copy) == (0, 1025) and library.test_summary(11, stream) == (17, 0)
+    assert library.test_summary(10, copy) == (7, 11)
+    assert library.chunks_from(64, 12, 0, copy, 2) == (0, 2, [0, 1]) and library.chunks_from(64, 12, 1, copy, 5) == (0, 1, [0])
+    assert library.chunks_from(64, 12, 0, copy, 1) == (4, 2, None) and library.chunks_from(64, 12, 0x7FF0 << 48, copy, 0) == (0, 0, [])
+    assert library.chunks_from(64, 12, (1 << 64) - 1, copy, 2) == (2, 0, None) and library.chunks_from(32, 12, 0, copy, 2) == (14, 0, None)
 
 
 def fails(action):

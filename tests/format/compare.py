@@ -4,9 +4,10 @@
     tests/format/compare.py STREAMS SEED COMMAND...      COMMAND starts the library behind a pipe (tests/caller)
 
 It and the library get the same streams, clean and damaged, and have to answer the same: check, unpack and probe with
-number, detail and every value; and pack, length and bound. One stream in twelve has up to three chunks, most of them
-damaged within, for the place that refusal 10 names. Two in twelve have side parts, for the high ids, the need and the
-order 9 8 15 10. The last line is 'N passed, M failed', a stream each.
+number, detail and every value; and pack, length and bound. One stream in fourteen has up to three chunks, most of them
+damaged within, for the place that refusal 10 names. Two in fourteen have side parts, for the high ids, the need and the
+order 9 8 15 10. Two in fourteen have a summary or are to get one: added, tested and listed from, true and false. The last
+line is 'N passed, M failed', a stream each.
 """
 
 import itertools
@@ -104,7 +105,10 @@ def with_need(pick, data, ids=()):
 
 def with_parts(pick, data, ids):
     """The stream with a side part of each id. It is in order where nothing lies behind the end of the data yet."""
-    parts = [bytes(pick.randrange(256) for _ in range(pick.randrange(4))) for _ in ids]
+    return joined(data, ids, [bytes(pick.randrange(256) for _ in range(pick.randrange(4))) for _ in ids])
+
+
+def joined(data, ids, parts):
     places = list(itertools.accumulate(map(len, parts), initial=len(data) + 12 * len(parts)))
     table = b"".join(words([part_id, place, len(part)]) for part_id, place, part in zip(ids, places, parts))
     return data[:40] + words([len(parts)]) + data[44:] + table + b"".join(parts)
@@ -224,6 +228,49 @@ def damaged_in_tables(pick, data):
     return data
 
 
+# ---- what is summed up, and how it is made false
+
+def some_chunks(pick, width, k):
+    """Values of up to three chunks, mostly of few; now and then a chunk has not-a-numbers only, or zeros of both signs."""
+    half, infinity = 1 << (width - 1), (1 << (width - 1)) - (1 << reader.FRACTION_BITS[width])
+    n = pick.choice([0, 1, 2, 33, pick.randrange(100), pick.randrange(100), pick.randrange(1025, 3073), pick.randrange(1025, 3073)])
+    values = list(itertools.islice(itertools.cycle(some_values(pick, width, k) or [0]), n))
+    for first in range(0, n, reader.CHUNK):
+        alike = pick.choice([None, None, None, None, [infinity + 1, infinity + half + 2, 2 * half - 1], [0, half], [half], [infinity], [infinity + half]])
+        if alike is not None:
+            last = pick.choice([reader.CHUNK, reader.CHUNK, pick.randrange(1, reader.CHUNK)])
+            values[first:first + last] = [pick.choice(alike) for _ in values[first:first + last]]
+    return values
+
+
+def some_x(pick, width, values):
+    """A pattern to list from: a value or what is next to it, a zero, an infinity, any; seldom a not-a-number."""
+    near = [pick.choice(values) + step for step in (-1, 0, 0, 1)] if values else []
+    some = [x % (1 << width) for x in near + special_patterns(width) + [pick.randrange(1 << width)]]
+    return pick.choice([x for x in some if reader.kind_of(width, x) < 2 or pick.random() < 0.1] or [0])
+
+
+def other_value(pick, data):
+    """A bit of the data altered: a rule is broken, or a value is another, and with it maybe what its chunk's summary has to say."""
+    h = reader.header_of(data)
+    return data[:h.data_at] + other_bit(pick, data[h.data_at:h.end]) + data[h.end:] if h.n else data
+
+
+def other_part(pick, data):
+    """The summary of a stream that has nothing else beside the data, made false: a bit, a byte, two entries exchanged, both ends exchanged,
+    or another length; or it gets another id, or stands beside other parts."""
+    h = reader.header_of(data)
+    part, size = data[h.end + 12:], reader.entry_length(h.width)
+    at, other = (size * pick.randrange(max(h.c, 1)) for _ in range(2))
+    value = h.width // 8
+    entry = part[at:at + size]
+    parts = [part, part, part[:-1], part + bytes(1), part[size:], b"", part[:at] + entry[:4] + entry[4 + value:] + entry[4:4 + value] + part[at + size:],
+             part[:at] + part[other:other + size] + part[at + size:], other_byte(pick, part) if part else part, other_bit(pick, part) if part else part]
+    ids = [1] if pick.random() < 0.5 else pick.choice([[0], [2], [0, 1], [1, 2], [0, 1, reader.HIGH_ID - 1], [1, reader.HIGH_ID]])
+    bodies = [pick.choice(parts) if part_id == 1 or len(ids) == 1 else bytes(pick.randrange(3)) for part_id in ids]
+    return with_need(pick, joined(data[:h.end], ids, bodies), ids) if pick.random() < 0.2 else joined(data[:h.end], ids, bodies)
+
+
 # ---- the comparison
 
 def calls_of_any(pick, library):
@@ -273,7 +320,26 @@ def calls_of_sides(pick, library):
         ("probe", other, acting, data, index) for index in (pick.randrange(n + 1), pick.choice([0, max(n - 1, 0), n]))]
 
 
-KINDS = [calls_of_any] * 9 + [calls_of_sides] * 2 + [calls_of_chunks]
+def calls_of_summaries(pick, library):
+    """The calls for one more summary: added, at times to a stream that is damaged or has side parts already; and tested and listed from, true or
+    false, at times in a stream that is damaged besides."""
+    width, mode, k = some_setting(pick)
+    values = some_chunks(pick, width, k)
+    data = library.pack(width, LEVEL, mode, k, values, 2**15)[2]
+    bytes_needed = len(data) + 12 + reader.chunks_in(len(values)) * reader.entry_length(width)
+    copy = library.add_summary(LEVEL, data, bytes_needed)[2]
+    if pick.random() < 0.6:
+        copy = pick.choice([other_part] * 12 + [lambda pick, copy: data])(pick, copy)
+    if pick.random() < 0.25:
+        copy = pick.choice([damaged, damaged_in_tables, other_value, other_value, lambda pick, copy: copy[:pick.randrange(48)]])(pick, copy)
+    acting, other = pick.choice([LEVEL] * 6 + [some_level(pick)]), width if pick.random() < 0.9 else 96 - width
+    given = pick.choice([data, data, damaged(pick, data), damaged_within(pick, width, data), copy])
+    restored = library.unpack(width, LEVEL, data, len(values))[2]
+    return [("add_summary", acting, given, bytes_needed + pick.choice([0, 0, 0, -1, 5])), ("check", acting, copy), ("test_summary", acting, copy)] + [
+        ("chunks_from", other, acting, some_x(pick, other, restored), copy, pick.choice([0, 1, 2, 3, 3, 3])) for _ in range(3)]
+
+
+KINDS = [calls_of_any] * 9 + [calls_of_sides] * 2 + [calls_of_chunks] + [calls_of_summaries] * 2
 
 
 def differences(pick, library):

@@ -1,4 +1,5 @@
-"""A reader and a writer of packed streams, written from FORMAT.md alone.
+"""A reader and a writer of packed streams, written from FORMAT.md alone;
+what concerns summaries was added by the writer of that page.
 
 Whole numbers only, standard library only. Names in quotes are the page's own.
 No function raises on any level, bytes or index, and the work is bounded by
@@ -21,6 +22,8 @@ GROUP = 32                                    # codes in a group
 GROUPS = 32                                   # groups in a full chunk
 HEADER_BYTES = 48
 ENTRY_BYTES = 12                              # one entry of the side table
+SIDES_AT = 40                                 # the place of s
+SUMMARY_ID = 1                                # "summaryId"
 
 # The twelve numbers of the header, in order.
 Header = namedtuple("Header", "major written needed width mode k n c table_at data_at s end")
@@ -362,13 +365,20 @@ def all_codes(h, data):
 
 # --- The readers ------------------------------------------------------------
 
-def check(level, data):
-    """Order 1 5 6 7 8 9 8 15 10. Gives (0, n), or the refusal and its detail."""
+def checked(level, data):
+    """Tests 1 5 6 7 8 9 8 15 10: a refusal or None, then the header and the codes of each chunk."""
     refusal, h = opening(level, data)
     if refusal is None:
         refusal = behind_opening(h, data)
-    if refusal is None:
-        refusal, _ = all_codes(h, data)
+    if refusal is not None:
+        return refusal, None, None
+    refusal, chunks = all_codes(h, data)
+    return refusal, h, chunks
+
+
+def check(level, data):
+    """Order 1 5 6 7 8 9 8 15 10. Gives (0, n), or the refusal and its detail."""
+    refusal, h, _ = checked(level, data)
     return (0, h.n) if refusal is None else refusal
 
 
@@ -415,6 +425,110 @@ def probe(width, level, data, index):
         return refusal + (None,)
     p = restored(width, h.mode, h.k, codes[:index % CHUNK + 1])[-1]
     return 0, kind_of(width, p), p
+
+
+# --- The summary ------------------------------------------------------------
+
+def place(width, p):
+    """The place of a pattern in the order of a summary ("rank")."""
+    half = 1 << (width - 1)
+    return half + p if p < half else 2 * half - 1 - p
+
+
+def at_least(width, x, p):
+    """The value p is at least x, as IEEE 754 compares ("atLeast")."""
+    if kind_of(width, x) == 2 or kind_of(width, p) == 2:
+        return False
+    zeros = (0, 1 << (width - 1))
+    return place(width, p) >= place(width, x) or (x in zeros and p in zeros)
+
+
+def entry_length(width):
+    return 4 + 2 * (width // 8)               # "entryLength"
+
+
+def summary_entry(width, values):
+    """What a summary has of a chunk's restored values ("entryBytes")."""
+    others = [p for p in values if kind_of(width, p) != 2]
+    ends = [end(set(others), key=lambda p: place(width, p), default=0) for end in (min, max)]
+    return ((len(values) - len(others)).to_bytes(4, "little")
+            + b"".join(p.to_bytes(width // 8, "little") for p in ends))
+
+
+def summary(h, chunks):
+    """The true summary, of the codes of each chunk ("summary")."""
+    return b"".join(summary_entry(h.width, restored(h.width, h.mode, h.k, codes)) for codes in chunks)
+
+
+def side_part(h, data, wanted):
+    """The bytes of the side part with an id or None, of a side table that is right."""
+    for at in range(h.end, h.end + ENTRY_BYTES * h.s, ENTRY_BYTES):
+        part_id, part_at, length = word(data, at), word(data, at + 4), word(data, at + 8)
+        if part_id == wanted:
+            return data[part_at:part_at + length]
+    return None
+
+
+def summary_refusal(h, data, chunks):
+    """Test 17: no side part 1, or one that is not the true summary, byte for byte ("summaryTrue")."""
+    part = side_part(h, data, SUMMARY_ID)
+    return None if part is not None and part == summary(h, chunks) else (17, 0)
+
+
+def add_summary(level, data, room):
+    """Order 1 5 6 7 8 9 8 15 10 16 4. Gives (0, bytes written, bytes), or (number, detail, None)."""
+    refusal, h, chunks = checked(level, data)
+    if refusal is None and h.s != 0:
+        refusal = (16, 0)
+    if refusal is not None:
+        return refusal + (None,)
+    part = summary(h, chunks)
+    copy = (data[:SIDES_AT] + spell(1) + data[SIDES_AT + 4:]
+            + spell(SUMMARY_ID) + spell(h.end + ENTRY_BYTES) + spell(len(part)) + part)
+    if room < len(copy):
+        return 4, len(copy), None
+    return 0, len(copy), copy
+
+
+def test_summary(level, data):
+    """Order 1 5 6 7 8 9 8 15 10 17. Gives (0, n), or the refusal and its detail."""
+    refusal, h, chunks = checked(level, data)
+    if refusal is None:
+        refusal = summary_refusal(h, data, chunks)
+    return (0, h.n) if refusal is None else refusal
+
+
+def listed(h, x, part):
+    """The chunks that hold some value at least x, by a summary that is true.
+
+    A chunk is listed when not all its values are not-a-numbers and its largest is at least x.
+    """
+    size, chunks = entry_length(h.width), []
+    for i in range(h.c):
+        entry = part[size * i:size * (i + 1)]
+        largest = int.from_bytes(entry[4 + h.width // 8:], "little")
+        if word(entry, 0) < min(CHUNK, h.n - CHUNK * i) and at_least(h.width, x, largest):
+            chunks.append(i)
+    return chunks
+
+
+def chunks_from(width, level, x, data, room):
+    """Order 1 2 5 6 7 8 14 9 8 15 10 17 4. Gives (0, count, chunks), or (number, detail, None)."""
+    if level in LEVELS and kind_of(width, x) == 2:
+        return 2, 0, None
+    refusal, h = opening(level, data)
+    if refusal is None and h.width != width:
+        refusal = (14, 0)
+    if refusal is None:
+        refusal, h, chunks = checked(level, data)
+    if refusal is None:
+        refusal = summary_refusal(h, data, chunks)
+    if refusal is not None:
+        return refusal + (None,)
+    found = listed(h, x, side_part(h, data, SUMMARY_ID))
+    if room < len(found):
+        return 4, len(found), None
+    return 0, len(found), found
 
 
 # --- The writer -------------------------------------------------------------

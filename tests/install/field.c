@@ -1,10 +1,10 @@
-/* A small field through the installed library, by C and by C++: packed, read back, cut, and the helpers. Prints what it saw; status 0 is all well. */
+/* A small field through the installed library, by C and by C++: packed, read back, cut, summed up, and the helpers. Prints what it saw; status 0 is all well. */
 #include <gwizdorad.h>
 
 #include <stdio.h>
 #include <string.h>
 
-enum { CELLS = 6, LONGEST = GWZ_LONGEST_STREAM(32, CELLS) };
+enum { CELLS = 6, LONGEST = GWZ_LONGEST_STREAM(32, CELLS), ADDED = GWZ_SUMMARY_BYTES(32, CELLS) };
 
 static int failures = 0;
 
@@ -20,8 +20,8 @@ int main(void)
 {
     /* 0, -0, 1.5, a not-a-number with a payload, an infinity, the smallest number */
     const uint32_t cells[CELLS] = {0x00000000u, 0x80000000u, 0x3FC00000u, 0x7FC00123u, 0x7F800000u, 0x00000001u};
-    uint32_t back[CELLS] = {0};
-    uint8_t stream[LONGEST];
+    uint32_t back[CELLS] = {0}, chunk = 9;
+    uint8_t stream[LONGEST], copy[LONGEST + ADDED];
     uint64_t pattern, result;
     const double tolerance = 0.005;
     size_t length;
@@ -34,9 +34,13 @@ int main(void)
     result = gwz_check(GWZ_HIGHEST_LEVEL, stream, length - 1);
     expect("a cut stream is refused", gwz_refusal(result) == GWZ_BROKEN_HEADER);
     expect("with a sentence", strstr(gwz_refusal_text(gwz_refusal(result)), "cut") != NULL);
+    expect("a summary added", gwz_add_summary(GWZ_HIGHEST_LEVEL, stream, length, copy, sizeof copy) == length + ADDED);
+    expect("and tested", gwz_test_summary(GWZ_HIGHEST_LEVEL, copy, length + ADDED) == CELLS);
+    expect("a chunk from 1.5 on", gwz_chunks_from32(GWZ_HIGHEST_LEVEL, cells[2], copy, length + ADDED, &chunk, 1) == 1 && chunk == 0);
     memcpy(&pattern, &tolerance, sizeof pattern);
     expect("the exponent of 0.005 is -8", gwz_exponent(gwz_bound(32, pattern)) == -8);
     expect("the longest stream", gwz_longest_stream(32, CELLS) == LONGEST);
+    expect("the bytes of a summary", gwz_summary_bytes(32, CELLS) == ADDED);
     expect("header and library have one version", strcmp(GWZ_VERSION, gwz_version()) == 0);
     expect("and one format", GWZ_FORMAT_MAJOR == gwz_format_major() && GWZ_HIGHEST_LEVEL == gwz_highest_level());
     printf("%d cells in %lu bytes and back, version %s\n", (int)CELLS, (unsigned long)length, gwz_version());

@@ -26,6 +26,29 @@ module gwizdorad
             integer(c_int8_t), intent(in) :: bytes(length)
             integer(c_int64_t) :: r
         end function
+        function gwz_add_summary(level, bytes, length, out, room) bind(c) result(r)
+            import
+            integer(c_int32_t), value :: level
+            integer(c_size_t), value :: length, room
+            integer(c_int8_t), intent(in) :: bytes(length)
+            integer(c_int8_t), intent(inout) :: out(room)
+            integer(c_int64_t) :: r
+        end function
+        function gwz_test_summary(level, bytes, length) bind(c) result(r)
+            import
+            integer(c_int32_t), value :: level
+            integer(c_size_t), value :: length
+            integer(c_int8_t), intent(in) :: bytes(length)
+            integer(c_int64_t) :: r
+        end function
+        function gwz_chunks_from32(level, x, bytes, length, out, room) bind(c) result(r)
+            import
+            integer(c_int32_t), value :: level, x
+            integer(c_size_t), value :: length, room
+            integer(c_int8_t), intent(in) :: bytes(length)
+            integer(c_int32_t), intent(inout) :: out(room)
+            integer(c_int64_t) :: r
+        end function
         function gwz_bound(width, tolerance) bind(c) result(r)
             import
             integer(c_int32_t), value :: width
@@ -48,6 +71,12 @@ module gwizdorad
             integer(c_int32_t) :: r
         end function
         function gwz_longest_stream(width, n) bind(c) result(r)
+            import
+            integer(c_int32_t), value :: width
+            integer(c_size_t), value :: n
+            integer(c_size_t) :: r
+        end function
+        function gwz_summary_bytes(width, n) bind(c) result(r)
             import
             integer(c_int32_t), value :: width
             integer(c_size_t), value :: n
@@ -91,8 +120,8 @@ program field
     implicit none
     integer, parameter :: cells = 5
     real(c_float) :: levels(cells) = [1.8125, 1.8203, -0.0, 0.0, 1.8295]
-    integer(c_int32_t) :: patterns(cells), back(cells), level
-    integer(c_int8_t), allocatable :: stream(:)
+    integer(c_int32_t) :: patterns(cells), back(cells), level, chunks(1) = 9
+    integer(c_int8_t), allocatable :: stream(:), copy(:)
     integer(c_int64_t) :: answer
     integer(c_size_t) :: length
     integer :: failures = 0
@@ -109,6 +138,13 @@ program field
     answer = gwz_check(level, stream, length - 1)
     call expect('a cut stream is refused', gwz_refusal(answer) == 8)
     call expect('with a sentence', index(text_of(gwz_refusal_text(gwz_refusal(answer))), 'cut') > 0)
+    allocate (copy(length + gwz_summary_bytes(32_c_int32_t, int(cells, c_size_t))))
+    answer = gwz_add_summary(level, stream, length, copy, size(copy, kind=c_size_t))
+    call expect('a summary added', answer == size(copy))
+    answer = gwz_test_summary(level, copy, size(copy, kind=c_size_t))
+    call expect('and tested', answer == cells)
+    answer = gwz_chunks_from32(level, transfer(1.8203, level), copy, size(copy, kind=c_size_t), chunks, 1_c_size_t)
+    call expect('a chunk from 1.8203 on', answer == 1 .and. chunks(1) == 0)
     answer = gwz_bound(32_c_int32_t, transfer(0.005_c_double, answer))
     call expect('the exponent of 0.005 is -8', gwz_exponent(answer) == -8)
     print '(i0, a, i0, a, a)', cells, ' cells in ', length, ' bytes and back, version ', text_of(gwz_version())

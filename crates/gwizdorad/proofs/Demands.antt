@@ -1,4 +1,4 @@
--- The three demands, a theorem each, and what document 02, R-4, adds to the third. What they say stands in specs/Demands.antt; the proofs are citations.
+-- The three demands, a theorem each, and what document 02 adds: R-4 to the third, R-5 to the operations. What they say stands in specs/Demands.antt; the proofs are citations.
 use mathlib.Core.Path.{_≡_, refl, sym, ap, subst, _∙_}
 use mathlib.Core.Logic.{_⊎_, inl, inr}
 use mathlib.Core.Bool.{true, false}
@@ -26,9 +26,11 @@ use Rattle.stream.specs.declared.answers.Probe64.{Probe64}
 use Rattle.stream.proofs.Readers.{check-order, unpack-order, probe-order, refused-check, refused-unpack, refused-probe32, refused-probe64, refused-untouched, written-values, probe-as-unpack32, probe-as-unpack64, check-higher, unpack-higher, probe-higher32, probe-higher64}
 use Rattle.stream.proofs.Written.{length-order, pack-order, refused-length, refused-pack, refused-pack-untouched, accepted-later, accepted-list, accepted-leaves, accepted-is-raised, the-minors-as-they-were, length-is-answered, packed-length-bound, the-stream-is-packed, it-is-read, it-is-too-new, refused-by-15, refused-by-8}
 use Rattle.stream.proofs.Understood.{the-high-ids, a-high-id-is-never-skipped}
+use Rattle.summary.proofs.Theorems.{add-order, test-order, list-order, refused-add, refused-add-untouched, refused-test, refused-list, refused-list-untouched, add-takes, side-parts-are-refused-by-16, the-copy-fits, the-copy-is-left, the-copy-is-read-as-the-original, only-the-number-of-side-parts-is-another, the-summary-that-is-added-is-true, a-test-accepts-what-is-added, a-test-accepts-exactly-the-true-summaries, all-else-is-refused-by-17, a-true-summary-has-an-entry-for-each-chunk, a-true-summary-says, the-list-fits, a-list-is-made-of-a-true-summary, the-list-names-exactly, the-list-is-in-order, past-the-list, a-list-is-given, a-not-a-number-is-refused-by-2, a-high-id-is-not-skipped}
+use Rattle.summary.proofs.Ieee.{nan-as, is-a-number}
 use Rattle.gwizdorad_numbers.proofs.Theorems.{a-refused-code-is-not-written, a-refused-pattern-is-not-written}
 use Rattle.gwizdorad.specs.Result.{probeOut32, probeOut64}
-use Rattle.gwizdorad.specs.Demands.{Demand1, ComesBack, Packed, Demand2, Offered, ReadBack, given-back, too-new, Demand3, WithMinors, RightNeed, NotSkipped}
+use Rattle.gwizdorad.specs.Demands.{Demand1, ComesBack, Packed, Demand2, Offered, ReadBack, given-back, too-new, Demand3, WithMinors, RightNeed, NotSkipped, SummaryBeside}
 use Rattle.gwizdorad.proofs.Theorems.{probe32-leaves-what-unpack-leaves, probe64-leaves-what-unpack-leaves}
 use Rattle.gwizdorad.proofs.Law.Demand.{coded-at, code-refused, pattern-refused, pattern-above, bound-detail, unknown-width, lossless-at, differences-at, within-at, bound-at, offered, is-sent, as-many, come-back}
 
@@ -36,7 +38,7 @@ pub demand-1 : Demand1
 unfolding probeOut32 probeOut64
 demand-1 =
     record {
-      order = record { pack = pack-order; length-of = length-order; check = check-order; unpack = unpack-order; probe = probe-order };
+      order = record { pack = pack-order; length-of = length-order; check = check-order; unpack = unpack-order; probe = probe-order; add = add-order; test = test-order; list = list-order };
       pack = λ W level mode k vs out number detail.
           (refused-pack W level mode k vs (length out) number detail, refused-pack-untouched W level mode k vs out number detail);
       length-of = refused-length;
@@ -44,6 +46,9 @@ demand-1 =
       unpack = λ W L s out number detail. (refused-unpack W L s (length out) number detail, refused-untouched W L s out number detail);
       probe32 = λ L s i old number detail. (refused-probe32 L s i number detail, λ e. ap (λ (a : Probe32). probeOut32 a old) e);
       probe64 = λ L s i old number detail. (refused-probe64 L s i number detail, λ e. ap (λ (a : Probe64). probeOut64 a old) e);
+      add = λ L s out number detail. (refused-add L s (length out) number detail, refused-add-untouched L s out number detail);
+      test = refused-test;
+      list = λ W L x s out number detail. (refused-list W L x s (length out) number detail, refused-list-untouched W L x s out number detail);
       bound = λ W t. (unknown-width W t, bound-detail (boundAnswer W t));
       code = λ W m k p old. (code-refused W m k p, a-refused-code-is-not-written (codeAnswer W m k p) old);
       pattern = λ W m k c old. (pattern-refused W m k c, pattern-above W m k c, a-refused-pattern-is-not-written (patternAnswer W m k c) old);
@@ -178,4 +183,32 @@ not-skipped =
       );
       unraised = unraised;
       never = a-high-id-is-never-skipped;
+    }
+
+pub summary-beside : SummaryBeside
+summary-beside =
+    record {
+      adds = λ L s out n checked. (add-takes L s out n checked, side-parts-are-refused-by-16 L s (length out) n checked);
+      added = λ L s out size bytes done. (
+        the-copy-fits L s out size done,
+        the-copy-is-left L s out size done .0,
+        the-copy-is-left L s out size done .1,
+        the-copy-is-read-as-the-original L s out size done bytes,
+        the-summary-that-is-added-is-true L s out size done bytes,
+        a-test-accepts-what-is-added L s out size done bytes,
+      );
+      header = λ L s out size bytes done. only-the-number-of-side-parts-is-another L s out size done bytes;
+      tested = a-test-accepts-exactly-the-true-summaries;
+      untrue = all-else-is-refused-by-17;
+      says = λ L s n checked t. (a-true-summary-has-an-entry-for-each-chunk L s n checked t, a-true-summary-says L s n checked t);
+      listed = λ W L x s out k known fits done. (
+        the-list-fits W L x s out k done,
+        a-list-is-made-of-a-true-summary W L x s out k done .1,
+        the-list-names-exactly W L x s out k done known fits,
+        the-list-is-in-order W L x s out k done,
+        past-the-list W L x s out k done,
+      );
+      lists = λ W L x s n known tested width number. a-list-is-given W L x s n tested width (is-a-number W known x number);
+      no-number = λ W L x s out known level e. a-not-a-number-is-refused-by-2 W L x s out level (nan-as W known x .1 e);
+      never = a-high-id-is-not-skipped;
     }

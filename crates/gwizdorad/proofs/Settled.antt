@@ -11,6 +11,7 @@ use Rattle.numbers.specs.Answers.{codeAnswer, patternAnswer}
 use Rattle.numbers.specs.Bound.{boundAnswer}
 use Rattle.stream.specs.Operations.{checkAnswer, unpackAnswer, unpackOut, probeAnswer32, probeAnswer64, lengthAnswer, packAnswer, packOut}
 use Rattle.stream.proofs.Settled.{one, Promised, both}
+use Rattle.summary.specs.Operations.{addAnswer, addOut, testAnswer, listAnswer, listOut}
 use Rattle.gwizdorad_numbers.specs.Result.{boundResult, codeResult, codeOut, patternResult, patternOut}
 use Rattle.gwizdorad.specs.Result.{answerResult, probeResult32, probeOut32, probeResult64, probeOut64}
 
@@ -49,6 +50,24 @@ module _ (level : ℕ) (s : List ℕ) where
       → Promised (probeResult64 (probeAnswer64 level s i)) (probeOut64 (probeAnswer64 level s i) old) r′ now′
       → (r ≡ r′) × (now ≡ now′)
   gwz-probe64-is-settled i old r r′ now now′ = both
+
+-- ---- gwz_add_summary, gwz_test_summary, gwz_chunks_from32, gwz_chunks_from64
+
+module _ (level : ℕ) (s : List ℕ) where
+  pub gwz-add-summary-is-settled : (out : List ℕ) (r r′ : ℕ) (now now′ : List ℕ)
+      → Promised (answerResult (addAnswer level s (length out))) (addOut level s out) r now
+      → Promised (answerResult (addAnswer level s (length out))) (addOut level s out) r′ now′
+      → (r ≡ r′) × (now ≡ now′)
+  gwz-add-summary-is-settled out r r′ now now′ = both
+
+  pub gwz-test-summary-is-settled : (r r′ : ℕ) → r ≡ answerResult (testAnswer level s) → r′ ≡ answerResult (testAnswer level s) → r ≡ r′
+  gwz-test-summary-is-settled r r′ = one
+
+  pub gwz-chunks-from-is-settled : (W x : ℕ) (out : List ℕ) (r r′ : ℕ) (now now′ : List ℕ)
+      → Promised (answerResult (listAnswer W level x s (length out))) (listOut W level x s out) r now
+      → Promised (answerResult (listAnswer W level x s (length out))) (listOut W level x s out) r′ now′
+      → (r ≡ r′) × (now ≡ now′)
+  gwz-chunks-from-is-settled W x out r r′ now now′ = both
 
 -- ---- the number rules
 

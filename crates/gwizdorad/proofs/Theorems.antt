@@ -22,6 +22,9 @@ use Rattle.stream.specs.Theorem.{BadGroup, Fault}
 use Rattle.stream.proofs.Readers.{probe-as-unpack32, probe-as-unpack64}
 use Rattle.stream.proofs.Place.{check-names-the-place, unpack-names-the-place, probe-names-the-place32, probe-names-the-place64}
 use Rattle.stream.proofs.Fitting.{check-fits, unpack-fits, unpacked-value-fits, probe-fits32, probed-value-fits32, probe-fits64, probed-value-fits64, length-fits, pack-fits}
+use Rattle.summary.specs.Operations.{addAnswer, testAnswer, listAnswer}
+use Rattle.summary.proofs.Theorems.{add-names-the-place, test-names-the-place, list-names-the-place}
+use Rattle.summary.proofs.Fitting.{add-fits, test-fits, list-fits}
 use Rattle.gwizdorad_numbers.specs.Theorem.{Uncut}
 use Rattle.gwizdorad_numbers.proofs.Theorems.{a-result-tells-both}
 use Rattle.gwizdorad.specs.Result.{answerResult, probeDetail32, probeResult32, probeOut32, probeDetail64, probeResult64, probeOut64}
@@ -51,6 +54,15 @@ module _ (level : ℕ) (s : List ℕ) (bytes : Below 256 s) where
   pub a-refused-probe64-is-numbered : (i number detail : ℕ) → probeAnswer64 level s i ≡ p64.Refused number detail → 0 < number
   a-refused-probe64-is-numbered i number detail e = probe-fits64 level s bytes i number detail e .some
 
+  pub add-is-spelled : (room : ℕ) → Spelled (addAnswer level s room)
+  add-is-spelled room = answer-spelled (addAnswer level s room) (add-fits level s bytes room)
+
+  pub test-is-spelled : Spelled (testAnswer level s)
+  test-is-spelled = answer-spelled (testAnswer level s) (test-fits level s bytes)
+
+  pub list-is-spelled : (W x room : ℕ) → Spelled (listAnswer W level x s room)
+  list-is-spelled W x room = answer-spelled (listAnswer W level x s room) (list-fits level s bytes W x room)
+
 module _ (W level mode : ℕ) (k : ℤ) (vs : List ℕ) (known : knownWidth W ≡ true) (patterns : Below (2 ^ W) vs) where
   pub length-is-spelled : Spelled (lengthAnswer W level mode k vs)
   length-is-spelled = answer-spelled (lengthAnswer W level mode k vs) (length-fits W level mode k vs known patterns)
@@ -58,7 +70,7 @@ module _ (W level mode : ℕ) (k : ℤ) (vs : List ℕ) (known : knownWidth W �
   pub pack-is-spelled : (room : ℕ) → Spelled (packAnswer W level mode k vs room)
   pack-is-spelled room = answer-spelled (packAnswer W level mode k vs room) (pack-fits W level mode k vs known patterns room)
 
--- ---- the same result of check, unpack, length and pack is the same answer
+-- ---- the same result of an operation but probe is the same answer
 
 pub a-result-tells-its-answer : (a b : Answer) → Spelled a → Spelled b → answerResult a ≡ answerResult b → a ≡ b
 a-result-tells-its-answer a b spelled spelled′ same =
@@ -141,6 +153,22 @@ module _ (level : ℕ) (s : List ℕ) (bytes : Below 256 s) where
   pub unpack-tells-the-place : (W room : ℕ) → let r = answerResult (unpackAnswer W level s room) in r / 2 ^ 32 ≡ 10 → Fault s (r % 2 ^ 32 / 32) (r % 2 ^ 32 % 32)
   unpack-tells-the-place W room ten =
       unpack-names-the-place level s (answerResult (unpackAnswer W level s room) % 2 ^ 32) W room (refused-so (unpackAnswer W level s room) 10 (unpack-is-spelled level s bytes W room) (lit< tt) ten)
+
+  -- the summary's operations hand on what check found
+  pub add-tells-the-place : (room : ℕ) → let r = answerResult (addAnswer level s room) in r / 2 ^ 32 ≡ 10 → Fault s (r % 2 ^ 32 / 32) (r % 2 ^ 32 % 32)
+  add-tells-the-place room ten =
+      let d = answerResult (addAnswer level s room) % 2 ^ 32 in
+      check-names-the-place level s d (add-names-the-place level s room d (refused-so (addAnswer level s room) 10 (add-is-spelled level s bytes room) (lit< tt) ten))
+
+  pub test-tells-the-place : let r = answerResult (testAnswer level s) in r / 2 ^ 32 ≡ 10 → Fault s (r % 2 ^ 32 / 32) (r % 2 ^ 32 % 32)
+  test-tells-the-place ten =
+      let d = answerResult (testAnswer level s) % 2 ^ 32 in
+      check-names-the-place level s d (test-names-the-place level s d (refused-so (testAnswer level s) 10 (test-is-spelled level s bytes) (lit< tt) ten))
+
+  pub list-tells-the-place : (W x room : ℕ) → let r = answerResult (listAnswer W level x s room) in r / 2 ^ 32 ≡ 10 → Fault s (r % 2 ^ 32 / 32) (r % 2 ^ 32 % 32)
+  list-tells-the-place W x room ten =
+      let d = answerResult (listAnswer W level x s room) % 2 ^ 32 in
+      check-names-the-place level s d (list-names-the-place W level x s room d (refused-so (listAnswer W level x s room) 10 (list-is-spelled level s bytes W x room) (lit< tt) ten))
 
   -- probe's own chunk
   pub probe32-tells-the-place : (i : ℕ) → let r = probeResult32 (probeAnswer32 level s i) in r / 2 ^ 32 ≡ 10

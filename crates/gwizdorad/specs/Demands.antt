@@ -1,17 +1,16 @@
 -- The three demands, to be read aloud. proofs/Demands.antt proves them: `demand-1 : Demand1`, `demand-2 : Demand2`, `demand-3 : Demand3`; and what
--- document 02 adds to the third, `not-skipped : NotSkipped`.
+-- document 02 adds: to the third, `not-skipped : NotSkipped`, and to the operations, `summary-beside : SummaryBeside`.
 -- They speak of what the operations answer and leave: `packAnswer` and `packOut` of specs/Operations.antt in the crate `stream`, and their
 -- like. The promise of each operation is an equation with these; C gets the answer as one number, of which nothing is cut (`Spelled`, and `Uncut`
 -- for probe and the number rules), and a pattern or a code in what it lent.
 -- W is a width, 32 or 64; vs a list of values, patterns of W bits; s any bytes; `level` is the writer's level and L the reader's.
 use mathlib.Core.Path.{_≡_}
 use mathlib.Core.Logic.{_↔_}
-use mathlib.Core.Bool.{true, false, cond}
+use mathlib.Core.Bool.{true, false}
 use mathlib.Core.List.{List, [], _∷_, _++_}
-use Prim.Native.Nat.{ℕ, _+_, _*_, _/_, _^_, _≤_, _<_}
-use lib.Dec.{eqb}
+use Prim.Native.Nat.{ℕ, suc, _+_, _*_, _/_, _^_, _≤_, _<_}
 use lib.IntN.{ℤ, pos}
-use lib.Ieee.{Format, binary32, binary64}
+use lib.Ieee.{ofBits, nan}
 use lib.ListN.{length, take, drop, getD, replicate}
 use Rattle.bins.specs.Tolerance.{allowedK, binOf, toleranceCode, largestU}
 use Rattle.numbers.specs.Lossless.{losslessCode, losslessRestored}
@@ -26,7 +25,8 @@ use Rattle.blocks.specs.Bytes.{Below}
 use Rattle.stream.specs.Setting.{knownLevel, knownWidth, fractionBits, losslessMode, allowedSetting, settingOf, need, streamNeed}
 use Rattle.stream.specs.Rows.{Decides, numbersOf}
 use Rattle.stream.specs.Header.{headerOf, chunksIn}
-use Rattle.stream.specs.Tables.{sideId, idsIn, highId, someHigh, firstHigh}
+use Rattle.stream.specs.Tables.{sideId, sidePlace, sideLength, idsIn, highId, someHigh, firstHigh}
+use Rattle.stream.specs.Stream.{values}
 use Rattle.stream.specs.Writing.{stream, Side, placed, addSides, idsOf, WellFormedSides}
 use Rattle.stream.specs.Probe.{shown32, shown64}
 use Rattle.stream.specs.Operations.{checkRows, checkAnswer, unpackRows, unpackAnswer, unpackOut, probeRows, probeAnswer32, probeAnswer64, lengthRows, lengthAnswer, packRows, packAnswer, packOut}
@@ -34,18 +34,22 @@ use Rattle.stream.specs.Theorem.{TooNew, RefusedBy, RefusedByAll}
 use Rattle.stream.specs.declared.answers.Answer.the-variants.{Done, Refused}
 use Rattle.stream.specs.declared.answers.Probe32.the-variants as p32
 use Rattle.stream.specs.declared.answers.Probe64.the-variants as p64
+use Rattle.summary.specs.Summary.{withSummary}
+use Rattle.summary.specs.Operations.{addRows, addAnswer, addOut, testRows, testAnswer, listRows, listAnswer, listOut}
+use Rattle.summary.specs.Theorem.{counted, ReadAs, TrueSummary, Says, formatOf, HoldsSome}
 use Rattle.gwizdorad_numbers.specs.Result.{codeOut, patternOut}
 use Rattle.gwizdorad.specs.Result.{probeOut32, probeOut64}
 
 -- ---- Demand 1: "Every entry point takes every input, ends, and touches nothing outside what it was lent." That is what the check of each
--- function says, and that no entry point has a `requires`: these are the public functions of `numbers`, `stream` and the two crates for C.
--- (`bins` and `blocks` are inner libraries, which no user reaches.) "Bad input gets one refusal, the first in the stated order, with its stated
+-- function says, and that no entry point has a `requires`: these are the public functions of `numbers`, `stream`, `summary` and the two crates for C.
+-- (`bins` and `blocks` are inner libraries, which no user reaches. `one_chunk` and `sides` of `stream` are total too, but no operations: they serve the libraries
+-- above, which have made a check before, look at no level and at no id, and are meant nowhere below where a reader is spoken of.) "Bad input gets one refusal, the first in the stated order, with its stated
 -- detail. A refused call changes nothing it was lent." Of an operation's rows the refusal is the one that `Decides`: it is given, and none
 -- before it.
 
 -- Pack: 1 2 3 4. Length: 1 2 3. Check: 1 5 6 7 8 9 8 15 10. Unpack: 1 5 6 7 8 14 4 9 8 15 10. Probe: 1 5 6 7 8 14 11 9 8 15 10. These are document 01's,
 -- with the rows of document 02, R-4: 15 "after 9 and after that late use of 8, before 10". 15 stands once for each side part, 10 once for each
--- chunk, in probe for its own.
+-- chunk, in probe for its own. Document 02, R-5: add 1 5 6 7 8 9 8 15 10 16 4, test 1 5 6 7 8 9 8 15 10 17, list 1 2 5 6 7 8 14 9 8 15 10 17 4.
 pub record StatedOrder : Type 0 where
   pub pack : (W level mode : ℕ) (k : ℤ) (vs : List ℕ) (room : ℕ) → numbersOf (packRows W level mode k vs room) ≡ 1 ∷ 2 ∷ 3 ∷ 4 ∷ []
   pub length-of : (W level mode : ℕ) (k : ℤ) (n : ℕ) → numbersOf (lengthRows W level mode k n) ≡ 1 ∷ 2 ∷ 3 ∷ []
@@ -55,6 +59,13 @@ pub record StatedOrder : Type 0 where
       → numbersOf (unpackRows W L s room) ≡ 1 ∷ 5 ∷ 6 ∷ 7 ∷ 8 ∷ 14 ∷ 4 ∷ 9 ∷ 8 ∷ (replicate (headerOf s .sides) 15 ++ replicate (headerOf s .chunks) 10)
   pub probe : (W L : ℕ) (s : List ℕ) (i : ℕ)
       → numbersOf (probeRows W L s i) ≡ 1 ∷ 5 ∷ 6 ∷ 7 ∷ 8 ∷ 14 ∷ 11 ∷ 9 ∷ 8 ∷ (replicate (headerOf s .sides) 15 ++ (10 ∷ []))
+  pub add : (L : ℕ) (s : List ℕ) (room : ℕ)
+      → numbersOf (addRows L s room) ≡ 1 ∷ 5 ∷ 6 ∷ 7 ∷ 8 ∷ 9 ∷ 8 ∷ (replicate (headerOf s .sides) 15 ++ replicate (headerOf s .chunks) 10 ++ (16 ∷ 4 ∷ []))
+  pub test : (L : ℕ) (s : List ℕ)
+      → numbersOf (testRows L s) ≡ 1 ∷ 5 ∷ 6 ∷ 7 ∷ 8 ∷ 9 ∷ 8 ∷ (replicate (headerOf s .sides) 15 ++ replicate (headerOf s .chunks) 10 ++ (17 ∷ []))
+  pub list : (W L x : ℕ) (s : List ℕ) (room : ℕ)
+      → numbersOf (listRows W L x s room)
+      ≡ 1 ∷ 2 ∷ 5 ∷ 6 ∷ 7 ∷ 8 ∷ 14 ∷ 9 ∷ 8 ∷ (replicate (headerOf s .sides) 15 ++ replicate (headerOf s .chunks) 10 ++ (17 ∷ 4 ∷ []))
 
 pub record Demand1 : Type 0 where
   pub order : StatedOrder
@@ -75,6 +86,14 @@ pub record Demand1 : Type 0 where
   pub probe64 : (L : ℕ) (s : List ℕ) (i old number detail : ℕ)
       → (probeAnswer64 L s i ≡ p64.Refused number detail ↔ Decides (probeRows 64 L s i) number detail)
       × (probeAnswer64 L s i ≡ p64.Refused number detail → probeOut64 (probeAnswer64 L s i) old ≡ old)
+  -- the summary: added into `out`, tested, and the chunks from x on listed into `out`
+  pub add : (L : ℕ) (s out : List ℕ) (number detail : ℕ)
+      → (addAnswer L s (length out) ≡ Refused number detail ↔ Decides (addRows L s (length out)) number detail)
+      × (addAnswer L s (length out) ≡ Refused number detail → addOut L s out ≡ out)
+  pub test : (L : ℕ) (s : List ℕ) (number detail : ℕ) → testAnswer L s ≡ Refused number detail ↔ Decides (testRows L s) number detail
+  pub list : (W L x : ℕ) (s out : List ℕ) (number detail : ℕ)
+      → (listAnswer W L x s (length out) ≡ Refused number detail ↔ Decides (listRows W L x s (length out)) number detail)
+      × (listAnswer W L x s (length out) ≡ Refused number detail → listOut W L x s out ≡ out)
   -- the number rules, whose details are 0. "Bound: 2 12 13": 2 for a width that is not known; when 12 and 13 are given is part of demand 2.
   -- A code and its way back: 2 for a k that is not allowed, then 10 for a u above the largest.
   pub bound : (W t : ℕ) → (knownWidth W ≡ false → boundAnswer W t ≡ UnknownWidth)
@@ -89,10 +108,6 @@ pub record Demand1 : Type 0 where
 -- pattern. Under tolerance 2^k, a value whose magnitude is below the threshold returns at most 2^k off, exactly; all else returns bit for bit,
 -- infinities and not-a-numbers too." (That the codes are SLEEK's is computed, on its Table II and on the values that document 01 marks:
 -- `sleek-known`, `marked-values`. Where SLEEK and document 01 differ, document 01 holds.)
-
--- "IEEE 754 decides what a bit pattern means": the format of a width
-unfoldable pub formatOf : ℕ → Format
-formatOf W = cond (eqb W 32) binary32 binary64
 
 -- How a pattern p comes back as q: in the modes 0 and 2, which `losslessMode` names, as itself. `Returned` is the tolerance in the words of IEEE 754. It
 -- counts in units of 2^-149 or 2^-1074, where the bin E = 2^(k+1) is 2 ^ binOf: twice the distance is at most E, so the distance is at most 2^k.
@@ -219,3 +234,45 @@ pub record NotSkipped : Type 0 where
       → RefusedBy W L (addSides (take size (packOut W level mode k vs out)) parts) (length vs) 8 0
   -- of any bytes, whatever else they are, in whose side table an entry i has an id from 2^31 up, every reader at every level refuses to hand out a value
   pub never : (L : ℕ) (s : List ℕ) (i : ℕ) → i < headerOf s .sides → 2 ^ 31 ≤ sideId (headerOf s) s i → RefusedByAll L s
+
+-- ---- Document 02, R-5: a summary beside the data. "Side part 1 holds, for each chunk: a count of not-a-numbers, the smallest and the largest other value
+-- as patterns .., all of the restored values": these bytes are `summary s`, and `withSummary s` is s with that part. Infinities are numbers. What smallest and
+-- largest mean is said in proofs/Meaning.antt of the crate `summary`, and in the words of IEEE 754 in its proofs/Ieee.antt.
+
+pub record SummaryBeside : Type 0 where
+  -- add takes what check accepts and what has no side parts, where there is room for the copy; side parts are 16
+  pub adds : (L : ℕ) (s out : List ℕ) (n : ℕ) → checkAnswer L s ≡ Done n
+      → (headerOf s .sides ≡ 0 → length (withSummary s) ≤ length out → addAnswer L s (length out) ≡ Done (length (withSummary s)))
+      × (0 < headerOf s .sides → addAnswer L s (length out) ≡ Refused 16 0)
+  -- it leaves the copy, and past it nothing is altered; "Adding a summary changes no value that any level shows": every reader makes of the copy what it makes
+  -- of s, at each level; the summary is true, and a test of the copy answers at each level what a check of s does
+  pub added : (L : ℕ) (s out : List ℕ) (size : ℕ) → Below 256 s → addAnswer L s (length out) ≡ Done size
+      → (size ≤ length out) × (size ≡ length (withSummary s)) × (addOut L s out ≡ withSummary s ++ drop size out)
+      × ReadAs s (take size (addOut L s out)) × TrueSummary (take size (addOut L s out))
+      × ((R : ℕ) → testAnswer R (take size (addOut L s out)) ≡ checkAnswer R s)
+  -- of the header only the number of side parts is another
+  pub header : (L : ℕ) (s out : List ℕ) (size : ℕ) → Below 256 s → addAnswer L s (length out) ≡ Done size → headerOf (take size (addOut L s out)) ≡ counted (headerOf s) 1
+  -- a test accepts exactly the true summaries of what a check accepts; all else of that is 17
+  pub tested : (L : ℕ) (s : List ℕ) (n : ℕ) → testAnswer L s ≡ Done n ↔ (checkAnswer L s ≡ Done n) × TrueSummary s
+  pub untrue : (L : ℕ) (s : List ℕ) (n : ℕ) → checkAnswer L s ≡ Done n → (TrueSummary s → ⊥) → testAnswer L s ≡ Refused 17 0
+  -- what a true summary says: it has 4 + 2·(W/8) bytes for each chunk, without gaps, and at the place of each the three numbers of the chunk's values
+  pub says : (L : ℕ) (s : List ℕ) (n : ℕ) → checkAnswer L s ≡ Done n → (t : TrueSummary s)
+      → let h = headerOf s in
+      (sideLength h s (t .entry) ≡ h .chunks * (4 + 2 * (h .width / 8)))
+      × ((j : ℕ) → j < h .chunks → Says (h .width) s (sidePlace h s (t .entry) + j * (4 + 2 * (h .width / 8))) (take 1024 (drop (1024 * j) (values s))))
+  -- a list is made of a true summary alone; it names exactly the chunks that hold some value at least x as IEEE 754 compares, each after a smaller one; and
+  -- past them nothing is altered
+  pub listed : (W L x : ℕ) (s out : List ℕ) (k : ℕ) → knownWidth W ≡ true → x < 2 ^ W → listAnswer W L x s (length out) ≡ Done k
+      → (k ≤ length out) × TrueSummary s
+      × ((j : ℕ) → ((i : ℕ) × (i < k) × (getD (listOut W L x s out) i 0 ≡ j)) ↔ HoldsSome (formatOf W) x s j)
+      × ((i : ℕ) → suc i < k → getD (listOut W L x s out) i 0 < getD (listOut W L x s out) (suc i) 0)
+      × (drop k (listOut W L x s out) ≡ drop k out)
+  -- and where a test of a stream of the width accepts, and x is a number, it is given in room for what it names, and else refused by 4 with how many that are
+  pub lists : (W L x : ℕ) (s : List ℕ) (n : ℕ) → knownWidth W ≡ true → testAnswer L s ≡ Done n → headerOf s .width ≡ W → (ofBits (formatOf W) x ≡ nan → ⊥)
+      → (k : ℕ) × ((out : List ℕ) → (k ≤ length out → listAnswer W L x s (length out) ≡ Done k) × (length out < k → listAnswer W L x s (length out) ≡ Refused 4 k))
+  -- an x that is a not-a-number is 2, whatever the bytes are
+  pub no-number : (W L x : ℕ) (s out : List ℕ) → knownWidth W ≡ true → knownLevel L ≡ true → ofBits (formatOf W) x ≡ nan → listAnswer W L x s (length out) ≡ Refused 2 0
+  -- bytes with a high id are refused here too (`NotSkipped`)
+  pub never : (L : ℕ) (s : List ℕ) (i : ℕ) → i < headerOf s .sides → 2 ^ 31 ≤ sideId (headerOf s) s i
+      → ((out : List ℕ) (n : ℕ) → addAnswer L s (length out) ≡ Done n → ⊥) × ((n : ℕ) → testAnswer L s ≡ Done n → ⊥)
+      × ((W x : ℕ) (out : List ℕ) (k : ℕ) → listAnswer W L x s (length out) ≡ Done k → ⊥)

@@ -11,7 +11,7 @@ use Rattle.stream.specs.declared.answers.Probe64.{Probe64}
 use Rattle.stream.specs.declared.answers.Probe64.the-variants as p64
 use Rattle.gwizdorad_numbers.specs.Result.{result}
 
--- ---- pack, length, unpack and check
+-- ---- every operation but probe
 
 unfoldable pub answerResult : Answer → ℕ
 answerResult a = result (answerNumber a) (answerDetail a)

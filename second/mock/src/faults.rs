@@ -109,6 +109,116 @@ faults! {
     /// The chunks are refused before a high id.
     order_10_before_15,
 
+    // What a summary holds.
+    /// -0 stands above 0.
+    minus_zero_above_zero,
+    /// -0 and 0 are alike, so that the first of them stands.
+    zeros_alike,
+    /// A not-a-number without a sign is a value, and so the largest.
+    nan_as_largest,
+    /// The smallest and the largest pattern, not value.
+    summary_by_pattern,
+    /// Infinities are no values.
+    infinities_left_out,
+    /// Infinities are counted as not-a-numbers.
+    infinities_counted,
+    /// A chunk of not-a-numbers holds the first of them twice, not 0 and 0.
+    nan_chunk_keeps_pattern,
+    /// Signalling not-a-numbers are not counted.
+    signalling_uncounted,
+    /// Not-a-numbers with a sign are not counted.
+    negative_nan_uncounted,
+    /// A short last chunk is filled up with zeros.
+    last_chunk_filled,
+    /// The entry of each chunk is that of the first.
+    summary_of_first_chunk,
+    /// At width 64 the patterns begin at a whole number of their sizes.
+    gap_behind_count,
+
+    // A summary added.
+    /// The written minor is raised to the level.
+    written_raised,
+    /// The needed minor is raised to 9.
+    need_raised,
+    /// The part's place is told as that of the table.
+    place_of_table_told,
+    /// A summary is added at level 12 alone.
+    summary_needs_12,
+    /// A stream that has a true summary and no more is copied, not refused.
+    added_again,
+    /// A short room is refused before side parts.
+    order_4_before_16,
+    /// Side parts are refused before the chunks.
+    order_16_before_10,
+    /// What fits is written before a short room is refused.
+    short_copy_written,
+    /// Refusal 4 tells the bytes of the part alone.
+    part_told,
+
+    // A summary tested.
+    /// A summary is found only where it is the one side part.
+    further_parts_refused,
+    /// The first side part is taken for the summary, whatever its id.
+    first_part_taken,
+    /// A stream without side parts passes.
+    no_part_passes,
+    /// Bytes behind the last entry are not looked at.
+    longer_part_read,
+    /// The counts are not looked at.
+    counts_untested,
+    /// The smallest values are not looked at.
+    smallest_untested,
+    /// The first entry alone is looked at.
+    first_entry_tested,
+    /// The empty summary of no values is none.
+    empty_summary_refused,
+    /// No part, or one of another length, is refused before the chunks.
+    order_17_before_10,
+
+    // Chunks listed by a summary.
+    /// x is compared by its pattern, not by its value.
+    x_by_pattern,
+    /// A value equal to x does not count.
+    above_x_only,
+    /// -0 is below 0.
+    minus_zero_below_zero,
+    /// At width 64 only the upper halves are compared.
+    high_half_compared,
+    /// A chunk of not-a-numbers counts as one of zeros.
+    nan_chunk_listed,
+    /// An infinity is at least no x.
+    infinities_not_listed,
+    /// The smallest value has to be at least x.
+    smallest_compared,
+    /// The last chunk is listed twice.
+    chunk_listed_twice,
+    /// The chunks stand in falling order.
+    chunks_descending,
+    /// The chunks are counted from 1.
+    chunks_counted_from_1,
+    /// A false summary of the right length is not refused.
+    list_without_test,
+    /// An infinite x is refused 2.
+    infinite_x_refused,
+    /// A signalling not-a-number is taken for an x.
+    signalling_x_taken,
+    /// x is looked at before the level.
+    order_2_before_1,
+    /// A short stream is refused before x.
+    order_5_before_2,
+    /// The list refuses the tables before the other width.
+    order_9_before_14,
+    /// A short room is refused before a false summary.
+    order_4_before_17,
+    /// Room for all chunks is asked for.
+    room_for_all_chunks,
+    /// Refusal 4 tells the count of all chunks.
+    all_chunks_told,
+    /// What fits is written before a short room is refused.
+    short_list_written,
+    /// The element after the last number is written.
+    past_list_written,
+
     // Pack and length.
     /// Refusal 4 has the room as its detail.
     detail_of_4,

@@ -9,6 +9,7 @@ mod naming;
 mod needs;
 mod packing;
 mod reading;
+mod summaries;
 
 use faults::{planted, Fault};
 use second::numbers::{Tolerance, Width, WIDTH_32, WIDTH_64};
@@ -54,6 +55,27 @@ pub unsafe extern "C" fn gwz_check(level: u32, bytes: *const u8, len: usize) -> 
     packed_number(reading::check(level, from_raw_parts(bytes, len)))
 }
 
+/// # Safety
+/// The bytes must be readable, the room writable.
+#[no_mangle]
+pub unsafe extern "C" fn gwz_add_summary(
+    level: u32,
+    bytes: *const u8,
+    len: usize,
+    out: *mut u8,
+    room: usize,
+) -> u64 {
+    let (stream, out) = (from_raw_parts(bytes, len), from_raw_parts_mut(out, room));
+    packed_number(summaries::add(level, stream, out))
+}
+
+/// # Safety
+/// The bytes must be readable.
+#[no_mangle]
+pub unsafe extern "C" fn gwz_test_summary(level: u32, bytes: *const u8, len: usize) -> u64 {
+    packed_number(summaries::test(level, from_raw_parts(bytes, len)))
+}
+
 #[no_mangle]
 pub extern "C" fn gwz_bound(width: u32, tolerance: u64) -> u64 {
     packed_number(codes::bound(width, tolerance).map(|k| k as u32 as u64))
@@ -61,7 +83,7 @@ pub extern "C" fn gwz_bound(width: u32, tolerance: u64) -> u64 {
 
 macro_rules! operations {
     ($word:ident, $width:ident, $pack:ident, $length:ident, $unpack:ident, $probe:ident,
-     $lossless_code:ident, $lossless_restored:ident, $tolerance_code:ident,
+     $chunks_from:ident, $lossless_code:ident, $lossless_restored:ident, $tolerance_code:ident,
      $tolerance_restored:ident) => {
         /// # Safety
         /// The values must be readable, the room writable.
@@ -132,6 +154,21 @@ macro_rules! operations {
             write_one(result, pattern)
         }
 
+        /// # Safety
+        /// The bytes must be readable, the room writable.
+        #[no_mangle]
+        pub unsafe extern "C" fn $chunks_from(
+            level: u32,
+            x: $word,
+            bytes: *const u8,
+            len: usize,
+            out: *mut u32,
+            room: usize,
+        ) -> u64 {
+            let (stream, out) = (from_raw_parts(bytes, len), from_raw_parts_mut(out, room));
+            packed_number(summaries::chunks_from(level, x, stream, out))
+        }
+
         #[no_mangle]
         pub extern "C" fn $lossless_code(pattern: $word) -> $word {
             codes::lossless_code($width, pattern as u64) as $word
@@ -172,6 +209,7 @@ operations!(
     gwz_length32,
     gwz_unpack32,
     gwz_probe32,
+    gwz_chunks_from32,
     gwz_lossless_code32,
     gwz_lossless_restored32,
     gwz_tolerance_code32,
@@ -184,6 +222,7 @@ operations!(
     gwz_length64,
     gwz_unpack64,
     gwz_probe64,
+    gwz_chunks_from64,
     gwz_lossless_code64,
     gwz_lossless_restored64,
     gwz_tolerance_code64,

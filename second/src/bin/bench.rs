@@ -7,7 +7,7 @@
 
 #![deny(unsafe_code)]
 
-#[allow(unsafe_code, dead_code)] // the number rules are not measured
+#[allow(unsafe_code, dead_code)] // the summaries and the number rules are not measured
 #[macro_use]
 #[path = "../ffi.rs"]
 mod ffi;

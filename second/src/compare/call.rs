@@ -56,21 +56,79 @@ impl List {
 /// are lent by whoever makes the call; `room` is how many elements.
 #[derive(Clone, Copy)]
 pub enum Call<'a> {
-    Pack { level: u32, mode: u32, k: i32, values: Values<'a>, room: usize },
-    Length { level: u32, mode: u32, k: i32, values: Values<'a> },
-    Unpack { width: Width, level: u32, stream: &'a [u8], room: usize },
-    Check { level: u32, stream: &'a [u8] },
-    Probe { width: Width, level: u32, stream: &'a [u8], index: u64 },
-    Bound { width: u32, tolerance: u64 },
-    LosslessCode { width: Width, pattern: u64 },
-    LosslessRestored { width: Width, code: u64 },
-    ToleranceCode { width: Width, k: i32, pattern: u64 },
-    ToleranceRestored { width: Width, k: i32, code: u64 },
+    Pack {
+        level: u32,
+        mode: u32,
+        k: i32,
+        values: Values<'a>,
+        room: usize,
+    },
+    Length {
+        level: u32,
+        mode: u32,
+        k: i32,
+        values: Values<'a>,
+    },
+    Unpack {
+        width: Width,
+        level: u32,
+        stream: &'a [u8],
+        room: usize,
+    },
+    Check {
+        level: u32,
+        stream: &'a [u8],
+    },
+    Probe {
+        width: Width,
+        level: u32,
+        stream: &'a [u8],
+        index: u64,
+    },
+    AddSummary {
+        level: u32,
+        stream: &'a [u8],
+        room: usize,
+    },
+    TestSummary {
+        level: u32,
+        stream: &'a [u8],
+    },
+    /// The room is told in chunk numbers, at both widths of 32 bits.
+    ChunksFrom {
+        width: Width,
+        level: u32,
+        x: u64,
+        stream: &'a [u8],
+        room: usize,
+    },
+    Bound {
+        width: u32,
+        tolerance: u64,
+    },
+    LosslessCode {
+        width: Width,
+        pattern: u64,
+    },
+    LosslessRestored {
+        width: Width,
+        code: u64,
+    },
+    ToleranceCode {
+        width: Width,
+        k: i32,
+        pattern: u64,
+    },
+    ToleranceRestored {
+        width: Width,
+        k: i32,
+        code: u64,
+    },
 }
 
 /// Every operation with the answer numbers it can give, 0 for success. The
 /// lossless codes answer no number, but the code or pattern itself.
-pub const OPERATIONS: [(&str, &[u32]); 18] = [
+pub const OPERATIONS: [(&str, &[u32]); 22] = [
     ("pack32", &[0, 1, 2, 3, 4]),
     ("pack64", &[0, 1, 2, 3, 4]),
     ("length32", &[0, 1, 2, 3]),
@@ -80,6 +138,10 @@ pub const OPERATIONS: [(&str, &[u32]); 18] = [
     ("unpack64", &[0, 1, 5, 6, 7, 8, 14, 4, 9, 15, 10]),
     ("probe32", &[0, 1, 5, 6, 7, 8, 14, 11, 9, 15, 10]),
     ("probe64", &[0, 1, 5, 6, 7, 8, 14, 11, 9, 15, 10]),
+    ("add_summary", &[0, 1, 5, 6, 7, 8, 9, 15, 10, 16, 4]),
+    ("test_summary", &[0, 1, 5, 6, 7, 8, 9, 15, 10, 17]),
+    ("chunks_from32", &[0, 1, 2, 5, 6, 7, 8, 14, 9, 15, 10, 17, 4]),
+    ("chunks_from64", &[0, 1, 2, 5, 6, 7, 8, 14, 9, 15, 10, 17, 4]),
     ("bound", &[0, 2, 12, 13]),
     ("lossless_code32", &[0]),
     ("lossless_code64", &[0]),
@@ -100,6 +162,9 @@ impl Call<'_> {
             Call::Unpack { width, .. } => of_width(*width, ["unpack32", "unpack64"]),
             Call::Check { .. } => "check",
             Call::Probe { width, .. } => of_width(*width, ["probe32", "probe64"]),
+            Call::AddSummary { .. } => "add_summary",
+            Call::TestSummary { .. } => "test_summary",
+            Call::ChunksFrom { width, .. } => of_width(*width, ["chunks_from32", "chunks_from64"]),
             Call::Bound { .. } => "bound",
             Call::LosslessCode { width, .. } => {
                 of_width(*width, ["lossless_code32", "lossless_code64"])
@@ -160,16 +225,20 @@ impl fmt::Display for Call<'_> {
                 write!(f, "level {level} mode {mode} k {k} ")?;
                 write_values(f, values)
             }
-            Call::Unpack { level, stream, room, .. } => {
+            Call::Unpack { level, stream, room, .. } | Call::AddSummary { level, stream, room } => {
                 write!(f, "level {level} room {room} ")?;
                 write_stream(f, stream)
             }
-            Call::Check { level, stream } => {
+            Call::Check { level, stream } | Call::TestSummary { level, stream } => {
                 write!(f, "level {level} ")?;
                 write_stream(f, stream)
             }
             Call::Probe { level, stream, index, .. } => {
                 write!(f, "level {level} index {index} ")?;
+                write_stream(f, stream)
+            }
+            Call::ChunksFrom { level, x, stream, room, .. } => {
+                write!(f, "level {level} x {x:x} room {room} ")?;
                 write_stream(f, stream)
             }
             Call::Bound { width, tolerance } => write!(f, "width {width} tolerance {tolerance:x}"),

@@ -79,9 +79,13 @@ impl<W: Write, R: Read> Wire<W, R> {
                 Values::Singles(values) => self.bare(call, values),
                 Values::Doubles(values) => self.bare(call, values),
             },
-            Call::Check { stream, .. } => self.bare(call, stream),
+            Call::Check { stream, .. } | Call::TestSummary { stream, .. } => {
+                self.bare(call, stream)
+            }
             Call::Unpack { width, stream, room, .. } => self.of_width(call, width, stream, room),
             Call::Probe { width, stream, .. } => self.of_width(call, width, stream, 1),
+            Call::AddSummary { stream, room, .. } => self.lending::<u8, _>(call, stream, room),
+            Call::ChunksFrom { stream, room, .. } => self.lending::<u32, _>(call, stream, room),
             Call::ToleranceCode { width, .. } | Call::ToleranceRestored { width, .. } => {
                 self.of_width(call, width, &[], 1)
             }
@@ -203,8 +207,12 @@ impl Numbers {
             Call::Pack { level, mode, k, .. } | Call::Length { level, mode, k, .. } => {
                 Numbers { level, mode, k, ..none }
             }
-            Call::Unpack { level, .. } | Call::Check { level, .. } => Numbers { level, ..none },
+            Call::Unpack { level, .. }
+            | Call::Check { level, .. }
+            | Call::AddSummary { level, .. }
+            | Call::TestSummary { level, .. } => Numbers { level, ..none },
             Call::Probe { level, index, .. } => Numbers { level, number: index, ..none },
+            Call::ChunksFrom { level, x, .. } => Numbers { level, number: x, ..none },
             Call::Bound { width, tolerance } => Numbers { width, number: tolerance, ..none },
             Call::LosslessCode { pattern, .. } => Numbers { number: pattern, ..none },
             Call::LosslessRestored { code, .. } => Numbers { number: code, ..none },

@@ -130,7 +130,7 @@ pub fn bytes_altered(judge: &mut Judge, rng: &mut XorShift, extent: Extent) {
     }
 }
 
-fn other_bytes(rng: &mut XorShift, byte: u8, extent: Extent) -> Vec<u8> {
+pub fn other_bytes(rng: &mut XorShift, byte: u8, extent: Extent) -> Vec<u8> {
     let mut others: Vec<u8> = (0..8).map(|bit| byte ^ 1 << bit).collect();
     others.extend([0, 255, byte.wrapping_add(1), byte.wrapping_sub(1), rng.next() as u8]);
     without(byte, others, rng, extent)
@@ -193,7 +193,7 @@ pub fn header_numbers(judge: &mut Judge, _: &mut XorShift, extent: Extent) {
 
 /// Numbers to put in place of a header number: those near it, those near any
 /// rule's limit, and those that come out right in 32 bits only.
-fn other_numbers(stream: &[u8], order: usize) -> Vec<u32> {
+pub fn other_numbers(stream: &[u8], order: usize) -> Vec<u32> {
     let old = number_at(stream, order).unwrap_or(0);
     let length = stream.len() as u32;
     #[rustfmt::skip]
@@ -281,7 +281,7 @@ pub fn damaged_stream(rng: &mut XorShift) -> Vec<u8> {
     stream
 }
 
-fn damage(rng: &mut XorShift, stream: &mut Vec<u8>) {
+pub fn damage(rng: &mut XorShift, stream: &mut Vec<u8>) {
     if stream.len() <= HEADER_BYTES {
         stream.push(rng.next() as u8);
         return;

@@ -12,7 +12,17 @@ use std::io::Write;
 pub type Library<'a> = &'a dyn Fn(&Call) -> Outcome;
 
 /// The operations that refuse 10 because of a group.
-const READERS: [&str; 5] = ["check", "unpack32", "unpack64", "probe32", "probe64"];
+const READERS: [&str; 9] = [
+    "check",
+    "unpack32",
+    "unpack64",
+    "probe32",
+    "probe64",
+    "add_summary",
+    "test_summary",
+    "chunks_from32",
+    "chunks_from64",
+];
 
 /// How often each answer number was met.
 type Met = BTreeMap<u32, u64>;

@@ -5,7 +5,7 @@ use super::call::{Call, List};
 use super::judge::Judge;
 use super::outcome::refused;
 use super::random::XorShift;
-use super::streams::{bytes_of, stream_of_codes, LEVELS};
+use super::streams::{bytes_of, stated_count, stream_of_codes, LEVELS};
 use super::Extent;
 use crate::numbers::{Width, WIDTH_32, WIDTH_64};
 use crate::stream::HIGHEST_LEVEL;
@@ -90,6 +90,8 @@ pub fn known_values(judge: &mut Judge, _: &mut XorShift, _: Extent) {
     differences(judge, WIDTH_64, &DIFFERENCES_64);
     example_of_differences(judge);
     example_of_high_ids(judge);
+    example_of_summary(judge);
+    summary_of_two_chunks(judge);
 }
 
 fn lossless_codes(judge: &mut Judge) {
@@ -195,6 +197,74 @@ fn example_of_high_ids(judge: &mut Judge) {
     }
 }
 
+/// The example with its summary: no not-a-number, the smallest -0, the largest
+/// 2^-149. The part follows a table of one entry.
+fn example_of_summary(judge: &mut Judge) {
+    let (width, level) = (WIDTH_32, 8);
+    let mut plain = bytes_of(&[1, 8, 8, 32, 0, 0, 3, 1, 48, 52, 0, 55, 0]);
+    plain.extend([0x03, 0x10, 0x01]);
+    let mut copy = bytes_of(&[1, 8, 8, 32, 0, 0, 3, 1, 48, 52, 1, 55, 0]);
+    copy.extend([0x03, 0x10, 0x01]);
+    copy.extend(bytes_of(&[1, 67, 12, 0, 0x8000_0000, 1]));
+    compare_summary(judge, level, &plain, &copy);
+    let [plain, copy] = [&plain, &copy];
+    for (stream, number) in [(plain, 17), (copy, 0)] {
+        judge.compare_meant(Call::TestSummary { level, stream }, number);
+    }
+    let twice = Call::AddSummary { level, stream: copy, room: 200 };
+    judge.compare_known(twice, refused(Refusal::bare(16)), &[]);
+    for (x, listed) in [
+        (0, &[0][..]),
+        (0x8000_0000, &[0]),
+        (1, &[0]),
+        (2, &[]),
+        (0x7F80_0000, &[]),
+        (0xFF80_0000, &[0]),
+        (0x8000_0001, &[0]),
+    ] {
+        let list = Call::ChunksFrom { width, level, x, stream: copy, room: 3 };
+        judge.compare_known(list, listed.len() as u64, listed);
+    }
+    let list = |x, room| Call::ChunksFrom { width, level, x, stream: copy, room };
+    judge.compare_known(list(0x7FC0_0000, 3), refused(Refusal::bare(2)), &[]);
+    judge.compare_known(list(0, 0), refused(Refusal::with_detail(4, 1)), &[]);
+}
+
+/// 1,025 doubles in mode 2, all the same not-a-number but for an infinity at the
+/// end: the first chunk is never listed, though its summary holds 0 and 0.
+fn summary_of_two_chunks(judge: &mut Judge) {
+    let (width, level) = (WIDTH_64, 11);
+    // All bits set is the difference -1, code 1; -infinity is -2^52, code 2^53 - 1.
+    let mut codes = vec![0; 1025];
+    codes[0] = 1;
+    codes[1024] = (1 << 53) - 1;
+    let plain = stream_of_codes(width, 2, 0, &codes);
+    let mut copy = plain.clone();
+    copy[40] = 1;
+    copy.extend(bytes_of(&[1, plain.len() as u32 + 12, 40]));
+    copy.extend(bytes_of(&[1024, 0, 0, 0, 0, 0, 0, 0xFFF0_0000, 0, 0xFFF0_0000]));
+    compare_summary(judge, level, &plain, &copy);
+    let minus_infinity = 0xFFF0 << 48;
+    for (x, listed) in [(minus_infinity, &[1][..]), (minus_infinity - 1, &[]), (0, &[])] {
+        let list = Call::ChunksFrom { width, level, x, stream: &copy, room: 3 };
+        judge.compare_known(list, listed.len() as u64, listed);
+    }
+}
+
+/// The summary is added as the copy has it, and is true.
+fn compare_summary(judge: &mut Judge, level: u32, plain: &[u8], copy: &[u8]) {
+    let bytes: Vec<u64> = copy.iter().map(|&byte| byte as u64).collect();
+    let length = copy.len();
+    let add = |room| Call::AddSummary { level, stream: plain, room };
+    judge.compare_known(add(length), length as u64, &bytes);
+    judge.compare_known(add(length - 1), refused(Refusal::with_detail(4, length as u64)), &[]);
+    let n = stated_count(plain);
+    for stream in [plain, copy] {
+        judge.compare_known(Call::Check { level, stream }, n, &[]);
+    }
+    judge.compare_known(Call::TestSummary { level, stream: copy }, n, &[]);
+}
+
 // ----------------------------------------------------------- whole lists
 
 /// A list and its stream at a level, in a mode whose k is 0 and which alters no
@@ -238,7 +308,7 @@ impl KnownList {
 }
 
 /// Probe's answer for a pattern: 0 finite, 1 infinity, 2 not-a-number.
-fn kind_of(width: Width, pattern: u64) -> u64 {
+pub fn kind_of(width: Width, pattern: u64) -> u64 {
     let infinity = width.greatest_field() << width.fraction_bits();
     let ordinal = width.ordinal(pattern);
     (ordinal >= infinity) as u64 + (ordinal > infinity) as u64

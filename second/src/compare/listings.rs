@@ -1,8 +1,9 @@
 //! Inputs for the listing program: sound streams, their cuts, damaged ones,
-//! one for each bad group, some with right and with wrong needs, and some about
-//! as long as a listing takes.
+//! one for each bad group, some with right and with wrong needs, some with a
+//! summary, and some about as long as a listing takes.
 
 use super::damage::{damaged_stream, small_streams, some_stream};
+use super::falsified::streams_with_summary;
 use super::needs::streams_with_needs;
 use super::places::streams_with_bad_group;
 use super::random::XorShift;
@@ -27,6 +28,7 @@ pub fn inputs(seed: u64, extent: Extent) -> Vec<Vec<u8>> {
     }
     inputs.extend(streams_with_bad_group());
     inputs.extend(streams_with_needs());
+    inputs.extend(streams_with_summary(&mut rng));
     inputs
 }
 

@@ -7,8 +7,10 @@
 //! * [`judge`]: compares and counts; `shrink`: shortens a differing input.
 //! * [`random`]: the seeded generator of patterns and lists; [`walks`]: lists
 //!   that suit mode 2.
+//! * `summaries`: streams and their summaries.
 //! * `known`, `rules`, `lists`, `orders`, `damage`, `tables`, `groups`,
-//!   `places`, `differences`, `needs`: the sections, each a source of calls.
+//!   `places`, `differences`, `needs`, `adding`, `falsified`: the sections, each a
+//!   source of calls.
 //! * [`listings`]: the inputs for the listing program, which is run apart.
 
 pub mod call;
@@ -22,8 +24,10 @@ pub mod random;
 pub mod reference;
 pub mod walks;
 
+mod adding;
 mod damage;
 mod differences;
+mod falsified;
 mod groups;
 mod lists;
 mod needs;
@@ -33,6 +37,7 @@ mod readings;
 mod rules;
 mod shrink;
 mod streams;
+mod summaries;
 mod tables;
 
 use judge::{Judge, Library};
@@ -69,7 +74,7 @@ pub struct Options {
 
 type Section = (&'static str, fn(&mut Judge, &mut XorShift, Extent));
 
-const SECTIONS: [Section; 24] = [
+const SECTIONS: [Section; 27] = [
     ("known values", known::known_values),
     ("lossless codes", rules::lossless_codes),
     ("tolerance codes", rules::tolerance_codes),
@@ -94,6 +99,9 @@ const SECTIONS: [Section; 24] = [
     ("the first bad group", places::places),
     ("differences", differences::differences),
     ("needs and high ids", needs::needs),
+    ("summaries", adding::added),
+    ("false summaries", falsified::falsified),
+    ("summaries in damaged streams", falsified::damaged),
 ];
 
 const BRIEF_SECTIONS: [Section; 6] = [
@@ -113,7 +121,7 @@ pub fn run(options: &Options, library: Library, out: &mut dyn Write) -> bool {
     judge.finish()
 }
 
-/// Puts some 190,000 calls with random lists and damaged streams to an
+/// Puts some 240,000 calls with random lists and damaged streams to an
 /// implementation of the operations, in a second or two; writes how it differs
 /// from the reference, and answers whether it never does.
 pub fn run_briefly(library: Library, out: &mut dyn Write) -> bool {

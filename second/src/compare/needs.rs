@@ -5,7 +5,7 @@
 use super::call::Call;
 use super::groups::Setting;
 use super::judge::Judge;
-use super::outcome::answered;
+use super::outcome::{answered, refused};
 use super::random::{XorShift, WIDTHS};
 use super::streams::*;
 use super::tables::{sided, sound_entries, Entry};
@@ -19,8 +19,10 @@ pub fn needs(judge: &mut Judge, rng: &mut XorShift, extent: Extent) {
         for ids in IDS {
             let bases = bases_of(setting, ids);
             let cases = [near_cases(&bases), far_cases(rng, &bases)].concat();
-            for case in cases.into_iter().filter(|_| rng.chance(one_in)) {
-                case.compare(judge);
+            for case in cases {
+                if rng.chance(one_in) {
+                    case.compare(judge, rng);
+                }
             }
         }
     }
@@ -81,6 +83,7 @@ const BAD_GROUP: u64 = 1;
 /// A stream of which all but the two minors is settled.
 struct Base {
     setting: Setting,
+    sided: bool,
     high_id: Option<u32>,
     tables_hold: bool,
     chunk_holds: bool,
@@ -97,7 +100,8 @@ fn bases_of(setting: Setting, ids: &[u32]) -> Vec<Base> {
         let sound = sound_tables(plain.len(), ids);
         let mut add = |tables: &Tables, tables_hold| {
             let stream = with_tables(&plain, tables);
-            bases.push(Base { setting, high_id, tables_hold, chunk_holds, stream });
+            let sided = !ids.is_empty();
+            bases.push(Base { setting, sided, high_id, tables_hold, chunk_holds, stream });
         };
         add(&sound, true);
         for (_, alter) in TABLE_FAULTS.iter().filter(|(sides, _)| *sides <= ids.len()) {
@@ -196,7 +200,7 @@ fn written_minors(needed: u32) -> [u32; 3] {
 impl Case<'_> {
     /// Puts the stream to every reader, with and without a fault of the call's
     /// own: the other width, too little room, an index that is too large.
-    fn compare(&self, judge: &mut Judge) {
+    fn compare(&self, judge: &mut Judge, rng: &mut XorShift) {
         let Case { base, written, needed, level } = *self;
         let (stream, n) = (&base.with_minors(written, needed), VALUES as u64);
         let answer = |own: Option<Refusal>, success: u64| {
@@ -215,6 +219,37 @@ impl Case<'_> {
                 let refusal = (index == n).then_some(Refusal::bare(11));
                 let probe = Call::Probe { width, level, stream, index };
                 judge.compare_known(probe, answer(other.or(refusal), 0), &[]);
+            }
+        }
+        self.compare_summary(judge, rng, stream);
+    }
+
+    /// Puts the stream to one of the operations of a summary: it has none, and for
+    /// one to be added there is no room.
+    fn compare_summary(&self, judge: &mut Judge, rng: &mut XorShift, stream: &[u8]) {
+        let Case { base: Base { setting, sided, .. }, level, .. } = *self;
+        let refusal = |own: Option<Refusal>, last: Refusal| {
+            let met = self.header_refusal().or(own).or(self.later_refusal());
+            refused(met.unwrap_or(last))
+        };
+        let (no_summary, room) = (Refusal::bare(17), 0);
+        match rng.below(3) {
+            0 => {
+                let part = 4 + setting.width.bits() as usize / 4; // the entry of one chunk
+                let short = Refusal::with_detail(4, (stream.len() + 12 + part) as u64);
+                let last = if *sided { Refusal::bare(16) } else { short };
+                let add = Call::AddSummary { level, stream, room };
+                judge.compare_known(add, refusal(None, last), &[]);
+            }
+            1 => {
+                let test = Call::TestSummary { level, stream };
+                judge.compare_known(test, refusal(None, no_summary), &[]);
+            }
+            _ => {
+                let width = rng.one_of(&WIDTHS);
+                let other = (width != setting.width).then_some(Refusal::bare(14));
+                let list = Call::ChunksFrom { width, level, x: 0, stream, room };
+                judge.compare_known(list, refusal(other, no_summary), &[]);
             }
         }
     }

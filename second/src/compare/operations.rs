@@ -28,7 +28,7 @@ pub trait Operations<P> {
 }
 
 /// What an implementation makes of a call; nothing for a call of the number
-/// rules, which are no operations.
+/// rules, which are no operations, and of the summaries, which not all have.
 pub fn by_operations<L: Operations<u32> + Operations<u64>>(call: &Call) -> Option<Outcome> {
     match *call {
         Call::Pack { level, mode, k, values, room } => {

@@ -3,11 +3,13 @@
 
 use super::call::{Call, List};
 use super::judge::Judge;
-use super::random::{XorShift, WIDTHS};
+use super::random::{other_width, XorShift, WIDTHS};
 use super::streams::*;
+use super::summaries::{not_numbers, Field, SUMMARY_ID};
 use super::Extent;
 use crate::numbers::{Width, WIDTH_32, WIDTH_64};
 use crate::stream::{HIGHEST_LEVEL, MOST_VALUES};
+use std::ops::Range;
 
 // ------------------------------------------------------ pack and length
 
@@ -80,15 +82,32 @@ fn pack_as_meant(judge: &mut Judge, packing: &Packing, number: u32) {
 
 // --------------------------------------------------------------- readers
 
-/// What a reader is told: check only level and stream, unpack also the room,
-/// probe also the index.
+/// What a reader is told: check only level and stream, some also a room, probe
+/// the index, the list x.
 #[derive(Clone)]
 struct Reading {
     width: Width,
     level: u32,
     stream: Vec<u8>,
-    room: usize,
+    exact: Rooms,
+    /// How much of the room is missing.
+    missing: usize,
     index: u64,
+    x: u64,
+}
+
+/// The elements that each reader needs which is lent an output.
+#[derive(Clone, Copy)]
+struct Rooms {
+    values: usize,
+    copy: usize,
+    chunks: usize,
+}
+
+impl Reading {
+    fn room(&self, exact: usize) -> usize {
+        exact.saturating_sub(self.missing)
+    }
 }
 
 /// A rule of the readers, by the number of its refusal. The late use of 8, after
@@ -109,11 +128,14 @@ type ReadingBreak = (Rule, fn(&mut Reading));
 
 /// Each breaks one rule in a sound reading, or in one whose later rules are
 /// broken.
-const READING_BREAKS: [ReadingBreak; 61] = [
+const READING_BREAKS: [ReadingBreak; 73] = [
     (1, |r| r.level = 7),
     (1, |r| r.level = 13),
     (1, |r| r.level = 0),
     (1, |r| r.level = u32::MAX),
+    (2, |r| r.x = not_numbers(r.width)[0]),
+    (2, |r| r.x = not_numbers(r.width)[1]),
+    (2, |r| r.x = not_numbers(r.width)[5]),
     (5, |r| r.stream.truncate(47)),
     (5, |r| r.stream.truncate(4)),
     (5, |r| r.stream.clear()),
@@ -162,9 +184,9 @@ const READING_BREAKS: [ReadingBreak; 61] = [
     (8, |r| put(&mut r.stream, SIDES, 65)),
     (8, |r| put(&mut r.stream, DATA_END, 47)),
     (8, |r| put(&mut r.stream, DATA_END, u32::MAX)),
-    (14, |r| r.width = other(r.width)),
-    (4, |r| r.room = 0),
-    (4, |r| r.room -= 1),
+    (14, |r| r.width = other_width(r.width)),
+    (4, |r| r.missing = usize::MAX),
+    (4, |r| r.missing = 1),
     (11, |r| r.index = stated_count(&r.stream)),
     (11, |r| r.index = 1 << 32),
     (11, |r| r.index = u64::MAX),
@@ -188,6 +210,22 @@ const READING_BREAKS: [ReadingBreak; 61] = [
     (10, |r| put_width_byte(&mut r.stream, FIRST_GROUP, 9)),
     (10, |r| put_width_byte(&mut r.stream, SECOND_GROUP, 255)),
     (10, |r| put_width_byte(&mut r.stream, SECOND_GROUP, 1)),
+    (16, |r| append_sides(&mut r.stream, &[(0, vec![])])),
+    (16, |r| append_sides(&mut r.stream, &[(7, vec![1, 2])])),
+    (16, |r| {
+        let part = Field::of_stream(r.stream.clone()).part();
+        append_sides(&mut r.stream, &[(SUMMARY_ID, part)]);
+    }),
+    (17, |r| {
+        let table = number_at(&r.stream, DATA_END).unwrap_or(0);
+        r.stream.truncate(table as usize);
+        put(&mut r.stream, SIDES, 0);
+    }),
+    (17, |r| alter_summary(&mut r.stream, |stream, entry, _| put_at(stream, entry, 2))),
+    (17, |r| alter_summary(&mut r.stream, |stream, _, part| stream[part.start] ^= 1)),
+    (17, |r| alter_summary(&mut r.stream, |stream, _, part| stream[part.start + 4] ^= 1)),
+    (17, |r| alter_summary(&mut r.stream, |stream, _, part| stream[part.end - 1] ^= 0x80)),
+    (17, |r| alter_summary(&mut r.stream, |stream, _, part| stream[part].fill(0xFF))),
 ];
 
 /// Where the first two groups of a sound reading begin, counted from the data.
@@ -223,11 +261,16 @@ fn put_high_id(stream: &mut Vec<u8>, id: u32, need: u32) {
     put(stream, NEEDED, need);
 }
 
-fn other(width: Width) -> Width {
-    if width == WIDTH_32 {
-        WIDTH_64
-    } else {
-        WIDTH_32
+/// Alters the entry of the summary in the side table, or its part, told the place
+/// of the one and of the other.
+fn alter_summary(stream: &mut Vec<u8>, alter: fn(&mut Vec<u8>, usize, Range<usize>)) {
+    let number = |place: usize| number_at(&stream[place..], 0).unwrap_or(0) as usize;
+    let entries = (number(4 * DATA_END)..).step_by(12);
+    let entry = entries.take(number(4 * SIDES)).find(|&place| number(place) == SUMMARY_ID as usize);
+    if let Some(entry) = entry {
+        let start = number(entry + 4);
+        let part = start..start + number(entry + 8);
+        alter(stream, entry, part);
     }
 }
 
@@ -238,24 +281,65 @@ fn put_width_byte(stream: &mut [u8], group: usize, w: u8) {
     }
 }
 
-/// A reader, its order of refusals, and its call.
+/// The side parts of a stream, told its summary.
+type Sides = fn(Vec<u8>) -> Vec<Side>;
+
+/// A reader, its order of refusals, the side parts that it does not refuse, and
+/// its call.
 struct Reader {
     order: &'static [Rule],
+    sides: &'static [Sides],
     call: fn(&Reading) -> Call,
 }
 
-const READERS: [Reader; 3] = [
+/// None, and some.
+const ANY_SIDES: &[Sides] = &[|_| vec![], |_| vec![(7, vec![1, 2]), (9, vec![])]];
+const NO_SIDES: &[Sides] = &[|_| vec![]];
+/// The summary, alone and among others.
+const WITH_SUMMARY: &[Sides] = &[
+    |summary| vec![(SUMMARY_ID, summary)],
+    |summary| vec![(0, vec![]), (SUMMARY_ID, summary), (77, vec![1, 2])],
+];
+
+const READERS: [Reader; 6] = [
     Reader {
         order: &[1, 5, 6, 7, 8, 9, LATE_8, 15, 10],
+        sides: ANY_SIDES,
         call: |r| Call::Check { level: r.level, stream: &r.stream },
     },
     Reader {
         order: &[1, 5, 6, 7, 8, 14, 4, 9, LATE_8, 15, 10],
-        call: |r| Call::Unpack { width: r.width, level: r.level, stream: &r.stream, room: r.room },
+        sides: ANY_SIDES,
+        call: |r| {
+            let room = r.room(r.exact.values);
+            Call::Unpack { width: r.width, level: r.level, stream: &r.stream, room }
+        },
     },
     Reader {
         order: &[1, 5, 6, 7, 8, 14, 11, 9, LATE_8, 15, 10],
+        sides: ANY_SIDES,
         call: |r| Call::Probe { width: r.width, level: r.level, stream: &r.stream, index: r.index },
+    },
+    Reader {
+        order: &[1, 5, 6, 7, 8, 9, LATE_8, 15, 10, 16, 4],
+        sides: NO_SIDES,
+        call: |r| {
+            let room = r.room(r.exact.copy);
+            Call::AddSummary { level: r.level, stream: &r.stream, room }
+        },
+    },
+    Reader {
+        order: &[1, 5, 6, 7, 8, 9, LATE_8, 15, 10, 17],
+        sides: WITH_SUMMARY,
+        call: |r| Call::TestSummary { level: r.level, stream: &r.stream },
+    },
+    Reader {
+        order: &[1, 2, 5, 6, 7, 8, 14, 9, LATE_8, 15, 10, 17, 4],
+        sides: WITH_SUMMARY,
+        call: |r| {
+            let room = r.room(r.exact.chunks);
+            Call::ChunksFrom { width: r.width, level: r.level, x: r.x, stream: &r.stream, room }
+        },
     },
 ];
 
@@ -270,8 +354,8 @@ impl Reader {
 }
 
 pub fn reading(judge: &mut Judge, _: &mut XorShift, _: Extent) {
-    for sound in sound_readings() {
-        for reader in READERS {
+    for reader in READERS {
+        for sound in sound_readings(reader.sides) {
             judge.compare_meant((reader.call)(&sound), 0);
             for (rank, (later, second)) in reader.breaks() {
                 let mut once = sound.clone();
@@ -288,32 +372,35 @@ pub fn reading(judge: &mut Judge, _: &mut XorShift, _: Extent) {
 }
 
 /// A sound reading for both widths and every mode, of one chunk and of three, with
-/// and without side parts. The first group, a whole one, holds a code of 8 bits.
-fn sound_readings() -> Vec<Reading> {
+/// each of these side parts. The first group, a whole one, holds a code of 8 bits.
+fn sound_readings(sides: &[Sides]) -> Vec<Reading> {
     let mut readings = Vec::new();
     for width in WIDTHS {
         for (mode, k) in MODES {
             for n in [40, 2049] {
-                for sides in [vec![], vec![(7, vec![1, 2]), (9, vec![])]] {
-                    let chunks = sound_chunks(n);
-                    let draft = Draft { width, mode, k, n, chunks, sides };
-                    readings.push(Reading {
-                        width,
-                        level: HIGHEST_LEVEL,
-                        stream: draft.stream(),
-                        room: n as usize,
-                        index: 1,
-                    });
-                }
+                let field = Field::of_stream(stream_of_codes(width, mode, k, &sound_codes(n)));
+                readings.extend(sides.iter().map(|sides| sound_reading(&field, sides)));
             }
         }
     }
     readings
 }
 
-/// Chunks of n zeros, but for one code of 8 bits at index 0.
-fn sound_chunks(n: u32) -> Vec<Vec<u8>> {
-    let mut codes = vec![0; n as usize];
-    codes[0] = 255;
-    chunks_of_codes(&codes)
+fn sound_reading(field: &Field, sides: &Sides) -> Reading {
+    let exact = Rooms {
+        values: field.patterns.len(),
+        copy: field.with_summary().len(),
+        chunks: field.chunks().count(), // each holds a value that is not below 0
+    };
+    let stream = field.with_parts(&sides(field.part()));
+    let (width, level) = (field.width, HIGHEST_LEVEL);
+    Reading { width, level, stream, exact, missing: 0, index: 1, x: 0 }
+}
+
+/// Zeros, but for one code of 8 bits at index 0, which in no mode is that of a
+/// not-a-number.
+fn sound_codes(n: usize) -> Vec<u64> {
+    let mut codes = vec![0; n];
+    codes[0] = 254;
+    codes
 }

@@ -78,6 +78,17 @@ impl<'a> Readers<'a> {
         Call::Unpack { width, level: HIGHEST_LEVEL, stream, room }
     }
 
+    /// The operations of a summary, of which the streams here have none.
+    fn of_summaries(self) -> [Call<'a>; 3] {
+        let Readers { width, stream } = self;
+        let (level, room) = (HIGHEST_LEVEL, 4);
+        [
+            Call::AddSummary { level, stream, room },
+            Call::TestSummary { level, stream },
+            Call::ChunksFrom { width, level, x: 0, stream, room },
+        ]
+    }
+
     /// Probe at some index of the chunk.
     fn probe(self, rng: &mut XorShift, chunk: usize) -> Call<'a> {
         let Readers { width, stream } = self;
@@ -106,6 +117,9 @@ fn compare_named(judge: &mut Judge, rng: &mut XorShift, readers: Readers, bad: &
     judge.compare_known(readers.unpack(), named(bad[0]), &[]);
     for &place in bad {
         judge.compare_known(readers.probe(rng, place.0), named(place), &[]);
+    }
+    for call in readers.of_summaries() {
+        judge.compare_known(call, named(bad[0]), &[]);
     }
     let chunks: Vec<usize> = bad.iter().map(|place| place.0).collect();
     judge.compare_meant(readers.probe_elsewhere(rng, &chunks), 0);

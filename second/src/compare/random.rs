@@ -10,6 +10,14 @@ impl Bits for u64 {}
 
 pub const WIDTHS: [Width; 2] = [WIDTH_32, WIDTH_64];
 
+pub fn other_width(width: Width) -> Width {
+    if width == WIDTH_32 {
+        WIDTH_64
+    } else {
+        WIDTH_32
+    }
+}
+
 /// An xorshift generator. Its state must not be 0.
 pub struct XorShift(pub u64);
 

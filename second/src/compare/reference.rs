@@ -4,7 +4,8 @@ use super::call::{Call, List, Values};
 use super::outcome::{answered, lend, lend_one, refused, Outcome};
 use crate::numbers::{self, Tolerance, Width, WIDTH_32};
 use crate::stream::{self, Pattern, Probed};
-use crate::Refusal;
+use crate::summary;
+use crate::{Answer, Refusal};
 
 pub fn by_reference(call: &Call) -> Outcome {
     match *call {
@@ -23,6 +24,15 @@ pub fn by_reference(call: &Call) -> Outcome {
         Call::Probe { width, level, stream, index } => {
             lend_one(width, probed(width, level, stream, index))
         }
+        Call::AddSummary { level, stream, room } => lend(room, |buffer, room| {
+            answered(summary::add_summary(level, stream, &mut buffer[room]))
+        }),
+        Call::TestSummary { level, stream } => {
+            Outcome::bare(answered(summary::test_summary(level, stream)))
+        }
+        Call::ChunksFrom { width, level, x, stream, room } => lend(room, |buffer, room| {
+            answered(chunks_from(width, level, x, stream, &mut buffer[room]))
+        }),
         Call::Bound { width, tolerance } => Outcome::bare(bound(width, tolerance)),
         Call::LosslessCode { width, pattern } => {
             Outcome::bare(numbers::lossless_code(width, pattern))
@@ -81,6 +91,14 @@ fn infinity(width: Width, negative: bool) -> u64 {
     ordinal | (negative as u64) << (width.bits() - 1)
 }
 
+fn chunks_from(width: Width, level: u32, x: u64, stream: &[u8], output: &mut [u32]) -> Answer {
+    if width == WIDTH_32 {
+        summary::chunks_from(level, x as u32, stream, output)
+    } else {
+        summary::chunks_from(level, x, stream, output)
+    }
+}
+
 /// k in 32-bit two's complement, or the refusal.
 fn bound(width: u32, tolerance: u64) -> u64 {
     match numbers::bound(width, tolerance) {
@@ -107,6 +125,28 @@ pub fn packed(level: u32, mode: u32, k: i32, values: Values) -> Option<Vec<u8>> 
     }
     .ok()?;
     Some(output)
+}
+
+/// The stream with a summary added, where that is not refused.
+pub fn summarized(stream: &[u8]) -> Option<Vec<u8>> {
+    let length = length_with_summary(stream)? as usize;
+    let mut output = vec![0; length];
+    summary::add_summary(stream::HIGHEST_LEVEL, stream, &mut output).ok()?;
+    Some(output)
+}
+
+/// The bytes of the stream with a summary added, as refusal 4 tells them.
+pub fn length_with_summary(stream: &[u8]) -> Option<u64> {
+    match summary::add_summary(stream::HIGHEST_LEVEL, stream, &mut []) {
+        Err(Refusal { number: 4, detail }) => Some(detail as u64),
+        _ => None,
+    }
+}
+
+/// How many chunks are listed, if the list is not refused.
+pub fn chunks_listed(width: Width, x: u64, stream: &[u8]) -> Option<u64> {
+    let chunks = stream::MOST_VALUES.div_ceil(stream::VALUES_IN_CHUNK) as usize;
+    chunks_from(width, stream::HIGHEST_LEVEL, x, stream, &mut vec![0; chunks]).ok()
 }
 
 /// The list in a stream of n values, where unpack does not refuse.

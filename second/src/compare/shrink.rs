@@ -6,6 +6,7 @@ use super::reference;
 use super::streams::{number_at, stated_count, K, MODE, WIDTH};
 use crate::numbers::Width;
 use crate::stream::HIGHEST_LEVEL;
+use crate::summary::test_summary;
 use std::cell::Cell;
 
 /// How many elements may be put to calls while one difference is made
@@ -26,7 +27,12 @@ pub fn with_shortest(call: &Call, differs: &dyn Fn(&Call) -> bool, then: impl Fn
             });
             then(&with_values(call, length, list.values()))
         }
-        Call::Unpack { stream, .. } | Call::Check { stream, .. } | Call::Probe { stream, .. } => {
+        Call::Unpack { stream, .. }
+        | Call::Check { stream, .. }
+        | Call::Probe { stream, .. }
+        | Call::AddSummary { stream, .. }
+        | Call::TestSummary { stream, .. }
+        | Call::ChunksFrom { stream, .. } => {
             let stream = shrinker.shorter_stream(call, stream);
             then(&with_stream(call, &stream))
         }
@@ -62,8 +68,8 @@ impl Shrinker<'_> {
         }
     }
 
-    /// A stream that can be read is packed again from ever shorter lists;
-    /// then, as any other, it is cut byte by byte.
+    /// A stream that can be read is packed again from ever shorter lists, with a
+    /// summary if it has a true one; then, as any other, it is cut byte by byte.
     fn shorter_stream(&self, call: &Call, stream: &[u8]) -> Vec<u8> {
         let holds = |stream: &[u8]| self.differs(&with_stream(call, stream));
         let repacked = self.packed_shorter(stream, &holds);
@@ -79,7 +85,14 @@ impl Shrinker<'_> {
             return None; // no such stream can be read
         }
         let list = reference::list_of(width, stream, n)?;
-        let packed = |values: Values| reference::packed(HIGHEST_LEVEL, mode, k, values);
+        let summarized = test_summary(HIGHEST_LEVEL, stream).is_ok();
+        let packed = |values: Values| {
+            let plain = reference::packed(HIGHEST_LEVEL, mode, k, values);
+            plain.and_then(|plain| match summarized {
+                true => reference::summarized(&plain),
+                false => Some(plain),
+            })
+        };
         let still = |values: Values| packed(values).is_some_and(|stream| holds(&stream));
         if !still(list.values()) {
             return None; // the difference is not in what the list decides
@@ -134,8 +147,8 @@ fn with_values<'a>(call: &Call, length_before: Option<u64>, values: Values<'a>) 
     }
 }
 
-/// The same call with another stream. The room stays as much above or below n
-/// as it was, and an index below n stays below it.
+/// The same call with another stream. The room stays as much above or below what
+/// the call writes as it was, and an index below n stays below it.
 fn with_stream<'a>(call: &Call, stream: &'a [u8]) -> Call<'a> {
     let n = stated_count(stream);
     match *call {
@@ -144,6 +157,16 @@ fn with_stream<'a>(call: &Call, stream: &'a [u8]) -> Call<'a> {
             Call::Unpack { width, level, stream, room }
         }
         Call::Check { level, .. } => Call::Check { level, stream },
+        Call::AddSummary { level, stream: before, room } => {
+            let [from, to] = [before, stream].map(reference::length_with_summary);
+            Call::AddSummary { level, stream, room: moved(room, from, to) }
+        }
+        Call::TestSummary { level, .. } => Call::TestSummary { level, stream },
+        Call::ChunksFrom { width, level, x, stream: before, room } => {
+            let listed = |stream| reference::chunks_listed(width, x, stream);
+            let room = moved(room, listed(before), listed(stream));
+            Call::ChunksFrom { width, level, x, stream, room }
+        }
         Call::Probe { width, level, stream: before, index } => {
             let inside = index < stated_count(before);
             let index = if inside { index.min(n.saturating_sub(1)) } else { index };

@@ -4,7 +4,7 @@
 use second::compare::call::{Call, Values};
 use second::compare::caller::{Caller, Wire};
 use second::compare::outcome::{Lent, Outcome, MARGIN};
-use second::numbers::WIDTH_32;
+use second::numbers::{WIDTH_32, WIDTH_64};
 use std::io;
 
 const PROBE: Call = Call::Probe { width: WIDTH_32, level: 10, stream: &[7, 8], index: 5 };
@@ -52,6 +52,21 @@ fn a_buffer_is_sent_whole_and_taken_whole() {
         *element = u32::from_le_bytes(bytes.try_into().unwrap());
     }
     assert_eq!(outcome.unwrap(), Outcome { answer: 11 << 32, lent: Lent::Singles(after) });
+}
+
+#[test]
+fn chunk_numbers_have_32_bits_at_both_widths() {
+    let after: Vec<u32> = (0..3 + 2 * MARGIN as u32).collect();
+    let bytes: Vec<u8> = after.iter().flat_map(|element| element.to_le_bytes()).collect();
+    let answer = [head_of_answer(2, bytes.len() as u64), bytes].concat();
+    for (width, name) in [(WIDTH_32, b"chunks_from32"), (WIDTH_64, b"chunks_from64")] {
+        let call = Call::ChunksFrom { width, level: 12, x: 1 << 31, stream: &[7; 5], room: 3 };
+        let (sent, outcome) = exchanged(&call, &answer);
+        assert_eq!(sent[..13], name[..]);
+        assert_eq!(sent[24..28], 12u32.to_le_bytes());
+        assert_eq!(sent[40..80], [1u64 << 31, 5, 64, 3, 64].map(u64::to_le_bytes).concat());
+        assert_eq!(outcome.unwrap(), Outcome { answer: 2, lent: Lent::Singles(after.clone()) });
+    }
 }
 
 #[test]

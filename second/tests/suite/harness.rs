@@ -12,6 +12,7 @@ use second::compare::reference::by_reference;
 use second::compare::{run, Extent, Options};
 use second::numbers::WIDTH_64;
 use second::plain;
+use second::summary::add_summary;
 
 /// The tuned version where it has the operation, else the reference.
 fn by_tuned(call: &Call) -> Outcome {
@@ -91,6 +92,33 @@ fn a_differing_stream_is_packed_again_from_a_shorter_list() {
     assert!(text.contains("first differs at element 0: "), "{text}");
 }
 
+/// A library that counts no chunk where one is listed and the last holds no more
+/// than 9.
+fn never_counts_9(call: &Call) -> Outcome {
+    let mut outcome = by_reference(call);
+    if let Call::ChunksFrom { stream, .. } = call {
+        if outcome.answer == 1 && stream.ends_with(&9u64.to_le_bytes()) {
+            outcome.answer = 0;
+        }
+    }
+    outcome
+}
+
+#[test]
+fn a_stream_packed_again_has_its_summary() {
+    let mut values = [3u64; 1100];
+    values[1050] = 9;
+    let mut stream = [0; 700];
+    let length = plain::pack(10, 0, 0, &values, &mut stream).unwrap() as usize;
+    let mut copy = [0; 800];
+    let length = add_summary(10, &stream[..length], &mut copy).unwrap() as usize;
+    let stream = &copy[..length];
+    let call = Call::ChunksFrom { width: WIDTH_64, level: 10, x: 9, stream, room: 4 };
+    let text = report_of(&never_counts_9, call);
+    assert!(text.contains("reference: 0 with 1\nlibrary:   0 with 0\n"), "{text}");
+    assert!(text.contains("input: level 10 x 9 room 4 stream (86 bytes): 01000000"), "{text}");
+}
+
 /// A library that writes right after the room.
 fn writes_past_room(call: &Call) -> Outcome {
     let mut outcome = by_reference(call);
@@ -126,7 +154,7 @@ fn too_few_details_of_10_fail() {
         assert!(text.contains("different details of 10: check 2, unpack32 0,"), "{text}");
         text.matches("FAILURE").count()
     };
-    assert_eq!([failed(0), failed(1), failed(2), failed(3)], [0, 4, 4, 5]);
+    assert_eq!([failed(0), failed(1), failed(2), failed(3)], [0, 8, 8, 9]);
 }
 
 #[test]

@@ -13,3 +13,4 @@ mod numbers;
 mod places;
 mod random;
 mod streams;
+mod summaries;

@@ -31,7 +31,8 @@ use Rattle.stream.specs.declared.answers.Answer.the-variants.{Done}
 use Rattle.stream.proofs.Law.Plain.Truth.{either, or-false}
 use Rattle.stream.proofs.Law.Setting.Allowed.{level-small, width-some}
 use Rattle.stream.proofs.Written.{accepted-list, accepted-bytes, accepted-leaves, accepted-is-sent, the-plain-stream, as-many-values, lossless-values, tolerance-values}
-use Rattle.gwizdorad.specs.Demands.{formatOf, ComesBack, Sided, plain, with-parts, Packed, Offered}
+use Rattle.summary.specs.Theorem.{formatOf}
+use Rattle.gwizdorad.specs.Demands.{ComesBack, Sided, plain, with-parts, Packed, Offered}
 
 -- ---- demand 2: a known width is 32 or 64
 
