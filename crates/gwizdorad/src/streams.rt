@@ -26,18 +26,25 @@ pub extern "C" fn gwz_check(level: u32, bytes: &[u8]) -> u64
 }
 
 #[no_mangle]
-pub extern "C" fn gwz_pack32(level: u32, mode: u32, k: i32, values: &[u32], out: &mut [u8]) -> u64
-    ensures { λ r. ⌜ r ≡ answerResult (packAnswer 32 level mode k (now (values .entry)) (length (now (out .entry)))) ⌝ }
-    ensures { λ _. ⌜ now (out .exit) ≡ packOut 32 level mode k (now (values .entry)) (now (out .entry)) ⌝ }
+pub extern "C" fn gwz_pack32(
+    level: u32,
+    mode: u32,
+    k: i32,
+    group: u32,
+    values: &[u32],
+    out: &mut [u8],
+) -> u64
+    ensures { λ r. ⌜ r ≡ answerResult (packAnswer 32 level mode k group (now (values .entry)) (length (now (out .entry)))) ⌝ }
+    ensures { λ _. ⌜ now (out .exit) ≡ packOut 32 level mode k group (now (values .entry)) (now (out .entry)) ⌝ }
 {
-    answer::result_of_answer(pack::pack32(level, mode, k, values, out))
+    answer::result_of_answer(pack::pack32(level, mode, k, group, values, out))
 }
 
 #[no_mangle]
-pub extern "C" fn gwz_length32(level: u32, mode: u32, k: i32, values: &[u32]) -> u64
-    ensures { λ r. ⌜ r ≡ answerResult (lengthAnswer 32 level mode k (now (values .entry))) ⌝ }
+pub extern "C" fn gwz_length32(level: u32, mode: u32, k: i32, group: u32, values: &[u32]) -> u64
+    ensures { λ r. ⌜ r ≡ answerResult (lengthAnswer 32 level mode k group (now (values .entry))) ⌝ }
 {
-    answer::result_of_answer(pack::length32(level, mode, k, values))
+    answer::result_of_answer(pack::length32(level, mode, k, group, values))
 }
 
 #[no_mangle]
@@ -80,18 +87,25 @@ pub extern "C" fn gwz_probe32(level: u32, bytes: &[u8], index: u64, pattern: &mu
 }
 
 #[no_mangle]
-pub extern "C" fn gwz_pack64(level: u32, mode: u32, k: i32, values: &[u64], out: &mut [u8]) -> u64
-    ensures { λ r. ⌜ r ≡ answerResult (packAnswer 64 level mode k (now (values .entry)) (length (now (out .entry)))) ⌝ }
-    ensures { λ _. ⌜ now (out .exit) ≡ packOut 64 level mode k (now (values .entry)) (now (out .entry)) ⌝ }
+pub extern "C" fn gwz_pack64(
+    level: u32,
+    mode: u32,
+    k: i32,
+    group: u32,
+    values: &[u64],
+    out: &mut [u8],
+) -> u64
+    ensures { λ r. ⌜ r ≡ answerResult (packAnswer 64 level mode k group (now (values .entry)) (length (now (out .entry)))) ⌝ }
+    ensures { λ _. ⌜ now (out .exit) ≡ packOut 64 level mode k group (now (values .entry)) (now (out .entry)) ⌝ }
 {
-    answer::result_of_answer(pack::pack64(level, mode, k, values, out))
+    answer::result_of_answer(pack::pack64(level, mode, k, group, values, out))
 }
 
 #[no_mangle]
-pub extern "C" fn gwz_length64(level: u32, mode: u32, k: i32, values: &[u64]) -> u64
-    ensures { λ r. ⌜ r ≡ answerResult (lengthAnswer 64 level mode k (now (values .entry))) ⌝ }
+pub extern "C" fn gwz_length64(level: u32, mode: u32, k: i32, group: u32, values: &[u64]) -> u64
+    ensures { λ r. ⌜ r ≡ answerResult (lengthAnswer 64 level mode k group (now (values .entry))) ⌝ }
 {
-    answer::result_of_answer(pack::length64(level, mode, k, values))
+    answer::result_of_answer(pack::length64(level, mode, k, group, values))
 }
 
 #[no_mangle]

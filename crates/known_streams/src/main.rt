@@ -66,7 +66,10 @@ fn cut(stream: &[u8]) {
 fn example() {
     let list: [u32; 3] = [0, 0x8000_0000, 1];
     let mut out: [u8; 55] = [0xAA; 55];
-    told(b"example packed", pack::pack32(8, 0, 0, &list, &mut out));
+    told(
+        b"example packed",
+        pack::pack32(8, 0, 0, 32, &list, &mut out),
+    );
     text(b"example bytes ");
     text(&out);
     text(b"\n");
@@ -89,7 +92,7 @@ fn example_too_short() {
     let mut short: [u8; 54] = [0x2E; 54];
     told(
         b"example in 54 bytes",
-        pack::pack32(8, 0, 0, &list, &mut short),
+        pack::pack32(8, 0, 0, 32, &list, &mut short),
     );
     text(b"left as it was ");
     text(&short);
@@ -99,10 +102,10 @@ fn example_too_short() {
 // "Lengths at level 8, mode 0: no values, 48 bytes; 1,024 zeros, 84; 1,025 values have two chunks."
 fn lengths() {
     let zeros: [u32; 1025] = [0; 1025];
-    told(b"no values", pack::length32(8, 0, 0, &zeros[..0]));
-    told(b"1024 zeros", pack::length32(8, 0, 0, &zeros[..1024]));
+    told(b"no values", pack::length32(8, 0, 0, 32, &zeros[..0]));
+    told(b"1024 zeros", pack::length32(8, 0, 0, 32, &zeros[..1024]));
     let mut out: [u8; 89] = [0; 89];
-    told(b"1025 zeros", pack::pack32(8, 0, 0, &zeros, &mut out));
+    told(b"1025 zeros", pack::pack32(8, 0, 0, 32, &zeros, &mut out));
     text(b"1025 zeros, bytes ");
     text(&out);
     text(b"\n");
@@ -122,7 +125,10 @@ fn raise(stream: &mut [u8]) {
 fn largest_u() {
     let list: [u32; 1] = [0x7FFF_FFFF];
     let mut out: [u8; 57] = [0; 57];
-    told(b"largest u packed", pack::pack32(9, 1, -2, &list, &mut out));
+    told(
+        b"largest u packed",
+        pack::pack32(9, 1, -2, 32, &list, &mut out),
+    );
     text(b"largest u bytes ");
     text(&out);
     text(b"\n");
@@ -150,17 +156,17 @@ fn differences() {
     let mut out: [u8; 349] = [0; 349];
     told(
         b"differences at level 10",
-        pack::pack32(10, 2, 0, &list, &mut out),
+        pack::pack32(10, 2, 0, 32, &list, &mut out),
     );
     told(
         b"differences with k 1",
-        pack::pack32(11, 2, 1, &list, &mut out),
+        pack::pack32(11, 2, 1, 32, &list, &mut out),
     );
     told(
         b"differences packed",
-        pack::pack32(11, 2, 0, &list, &mut out),
+        pack::pack32(11, 2, 0, 32, &list, &mut out),
     );
-    told(b"differences measured", pack::length32(11, 2, 0, &list));
+    told(b"differences measured", pack::length32(11, 2, 0, 32, &list));
     told(b"differences told level 10", reading::check(10, &out));
     told(b"differences checked", reading::check(11, &out));
     differences_read(&out);

@@ -1,6 +1,6 @@
 -- Document 01, "The stream": the header. Its rules are in two parts: what the setting decides, and how the bytes are laid out.
-use Prim.Native.Nat.{ℕ, _+_, _*_, _/_}
-use mathlib.Core.Bool.{Bool, _&&_, not}
+use Prim.Native.Nat.{ℕ, _+_, _-_, _*_, _/_}
+use mathlib.Core.Bool.{Bool, _&&_, not, cond}
 use mathlib.Core.List.{List}
 use lib.Dec.{leb, ltb, eqb}
 use lib.IntN.{ℤ}
@@ -37,9 +37,17 @@ headerOf s =
 unfoldable pub kOf : Header → ℤ
 kOf h = signedView 32 (h .exponent)
 
+-- Document 02, R-6: "In the header .. 256 is added to the mode number for 128". So this is the mode that a number says, and the group size; but for 0, 1, 2,
+-- 256, 257 and 258, it says a mode that is not allowed.
+unfoldable pub saidMode : ℕ → ℕ
+saidMode number = cond (ltb number 256) number (number - 256)
+
+unfoldable pub saidSize : ℕ → ℕ
+saidSize number = cond (ltb number 256) 32 128
+
 -- the header's setting
 abbrev pub settingIn : Header → Setting
-settingIn h = settingOf (h .width) (h .mode) (kOf h)
+settingIn h = settingOf (h .width) (saidMode (h .mode)) (kOf h) (saidSize (h .mode))
 
 -- "chunk count c = n/1024 rounded up"
 unfoldable pub chunksIn : ℕ → ℕ
@@ -58,7 +66,9 @@ needRight h = leb 8 (h .needed) && leb (need (settingIn h)) (h .needed) && leb (
 
 -- and "width, mode, k"
 unfoldable pub settingRight : Header → Bool
-settingRight h = knownWidth (h .width) && needRight h && allowedSetting (h .width) (h .mode) (kOf h)
+settingRight h =
+    knownWidth (h .width) && needRight h
+    && allowedSetting (h .width) (saidMode (h .mode)) (kOf h) (saidSize (h .mode))
 
 -- "n above the limit, c, places, s, end of data before its start or past the bytes": none of these, in a stream of so many bytes
 unfoldable pub layoutRight : ℕ → Header → Bool

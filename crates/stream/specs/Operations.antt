@@ -1,4 +1,4 @@
--- Document 01, "Order", and document 02, R-4: each operation's rows, its answer, and what its lent output holds afterwards. These are the promises.
+-- Document 01, "Order", and document 02, R-4 and R-6: each operation's rows, its answer, and what its lent output holds afterwards. These are the promises.
 use Prim.Native.Nat.{ℕ, _+_, _*_, _/_}
 use mathlib.Core.Bool.{true, false, _&&_, _||_, not}
 use mathlib.Core.List.{List, [], _∷_, _++_, map}
@@ -117,27 +117,27 @@ probeAnswer64 level s i = probed64 (first (probeRows 64 level s i)) (valueAt s i
 
 -- ---- "Length: 1 2 3", for n values of width W; "Pack: 1 2 3 4", of values into room for so many bytes
 
-unfoldable pub lengthRows : ℕ → ℕ → ℕ → ℤ → ℕ → List Row
-lengthRows W level mode k n =
+unfoldable pub lengthRows : ℕ → ℕ → ℕ → ℤ → ℕ → ℕ → List Row
+lengthRows W level mode k size n =
     row 1 (not (knownLevel level)) 0
-    ∷ row 2 (not (allowedSetting W mode k) || ltb level (need (settingOf W mode k))) 0
+    ∷ row 2 (not (allowedSetting W mode k size) || ltb level (need (settingOf W mode k size))) 0
     ∷ row 3 (tooMany n) 0
     ∷ []
 
-unfoldable pub lengthAnswer : ℕ → ℕ → ℕ → ℤ → List ℕ → Answer
-lengthAnswer W level mode k vs = answer (first (lengthRows W level mode k (length vs))) (length (stream level (settingOf W mode k) vs))
+unfoldable pub lengthAnswer : ℕ → ℕ → ℕ → ℤ → ℕ → List ℕ → Answer
+lengthAnswer W level mode k size vs = answer (first (lengthRows W level mode k size (length vs))) (length (stream level (settingOf W mode k size) vs))
 
-unfoldable pub packRows : ℕ → ℕ → ℕ → ℤ → List ℕ → ℕ → List Row
-packRows W level mode k vs room =
-    lengthRows W level mode k (length vs)
-    ++ (row 4 (ltb room (length (stream level (settingOf W mode k) vs))) (length (stream level (settingOf W mode k) vs)) ∷ [])
+unfoldable pub packRows : ℕ → ℕ → ℕ → ℤ → ℕ → List ℕ → ℕ → List Row
+packRows W level mode k size vs room =
+    lengthRows W level mode k size (length vs)
+    ++ (row 4 (ltb room (length (stream level (settingOf W mode k size) vs))) (length (stream level (settingOf W mode k size) vs)) ∷ [])
 
-unfoldable pub packAnswer : ℕ → ℕ → ℕ → ℤ → List ℕ → ℕ → Answer
-packAnswer W level mode k vs room = answer (first (packRows W level mode k vs room)) (length (stream level (settingOf W mode k) vs))
+unfoldable pub packAnswer : ℕ → ℕ → ℕ → ℤ → ℕ → List ℕ → ℕ → Answer
+packAnswer W level mode k size vs room = answer (first (packRows W level mode k size vs room)) (length (stream level (settingOf W mode k size) vs))
 
 -- "past the packed bytes, nothing is altered"
-unfoldable pub packOut : ℕ → ℕ → ℕ → ℤ → List ℕ → List ℕ → List ℕ
-packOut W level mode k vs out =
-    after (first (packRows W level mode k vs (length out)))
-    (stream level (settingOf W mode k) vs ++ drop (length (stream level (settingOf W mode k) vs)) out)
+unfoldable pub packOut : ℕ → ℕ → ℕ → ℤ → ℕ → List ℕ → List ℕ → List ℕ
+packOut W level mode k size vs out =
+    after (first (packRows W level mode k size vs (length out)))
+    (stream level (settingOf W mode k size) vs ++ drop (length (stream level (settingOf W mode k size) vs)) out)
     out

@@ -17,11 +17,11 @@ use Rattle.stream.specs.declared.setting.Setting.{Setting}
 -- A list of values, W bits wide, with a written minor and a setting that a stream may have: the minor reaches the need. The levels that
 -- pack takes are some of these minors (`knownLevel`); the others are those of later writers: "A stream from a later minor is read if its
 -- need allows."
-pub record Packable (W level mode : ℕ) (k : ℤ) (vs : List ℕ) : Type 0 where
+pub record Packable (W level mode : ℕ) (k : ℤ) (size : ℕ) (vs : List ℕ) : Type 0 where
   pub width : knownWidth W ≡ true
   pub minor : level < 2 ^ 32
-  pub allowed : allowedSetting W mode k ≡ true
-  pub needs : need (settingOf W mode k) ≤ level
+  pub allowed : allowedSetting W mode k size ≡ true
+  pub needs : need (settingOf W mode k size) ≤ level
   pub few : length vs ≤ 1048576
   pub patterns : Below (2 ^ W) vs
 
@@ -32,7 +32,7 @@ pub record Sent (written : ℕ) (t : Setting) (vs : List ℕ) (sides : List Side
   pub fits : needed < 2 ^ 32
   pub bytes : s ≡ placed 8 needed (addSides (stream written t vs) sides)
 
--- "Packed length is never above 48 + 4c + (n/32 rounded up) + n·W/8."
+-- "Packed length is never above 48 + 4c + (n/32 rounded up) + n·W/8", and "The length formula uses the size in place of 32" (R-6).
 unfoldable pub mostBytes : Setting → ℕ → ℕ
 mostBytes t n = 48 + 4 * chunksIn n + groupsIn (groupSize t) n + n * t .width / 8
 

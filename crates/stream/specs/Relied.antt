@@ -6,8 +6,8 @@ use mathlib.Core.Bool.{true}
 use mathlib.Core.List.{List}
 use lib.ListN.{length}
 use Rattle.bins.specs.Tolerance.{lastBin}
-use Rattle.stream.specs.Setting.{knownWidth, fractionBits, allowedSetting}
-use Rattle.stream.specs.Header.{kOf}
+use Rattle.stream.specs.Setting.{knownWidth, knownSize, fractionBits, allowedSetting}
+use Rattle.stream.specs.Header.{kOf, saidMode, saidSize}
 use Rattle.stream.specs.Tables.{startAt, chunkTableRight}
 use Rattle.stream.specs.declared.header.Header.{Header}
 use Rattle.stream.specs.declared.setting.Setting.{Setting}
@@ -24,13 +24,13 @@ pub record Allowed (t : Setting) : Type 0 where
   pub mode : t .mode ≤ 2
   pub bin : t .bin ≤ lastBin (t .width) (fractionBits (t .width))
   pub none : (t .mode ≡ 1 → ⊥) → t .bin ≡ 0
+  pub size : knownSize (t .size) ≡ true
 
 -- the setting of a header is one that is allowed
 pub record Settled (h : Header) : Type 0 where
   pub known : knownWidth (h .width) ≡ true
   pub narrow : h .width ≤ 64
-  pub mode : h .mode ≤ 2
-  pub allowed : allowedSetting (h .width) (h .mode) (kOf h) ≡ true
+  pub allowed : allowedSetting (h .width) (saidMode (h .mode)) (kOf h) (saidSize (h .mode)) ≡ true
 
 -- the places lie as document 01 says, in a stream of so many bytes
 pub record Layout (size : ℕ) (h : Header) : Type 0 where

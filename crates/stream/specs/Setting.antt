@@ -1,7 +1,8 @@
--- Document 01, "Levels", document 02, R-2 and R-4, and what a setting says of codes. A setting is a record of natural numbers (`Setting` of src/setting.rt): a
--- width, a mode and a bin. It is made here, from the width, the mode and the k of a call or of a header; all else is said of the record.
+-- Document 01, "Levels", document 02, R-2, R-4 and R-6, and what a setting says of codes. A setting is a record of natural numbers (`Setting` of
+-- src/setting.rt): a width, a mode, a bin and a group size. It is made here, from the width, the mode, the k and the size of a call or of a header; all else
+-- is said of the record.
 -- The number rules are those of the libraries `numbers` and `bins`.
-use Prim.Native.Nat.{ℕ, _-_, _^_, min, max}
+use Prim.Native.Nat.{ℕ, _+_, _-_, _^_, min, max}
 use mathlib.Core.Bool.{Bool, false, _&&_, _||_, cond}
 use mathlib.Core.List.{List, map}
 use lib.Dec.{leb, eqb}
@@ -13,9 +14,9 @@ use Rattle.bins.specs.Tolerance.{allowedK, binOf, lastBin, toleranceCode, toler
 use Rattle.numbers.specs.Bound.{exponentOf}
 use Rattle.stream.specs.declared.setting.Setting.{Setting}
 
--- "A level is a minor number": 8 to 12, since "1 .. follows this and each later level" (R-4)
+-- "A level is a minor number": 8 to 13, since "1 .. follows this and each later level" (R-4)
 unfoldable pub highestLevel : ℕ
-highestLevel = 12
+highestLevel = 13
 
 unfoldable pub knownLevel : ℕ → Bool
 knownLevel level = leb 8 level && leb level highestLevel
@@ -27,7 +28,11 @@ knownWidth W = eqb W 32 || eqb W 64
 unfoldable pub fractionBits : ℕ → ℕ
 fractionBits W = cond (eqb W 32) 23 52
 
--- ---- the setting of a width, a mode and a k
+-- "a group size, 32 or 128" (R-6)
+unfoldable pub knownSize : ℕ → Bool
+knownSize size = eqb size 32 || eqb size 128
+
+-- ---- the setting of a width, a mode, a k and a group size
 
 -- the modes that lose nothing: 0, each pattern by itself, and 2, the differences
 unfoldable pub losslessMode : ℕ → Bool
@@ -38,27 +43,35 @@ unfoldable pub isZero : ℤ → Bool
 isZero (pos n) = eqb n 0
 isZero (negsuc n) = false
 
-unfoldable pub allowedSetting : ℕ → ℕ → ℤ → Bool
-allowedSetting W mode k = cond (eqb mode 1) (allowedK W (fractionBits W) k) (losslessMode mode && isZero k)
+unfoldable pub allowedMode : ℕ → ℕ → ℤ → Bool
+allowedMode W mode k = cond (eqb mode 1) (allowedK W (fractionBits W) k) (losslessMode mode && isZero k)
+
+-- and not "another size"
+unfoldable pub allowedSetting : ℕ → ℕ → ℤ → ℕ → Bool
+allowedSetting W mode k size = allowedMode W mode k && knownSize size
 
 -- the bin: that of k in mode 1, and 0 in the others, which have none
 unfoldable pub binFor : ℕ → ℕ → ℤ → ℕ
 binFor W mode k = cond (eqb mode 1) (binOf W (fractionBits W) k) 0
 
-abbrev pub settingOf : ℕ → ℕ → ℤ → Setting
-settingOf W mode k = record { width = W; mode = mode; bin = binFor W mode k }
+abbrev pub settingOf : ℕ → ℕ → ℤ → ℕ → Setting
+settingOf W mode k size = record { width = W; mode = mode; bin = binFor W mode k; size = size }
 
 -- ---- what a setting says
 
--- "Width 64 needs 10; else mode 1 needs 9; else 8", mode 2 "needs level 11", and "Where several needs apply, the largest stands"
+-- "Width 64 needs 10; else mode 1 needs 9; else 8", mode 2 "needs level 11", groups of 128 need "level 13", and "Where several needs apply, the largest
+-- stands"
 unfoldable pub widthNeed : ℕ → ℕ
 widthNeed W = cond (eqb W 64) 10 8
 
 unfoldable pub modeNeed : ℕ → ℕ
 modeNeed mode = cond (eqb mode 1) 9 (cond (eqb mode 2) 11 8)
 
+unfoldable pub sizeNeed : ℕ → ℕ
+sizeNeed size = cond (eqb size 128) 13 8
+
 unfoldable pub need : Setting → ℕ
-need t = max (widthNeed (t .width)) (modeNeed (t .mode))
+need t = max (max (widthNeed (t .width)) (modeNeed (t .mode))) (sizeNeed (t .size))
 
 -- the need of a stream, with a high id among those of its side parts (`highId`) or without: "A stream with such an id needs level 12", and the
 -- largest stands here too
@@ -69,9 +82,13 @@ streamNeed t high = cond high (max (need t) 12) (need t)
 unfoldable pub kBits : Setting → ℕ
 kBits t = cond (eqb (t .mode) 1) (bitsOf 32 (exponentOf (t .width) (fractionBits (t .width)) (t .bin))) 0
 
--- "It is cut into groups of 32": the size of a group. It is the same in every setting; the laws hold of any.
+-- "In the header .. 256 is added to the mode number for 128"
+unfoldable pub modeNumber : Setting → ℕ
+modeNumber t = cond (eqb (t .size) 128) (t .mode + 256) (t .mode)
+
+-- "It is cut into groups of 32", or of 128: the size of a group. One that is not allowed counts as 32, so that a chunk is cut into groups in any setting.
 unfoldable pub groupSize : Setting → ℕ
-groupSize t = 32
+groupSize t = cond (eqb (t .size) 128) 128 32
 
 -- ---- the codes of a chunk's values, and the values of a chunk's codes
 

@@ -7,7 +7,7 @@ use mathlib.Core.List.{List, [], _∷_, _++_}
 use lib.Dec.{leb}
 use lib.ListN.{length, take, drop, replicate}
 use Rattle.blocks.specs.Bytes.{digits, Below}
-use Rattle.stream.specs.Setting.{need, kBits, groupSize, codesOf}
+use Rattle.stream.specs.Setting.{need, modeNumber, kBits, groupSize, codesOf}
 use Rattle.stream.specs.Chunk.{chunkBytes}
 use Rattle.stream.specs.Header.{chunksIn}
 use Rattle.stream.specs.Stream.{joined}
@@ -39,7 +39,7 @@ startsOf t vs = joined (λ j. length (dataOf t vs j) ∷ [])
 unfoldable pub headerNumbers : ℕ → Setting → ℕ → ℕ → ℕ → List ℕ
 headerNumbers level t n sides end =
     1 ∷ level ∷ need t
-    ∷ t .width ∷ t .mode ∷ kBits t
+    ∷ t .width ∷ modeNumber t ∷ kBits t
     ∷ n ∷ chunksIn n
     ∷ 48 ∷ (48 + 4 * chunksIn n)
     ∷ sides ∷ end

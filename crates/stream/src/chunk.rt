@@ -9,11 +9,8 @@ ghost use Rattle.stream.specs.Setting.{groupSize, patternsOf, limitOf};
 ghost use Rattle.stream.specs.Lent.{chosen, lentCodes, Begun};
 ghost use Rattle.stream.specs.Chunk.{chunkBytes, chunkAnswer, chunkCodes, wholeChunk};
 ghost use Rattle.stream.specs.Relied.{Allowed};
-use crate::group;
 use crate::group::GroupAnswer;
 use crate::group_checked;
-use crate::group_read;
-use crate::group_written;
 use crate::lent;
 use crate::setting;
 use crate::setting::Setting;
@@ -41,7 +38,7 @@ pub(crate) fn measured(t: Setting, v32: &[u32], v64: &[u64], c32: &mut [u32]) ->
     if n <= at {
         return total;
     }
-    total + group::measured(lent::coded(t, v32, c32, v64, at, n))
+    total + lent::measured_last(t, v32, c32, v64, at, n)
 }
 
 // The bytes of a chunk's values at the front of `out`, and how many they are.
@@ -69,7 +66,7 @@ pub(crate) fn written(
     if n <= at {
         return put;
     }
-    put + group_written::written(lent::coded(t, v32, c32, v64, at, n), &mut out[put..])
+    put + lent::put_last(t, v32, c32, v64, at, n, &mut out[put..])
 }
 
 // How many values the next group has, of those that are left.
@@ -114,7 +111,7 @@ pub(crate) fn checked(t: Setting, s: &[u8], n: usize) -> ChunkAnswer
 
 // How many bytes the group at the front of `s` has, by its first byte.
 fn group_length(s: &[u8], n: usize) -> usize
-    requires { ⌜ (n ≤ 32) × (groupLength n (now s) ≤ length (now s)) ⌝ }
+    requires { ⌜ (n ≤ 128) × (groupLength n (now s) ≤ length (now s)) ⌝ }
     ensures { λ r. ⌜ r ≡ groupLength n (now (s .entry)) ⌝ }
 {
     let w = s[0] as usize;
@@ -123,7 +120,7 @@ fn group_length(s: &[u8], n: usize) -> usize
 
 // How many bytes the group at the front of `s` has; 0 where it is not there to be read.
 fn bytes_there(width: u32, s: &[u8], n: usize) -> usize
-    requires { ⌜ n ≤ 32 ⌝ }
+    requires { ⌜ n ≤ 128 ⌝ }
     ensures { λ r. ⌜ r ≡ cond (wholeGroup width n (now (s .entry))) (groupLength n (now (s .entry))) 0 ⌝ }
 {
     if s.len() == 0 {
@@ -170,7 +167,7 @@ pub(crate) fn restored(
     o64: &mut [u64],
 )
     requires { ⌜ Allowed t × (n ≤ 1024) × Begun t n (now s) ⌝ }
-    requires { ⌜ (32 ≤ length (chosen (t .width) (now c32) (now c64))) × (n ≤ length (chosen (t .width) (now o32) (now o64))) ⌝ }
+    requires { ⌜ (128 ≤ length (chosen (t .width) (now c32) (now c64))) × (n ≤ length (chosen (t .width) (now o32) (now o64))) ⌝ }
     ensures { λ _. ⌜ chosen (t .width) (now (o32 .exit)) (now (o64 .exit)) ≡ patternsOf t (chunkCodes (groupSize t) n (now (s .entry))) ++ drop n (chosen (t .width) (now (o32 .entry)) (now (o64 .entry))) ⌝ }
 {
     let size = setting::group_size(t);
@@ -202,7 +199,5 @@ pub(crate) fn value(t: Setting, s: &[u8], n: usize, i: usize) -> u64
         left -= size;
         index -= size;
     }
-    let g = group_read::codes_of(&s[at..], group_count(size, left));
-    let codes = g.codes;
-    lent::value(t, before, &codes, index)
+    lent::value(t, before, &s[at..], group_count(size, left), index)
 }

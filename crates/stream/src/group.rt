@@ -1,10 +1,11 @@
 // A group of codes: the record, its width and how many bytes it takes.
 ghost use mathlib.Core.Path.{_≡_};
-ghost use Prim.Native.Nat.{_≤_};
+ghost use mathlib.Core.List.{_++_};
+ghost use Prim.Native.Nat.{_≤_, max};
 ghost use lib.ListN.{length, take};
 ghost use Rattle.stream.specs.Group.{widthOf, groupBytes};
 
-// "a record of its count and up to 32 codes"; its codes are the first `count` of the array.
+// "a record of its count and up to 32 codes"; its codes are the first `count` of the array. A group of 128 is handled as four of them.
 pub struct Group {
     pub count: usize,
     pub codes: [u64; 32],
@@ -47,12 +48,89 @@ pub(crate) fn width32(codes: &[u32]) -> usize
     32 - (u32::leading_zeros(all) as usize)
 }
 
+// The larger of two widths.
+pub(crate) fn wider(a: usize, b: usize) -> usize
+    ensures { λ r. ⌜ r ≡ max a b ⌝ }
+{
+    if a < b { b } else { a }
+}
+
 // The codes of a group, as many as it counts.
 pub(crate) fn counted(codes: &[u64], n: usize) -> &[u64]
     requires { ⌜ n ≤ length (now codes) ⌝ }
     ensures { λ r. ⌜ now r ≡ take n (now (codes .entry)) ⌝ }
 {
     &codes[..n]
+}
+
+fn counted32(codes: &[u32], n: usize) -> &[u32]
+    requires { ⌜ n ≤ length (now codes) ⌝ }
+    ensures { λ r. ⌜ now r ≡ take n (now (codes .entry)) ⌝ }
+{
+    &codes[..n]
+}
+
+// The width of the codes of a record. Of a full one the compiler knows how many they are.
+pub(crate) fn width_in(g: Group) -> usize
+    requires { ⌜ g .count ≤ 32 ⌝ }
+    ensures { λ r. ⌜ (r ≡ widthOf (take (g .count) (g .codes))) × (r ≤ 64) ⌝ }
+{
+    let n = g.count;
+    let codes = g.codes;
+    if n == 32 {
+        return width(&codes);
+    }
+    width(counted(&codes, n))
+}
+
+pub(crate) fn width_in32(g: Narrow) -> usize
+    requires { ⌜ g .count ≤ 32 ⌝ }
+    ensures { λ r. ⌜ (r ≡ widthOf (take (g .count) (g .codes))) × (r ≤ 32) ⌝ }
+{
+    let n = g.count;
+    let codes = g.codes;
+    if n == 32 {
+        return width32(&codes);
+    }
+    width32(counted32(&codes, n))
+}
+
+// The same group in the record of both widths.
+pub(crate) fn widened(g: Narrow) -> Group
+    ensures { λ r. ⌜ (r .count ≡ g .count) × (r .codes ≡ g .codes) ⌝ }
+{
+    let codes = g.codes;
+    let mut wide = Group {
+        count: g.count,
+        codes: [0u64; 32],
+    };
+    let mut i: usize = 0;
+    while i < 32 {
+        wide.codes[i] = codes[i] as u64;
+        i += 1;
+    }
+    wide
+}
+
+// The width of a group of four records.
+pub(crate) fn width_four(a: Group, b: Group, c: Group, d: Group) -> usize
+    requires { ⌜ (a .count ≤ 32) × (b .count ≤ 32) × (c .count ≤ 32) × (d .count ≤ 32) ⌝ }
+    ensures { λ r. ⌜ (r ≡ widthOf (take (a .count) (a .codes) ++ take (b .count) (b .codes) ++ take (c .count) (c .codes) ++ take (d .count) (d .codes))) × (r ≤ 64) ⌝ }
+{
+    wider(
+        wider(width_in(a), width_in(b)),
+        wider(width_in(c), width_in(d)),
+    )
+}
+
+pub(crate) fn width_four32(a: Narrow, b: Narrow, c: Narrow, d: Narrow) -> usize
+    requires { ⌜ (a .count ≤ 32) × (b .count ≤ 32) × (c .count ≤ 32) × (d .count ≤ 32) ⌝ }
+    ensures { λ r. ⌜ (r ≡ widthOf (take (a .count) (a .codes) ++ take (b .count) (b .codes) ++ take (c .count) (c .codes) ++ take (d .count) (d .codes))) × (r ≤ 32) ⌝ }
+{
+    wider(
+        wider(width_in32(a), width_in32(b)),
+        wider(width_in32(c), width_in32(d)),
+    )
 }
 
 // How many bytes a group takes. The count of a group is small, so the product fits.
@@ -80,4 +158,21 @@ pub(crate) fn measured_full32(g: Narrow) -> usize
 {
     let codes = g.codes;
     1 + 4 * width32(&codes)
+}
+
+// The same of a group of four records.
+pub(crate) fn measured_four(a: Group, b: Group, c: Group, d: Group) -> usize
+    requires { ⌜ (a .count ≤ 32) × (b .count ≤ 32) × (c .count ≤ 32) × (d .count ≤ 32) ⌝ }
+    ensures { λ r. ⌜ r ≡ length (groupBytes (take (a .count) (a .codes) ++ take (b .count) (b .codes) ++ take (c .count) (c .codes) ++ take (d .count) (d .codes))) ⌝ }
+{
+    let n = a.count + b.count + c.count + d.count;
+    1 + (width_four(a, b, c, d) * n + 7) / 8
+}
+
+pub(crate) fn measured_four32(a: Narrow, b: Narrow, c: Narrow, d: Narrow) -> usize
+    requires { ⌜ (a .count ≤ 32) × (b .count ≤ 32) × (c .count ≤ 32) × (d .count ≤ 32) ⌝ }
+    ensures { λ r. ⌜ r ≡ length (groupBytes (take (a .count) (a .codes) ++ take (b .count) (b .codes) ++ take (c .count) (c .codes) ++ take (d .count) (d .codes))) ⌝ }
+{
+    let n = a.count + b.count + c.count + d.count;
+    1 + (width_four32(a, b, c, d) * n + 7) / 8
 }

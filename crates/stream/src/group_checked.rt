@@ -6,7 +6,8 @@ ghost use lib.Dec.{eqb};
 ghost use lib.Ieee.{size};
 ghost use lib.ListN.{length, getD};
 ghost use Rattle.blocks.specs.Bytes.{Below};
-ghost use Rattle.stream.specs.Group.{widthOf, givenWidth, groupLength, groupCodes, within, groupAnswer};
+ghost use Rattle.stream.specs.Group.{bytesFor, widthOf, givenWidth, groupLength, groupCodes, within, groupAnswer};
+ghost use Rattle.stream.specs.Block.{blockCodes};
 use crate::group;
 use crate::group::GroupAnswer;
 use crate::group_read;
@@ -36,12 +37,12 @@ fn reached(codes: &[u64], w: usize) -> bool
     false
 }
 
-// The OR of a full group's codes i, i + 8, i + 16 and i + 24, if the bytes go on far enough for the loads of every code. Eight codes are w
+// The OR of a full block's codes i, i + 8, i + 16 and i + 24, if the bytes go on far enough for the loads of every code. Eight codes are w
 // whole bytes, so the four start at the same bit of four bytes that are w apart: up to 57 bits, where eight bytes hold a code wherever it
 // starts, the OR of four loads holds the OR of the four codes, and is shifted and masked once.
 fn four_codes(s: &[u8], i: usize, w: usize) -> u64
-    requires { ⌜ (i < 8) × (1 ≤ w) × (w ≤ 64) × (w ≡ givenWidth (now s)) × (4 * w + 10 ≤ length (now s)) ⌝ }
-    ensures { λ r. ⌜ (let c : ℕ → ℕ = λ j. getD (groupCodes 32 (now (s .entry))) j 0 in r ≡ bitOr (bitOr (c i) (c (i + 8))) (bitOr (c (i + 16)) (c (i + 24)))) ⌝ }
+    requires { ⌜ (i < 8) × (1 ≤ w) × (w ≤ 64) × (4 * w + 10 ≤ length (now s)) ⌝ }
+    ensures { λ r. ⌜ (let c : ℕ → ℕ = λ j. getD (blockCodes w 32 (now (s .entry))) j 0 in r ≡ bitOr (bitOr (c i) (c (i + 8))) (bitOr (c (i + 16)) (c (i + 24)))) ⌝ }
 {
     let bit = 8 + i * w;
     if 57 < w {
@@ -56,11 +57,11 @@ fn four_codes(s: &[u8], i: usize, w: usize) -> u64
     ((low | high) >> (bit % 8)) & mask
 }
 
-// Whether w is the smallest width of a full group, four codes at a time: their OR is as wide as the widest of them. In most groups the
+// Whether w is the smallest width of a full block, four codes at a time: their OR is as wide as the widest of them. In most blocks the
 // first four settle it.
 fn reached_by_four(s: &[u8], w: usize) -> bool
-    requires { ⌜ (1 ≤ w) × (w ≤ 64) × (w ≡ givenWidth (now s)) × (4 * w + 10 ≤ length (now s)) ⌝ }
-    ensures { λ r. ⌜ r ≡ eqb w (widthOf (groupCodes 32 (now (s .entry)))) ⌝ }
+    requires { ⌜ (1 ≤ w) × (w ≤ 64) × (4 * w + 10 ≤ length (now s)) ⌝ }
+    ensures { λ r. ⌜ r ≡ eqb w (widthOf (blockCodes w 32 (now (s .entry)))) ⌝ }
 {
     let mut i: usize = 0;
     while i < 8 {
@@ -72,18 +73,36 @@ fn reached_by_four(s: &[u8], w: usize) -> bool
     false
 }
 
-// Whether w is the smallest width.
-fn smallest(s: &[u8], n: usize, w: usize) -> bool
-    requires { ⌜ (n ≤ 32) × (1 ≤ w) × (w ≤ 64) × (w ≡ givenWidth (now s)) × (groupLength n (now s) ≤ length (now s)) ⌝ }
-    ensures { λ r. ⌜ r ≡ eqb w (widthOf (groupCodes n (now (s .entry)))) ⌝ }
+// Whether w is the smallest width of a block.
+fn block_reached(s: &[u8], w: usize, n: usize) -> bool
+    requires { ⌜ (n ≤ 32) × (1 ≤ w) × (w ≤ 64) × (bytesFor w n < length (now s)) ⌝ }
+    ensures { λ r. ⌜ r ≡ eqb w (widthOf (blockCodes w n (now (s .entry)))) ⌝ }
 {
     if n == 32 {
         if 4 * w + 10 <= s.len() {
             return reached_by_four(s, w);
         }
     }
-    let g = group_read::codes_of(s, n);
+    let g = group_read::codes_of(s, w, n);
     reached(group::counted(&g.codes, n), w)
+}
+
+// Whether w is the smallest width of a group: the first block that needs it settles it.
+fn smallest(s: &[u8], n: usize, w: usize) -> bool
+    requires { ⌜ (n ≤ 128) × (1 ≤ w) × (w ≤ 64) × (w ≡ givenWidth (now s)) × (groupLength n (now s) ≤ length (now s)) ⌝ }
+    ensures { λ r. ⌜ r ≡ eqb w (widthOf (groupCodes n (now (s .entry)))) ⌝ }
+{
+    let mut from: usize = 0;
+    let mut left = n;
+    while 0 < left {
+        let count = group_read::block_count(left);
+        if block_reached(&s[from..], w, count) {
+            return true;
+        }
+        from += 4 * w;
+        left -= count;
+    }
+    false
 }
 
 // Whether no code's u, its half, is above the limit.
@@ -113,10 +132,10 @@ fn limited32(codes: &[u32], limit: u64) -> bool
     true
 }
 
-// The same of a full group's codes, if the bytes go on far enough for the loads of every code.
-fn block_limited(s: &[u8], w: usize, limit: u64) -> bool
-    requires { ⌜ (1 ≤ w) × (w ≤ 64) × (w ≡ givenWidth (now s)) × (4 * w + 10 ≤ length (now s)) ⌝ }
-    ensures { λ r. ⌜ r ≡ within limit (groupCodes 32 (now (s .entry))) ⌝ }
+// The same of a full block's codes, if the bytes go on far enough for the loads of every code.
+fn full_limited(s: &[u8], w: usize, limit: u64) -> bool
+    requires { ⌜ (1 ≤ w) × (w ≤ 64) × (4 * w + 10 ≤ length (now s)) ⌝ }
+    ensures { λ r. ⌜ r ≡ within limit (blockCodes w 32 (now (s .entry))) ⌝ }
 {
     if w <= 32 {
         let mut narrow = [0u32; 32];
@@ -128,26 +147,44 @@ fn block_limited(s: &[u8], w: usize, limit: u64) -> bool
     limited(&codes, limit)
 }
 
+// The same of a block's codes.
+fn block_limited(s: &[u8], w: usize, n: usize, limit: u64) -> bool
+    requires { ⌜ (n ≤ 32) × (1 ≤ w) × (w ≤ 64) × (bytesFor w n < length (now s)) ⌝ }
+    ensures { λ r. ⌜ r ≡ within limit (blockCodes w n (now (s .entry))) ⌝ }
+{
+    if n == 32 {
+        if 4 * w + 10 <= s.len() {
+            return full_limited(s, w, limit);
+        }
+    }
+    let g = group_read::codes_of(s, w, n);
+    limited(group::counted(&g.codes, n), limit)
+}
+
 // The same of a group's codes, which are looked at only where w bits can hold a u above the limit.
 fn limit_kept(s: &[u8], n: usize, w: usize, limit: u64) -> bool
-    requires { ⌜ (n ≤ 32) × (1 ≤ w) × (w ≤ 64) × (w ≡ givenWidth (now s)) × (groupLength n (now s) ≤ length (now s)) ⌝ }
+    requires { ⌜ (n ≤ 128) × (1 ≤ w) × (w ≤ 64) × (w ≡ givenWidth (now s)) × (groupLength n (now s) ≤ length (now s)) ⌝ }
     ensures { λ r. ⌜ r ≡ within limit (groupCodes n (now (s .entry))) ⌝ }
 {
     if (1 << (w - 1)) - 1 <= limit {
         return true;
     }
-    if n == 32 {
-        if 4 * w + 10 <= s.len() {
-            return block_limited(s, w, limit);
+    let mut from: usize = 0;
+    let mut left = n;
+    while 0 < left {
+        let count = group_read::block_count(left);
+        if !block_limited(&s[from..], w, count, limit) {
+            return false;
         }
+        from += 4 * w;
+        left -= count;
     }
-    let g = group_read::codes_of(s, n);
-    limited(group::counted(&g.codes, n), limit)
+    true
 }
 
 // Refusal 10's rules for the group at the front of `s`. The width is tested before it is multiplied; the padding is the highest bits of the last byte.
 pub(crate) fn checked(s: &[u8], n: usize, width: u32, limit: u64) -> GroupAnswer
-    requires { ⌜ (n ≤ 32) × (width ≤ 64) ⌝ }
+    requires { ⌜ (n ≤ 128) × (width ≤ 64) ⌝ }
     ensures { λ r. ⌜ r ≡ groupAnswer width limit n (now (s .entry)) ⌝ }
 {
     if s.len() == 0 {

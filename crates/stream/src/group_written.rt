@@ -5,6 +5,7 @@ ghost use Prim.Native.Nat.{_+_, _*_, _/_, _^_, _≤_, _<_};
 ghost use lib.ListN.{length, take, drop};
 ghost use Rattle.blocks.specs.Bytes.{Below, digits};
 ghost use Rattle.stream.specs.Group.{bytesFor, packed, groupBytes};
+ghost use Rattle.stream.specs.Block.{Filled};
 ghost use Rattle.stream.specs.Partway.{Partway};
 use crate::group;
 use crate::group::Group;
@@ -141,4 +142,82 @@ pub(crate) fn full32(g: Narrow, out: &mut [u8]) -> usize
     out[0] = w as u8;
     put_block32(&codes, w, &mut out[1..]);
     1 + 4 * w
+}
+
+// The codes of a record, w bits each, without a width byte: a part of the group that has it.
+fn part(g: Group, w: usize, out: &mut [u8]) -> usize
+    requires { ⌜ (g .count ≤ 32) × (w ≤ 64) × Below (2 ^ w) (take (g .count) (g .codes)) × (bytesFor w (g .count) ≤ length (now out)) ⌝ }
+    ensures { λ r. ⌜ r ≡ bytesFor w (g .count) ⌝ }
+    ensures { λ r. ⌜ now (out .exit) ≡ packed w (take (g .count) (g .codes)) ++ drop r (now (out .entry)) ⌝ }
+{
+    let n = g.count;
+    let codes = g.codes;
+    if n == 32 {
+        put_block(codes, w, out);
+        return 4 * w;
+    }
+    put_packed(group::counted(&codes, n), w, out)
+}
+
+fn part32(g: Narrow, w: usize, out: &mut [u8]) -> usize
+    requires { ⌜ (g .count ≤ 32) × (w ≤ 32) × Below (2 ^ w) (take (g .count) (g .codes)) × (bytesFor w (g .count) ≤ length (now out)) ⌝ }
+    ensures { λ r. ⌜ r ≡ bytesFor w (g .count) ⌝ }
+    ensures { λ r. ⌜ now (out .exit) ≡ packed w (take (g .count) (g .codes)) ++ drop r (now (out .entry)) ⌝ }
+{
+    if g.count == 32 {
+        let codes = g.codes;
+        put_block32(&codes, w, out);
+        return 4 * w;
+    }
+    part(group::widened(g), w, out)
+}
+
+// Two parts, one behind the other.
+fn two(a: Group, b: Group, w: usize, out: &mut [u8]) -> usize
+    requires { ⌜ (a .count ≤ 32) × (b .count ≤ 32) × Filled (a .count) (b .count) × (w ≤ 64) ⌝ }
+    requires { ⌜ Below (2 ^ w) (take (a .count) (a .codes) ++ take (b .count) (b .codes)) × (bytesFor w (a .count + b .count) ≤ length (now out)) ⌝ }
+    ensures { λ r. ⌜ r ≡ bytesFor w (a .count + b .count) ⌝ }
+    ensures { λ r. ⌜ now (out .exit) ≡ packed w (take (a .count) (a .codes) ++ take (b .count) (b .codes)) ++ drop r (now (out .entry)) ⌝ }
+{
+    let put = part(a, w, out);
+    put + part(b, w, &mut out[put..])
+}
+
+// The same of codes of 32 bits.
+fn two32(a: Narrow, b: Narrow, w: usize, out: &mut [u8]) -> usize
+    requires { ⌜ (a .count ≤ 32) × (b .count ≤ 32) × Filled (a .count) (b .count) × (w ≤ 32) ⌝ }
+    requires { ⌜ Below (2 ^ w) (take (a .count) (a .codes) ++ take (b .count) (b .codes)) × (bytesFor w (a .count + b .count) ≤ length (now out)) ⌝ }
+    ensures { λ r. ⌜ r ≡ bytesFor w (a .count + b .count) ⌝ }
+    ensures { λ r. ⌜ now (out .exit) ≡ packed w (take (a .count) (a .codes) ++ take (b .count) (b .codes)) ++ drop r (now (out .entry)) ⌝ }
+{
+    let put = part32(a, w, out);
+    put + part32(b, w, &mut out[put..])
+}
+
+// The bytes of a group of four records, at the front of `out`, and how many they are: one width byte, and the four parts behind it.
+pub(crate) fn four(a: Group, b: Group, c: Group, d: Group, out: &mut [u8]) -> usize
+    requires { ⌜ (a .count ≤ 32) × (b .count ≤ 32) × (c .count ≤ 32) × (d .count ≤ 32) ⌝ }
+    requires { ⌜ Filled (a .count) (b .count + (c .count + d .count)) × Filled (b .count) (c .count + d .count) × Filled (c .count) (d .count) ⌝ }
+    requires { ⌜ length (groupBytes (take (a .count) (a .codes) ++ take (b .count) (b .codes) ++ take (c .count) (c .codes) ++ take (d .count) (d .codes))) ≤ length (now out) ⌝ }
+    ensures { λ r. ⌜ r ≡ length (groupBytes (take (a .count) (a .codes) ++ take (b .count) (b .codes) ++ take (c .count) (c .codes) ++ take (d .count) (d .codes))) ⌝ }
+    ensures { λ r. ⌜ now (out .exit) ≡ groupBytes (take (a .count) (a .codes) ++ take (b .count) (b .codes) ++ take (c .count) (c .codes) ++ take (d .count) (d .codes)) ++ drop r (now (out .entry)) ⌝ }
+{
+    let w = group::width_four(a, b, c, d);
+    out[0] = w as u8;
+    let put = 1 + two(a, b, w, &mut out[1..]);
+    put + two(c, d, w, &mut out[put..])
+}
+
+// The same of codes of 32 bits.
+pub(crate) fn four32(a: Narrow, b: Narrow, c: Narrow, d: Narrow, out: &mut [u8]) -> usize
+    requires { ⌜ (a .count ≤ 32) × (b .count ≤ 32) × (c .count ≤ 32) × (d .count ≤ 32) ⌝ }
+    requires { ⌜ Filled (a .count) (b .count + (c .count + d .count)) × Filled (b .count) (c .count + d .count) × Filled (c .count) (d .count) ⌝ }
+    requires { ⌜ length (groupBytes (take (a .count) (a .codes) ++ take (b .count) (b .codes) ++ take (c .count) (c .codes) ++ take (d .count) (d .codes))) ≤ length (now out) ⌝ }
+    ensures { λ r. ⌜ r ≡ length (groupBytes (take (a .count) (a .codes) ++ take (b .count) (b .codes) ++ take (c .count) (c .codes) ++ take (d .count) (d .codes))) ⌝ }
+    ensures { λ r. ⌜ now (out .exit) ≡ groupBytes (take (a .count) (a .codes) ++ take (b .count) (b .codes) ++ take (c .count) (c .codes) ++ take (d .count) (d .codes)) ++ drop r (now (out .entry)) ⌝ }
+{
+    let w = group::width_four32(a, b, c, d);
+    out[0] = w as u8;
+    let put = 1 + two32(a, b, w, &mut out[1..]);
+    put + two32(c, d, w, &mut out[put..])
 }

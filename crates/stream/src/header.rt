@@ -2,7 +2,7 @@
 ghost use mathlib.Core.Path.{_≡_};
 ghost use Prim.Native.Nat.{_+_, _^_, _≤_, _<_};
 ghost use lib.ListN.{length};
-ghost use Rattle.stream.specs.Header.{word, headerOf, kOf, settingIn, settingRight, layoutRight};
+ghost use Rattle.stream.specs.Header.{word, headerOf, kOf, saidMode, saidSize, settingIn, settingRight, layoutRight};
 ghost use Rattle.stream.specs.Relied.{Words, Allowed, Settled};
 ghost use Rattle.stream.specs.Rows.{first};
 ghost use Rattle.stream.specs.Operations.{headerRows, openingRows};
@@ -79,12 +79,27 @@ pub(crate) fn exponent_of(h: Header) -> i32
     signed::view32(h.exponent as u32)
 }
 
+// The mode and the group size that a mode number says: "256 is added to the mode number for 128".
+fn said_mode(number: usize) -> usize
+    ensures { λ r. ⌜ r ≡ saidMode number ⌝ }
+{
+    if number < 256 { number } else { number - 256 }
+}
+
+fn said_size(number: usize) -> usize
+    ensures { λ r. ⌜ r ≡ saidSize number ⌝ }
+{
+    if number < 256 { 32 } else { 128 }
+}
+
 // The header's setting.
 pub(crate) fn setting_in(h: Header) -> Setting
     requires { ⌜ Words h × Settled h ⌝ }
     ensures { λ r. ⌜ (r ≡ settingIn h) × Allowed r ⌝ }
 {
-    setting::setting_of(h.width, h.mode, exponent_of(h))
+    let mode = said_mode(h.mode);
+    let size = said_size(h.mode);
+    setting::setting_of(h.width, mode, exponent_of(h), size)
 }
 
 // The part of refusal 8 that is about the setting. A setting is made only once it is known to be allowed. Whether the need is more than the setting's
@@ -94,16 +109,17 @@ fn setting_right(h: Header) -> bool
     ensures { λ r. ⌜ r ≡ settingRight h ⌝ }
 {
     let width = h.width;
-    let mode = h.mode;
+    let mode = said_mode(h.mode);
+    let size = said_size(h.mode);
     let needed = h.needed;
     if !setting::known_width(width) {
         return false;
     }
     let k = exponent_of(h);
-    if !setting::allowed(width, mode, k) {
+    if !setting::allowed(width, mode, k, size) {
         return false;
     }
-    let need = setting::need_of(setting::setting_of(width, mode, k));
+    let need = setting::need_of(setting::setting_of(width, mode, k, size));
     (8 <= needed) & (need <= needed) & (needed <= h.written)
 }
 

@@ -6,8 +6,9 @@ ghost use Prim.Native.Nat.{_≤_, _<_, _-_, _+_, _^_, min};
 ghost use lib.ListN.{length, take, drop, getD, replicate};
 ghost use Rattle.numbers.specs.Difference.{differenceCodes, runningSums, lastOf};
 ghost use Rattle.blocks.specs.Bytes.{Below};
-ghost use Rattle.stream.specs.Group.{groupBytes, givenWidth, groupLength, groupCodes};
-ghost use Rattle.stream.specs.Setting.{groupSize, codeAt, patternAt, patternsAfter};
+ghost use Rattle.stream.specs.Group.{bytesFor, groupBytes, givenWidth, groupLength, groupCodes};
+ghost use Rattle.stream.specs.Block.{blockCodes};
+ghost use Rattle.stream.specs.Setting.{groupSize, codeAt, codesOf, patternAt, patternsAfter};
 ghost use Rattle.stream.specs.Lent.{chosen, landed, lentCodes, Staged, SameBehind};
 ghost use Rattle.stream.specs.Relied.{Allowed};
 use crate::coding;
@@ -17,7 +18,6 @@ use crate::group::Group;
 use crate::group::Narrow;
 use crate::group_read;
 use crate::group_written;
-use crate::setting;
 use crate::setting::Setting;
 use blocks::block32;
 use blocks::block64;
@@ -116,21 +116,26 @@ fn differenced_wide(v64: &[u64], at: usize, end: usize) -> Group
     differences::coded64(before64(v64, at), &v64[at..end])
 }
 
-// The same group in the record of both widths.
-fn widened(g: Narrow) -> Group
-    ensures { λ r. ⌜ (r .count ≡ g .count) × (r .codes ≡ g .codes) ⌝ }
+// The same by mode.
+fn narrow(t: Setting, v32: &[u32], c32: &[u32], at: usize, end: usize) -> Narrow
+    requires { ⌜ (t .width ≡ 32) × (at ≤ end) × (end ≤ at + 32) × (end ≤ length (now v32)) × (end ≤ 1024) ⌝ }
+    requires { ⌜ (length (now v32) ≤ length (now c32)) × Staged t (now v32) (now c32) ⌝ }
+    ensures { λ g. ⌜ (g .count ≡ end - at) × (take (g .count) (g .codes) ≡ take (end - at) (drop at (codesOf t (now (v32 .entry))))) ⌝ }
 {
-    let codes = g.codes;
-    let mut wide = Group {
-        count: g.count,
-        codes: [0u64; 32],
-    };
-    let mut i: usize = 0;
-    while i < 32 {
-        wide.codes[i] = codes[i] as u64;
-        i += 1;
+    if t.mode == 2 {
+        return differenced_narrow(v32, at, end);
     }
-    wide
+    coded_narrow(t, v32, c32, at, end)
+}
+
+fn wide(t: Setting, v64: &[u64], at: usize, end: usize) -> Group
+    requires { ⌜ (t .width ≡ 64) × (at ≤ end) × (end ≤ at + 32) × (end ≤ length (now v64)) × (end ≤ 1024) ⌝ }
+    ensures { λ g. ⌜ (g .count ≡ end - at) × (take (g .count) (g .codes) ≡ take (end - at) (drop at (codesOf t (now (v64 .entry))))) ⌝ }
+{
+    if t.mode == 2 {
+        return differenced_wide(v64, at, end);
+    }
+    coded_wide(t, v64, at, end)
 }
 
 // The codes from `at` to `end` of the whole chunk's codes, as a group.
@@ -147,15 +152,112 @@ pub(crate) fn coded(
     ensures { λ g. ⌜ (g .count ≡ end - at) × (take (g .count) (g .codes) ≡ take (end - at) (drop at (lentCodes t (now (v32 .entry)) (now (v64 .entry))))) ⌝ }
 {
     if t.width == 32 {
-        if t.mode == 2 {
-            return widened(differenced_narrow(v32, at, end));
-        }
-        return widened(coded_narrow(t, v32, c32, at, end));
+        return group::widened(narrow(t, v32, c32, at, end));
     }
-    if t.mode == 2 {
-        return differenced_wide(v64, at, end);
+    wide(t, v64, at, end)
+}
+
+// The bytes that a group of up to 128 codes takes, those from `at` to `end` of the whole chunk's: it is handled as four records. At width 32, and at width 64.
+fn measured_long32(t: Setting, v32: &[u32], c32: &[u32], at: usize, end: usize) -> usize
+    requires { ⌜ (t .width ≡ 32) × (at ≤ end) × (end ≤ at + 128) × (end ≤ length (now v32)) × (end ≤ 1024) ⌝ }
+    requires { ⌜ (length (now v32) ≤ length (now c32)) × Staged t (now v32) (now c32) ⌝ }
+    ensures { λ r. ⌜ r ≡ length (groupBytes (take (end - at) (drop at (codesOf t (now (v32 .entry)))))) ⌝ }
+{
+    let first = least(at + 32, end);
+    let second = least(at + 64, end);
+    let third = least(at + 96, end);
+    group::measured_four32(
+        narrow(t, v32, c32, at, first),
+        narrow(t, v32, c32, first, second),
+        narrow(t, v32, c32, second, third),
+        narrow(t, v32, c32, third, end),
+    )
+}
+
+fn measured_long64(t: Setting, v64: &[u64], at: usize, end: usize) -> usize
+    requires { ⌜ (t .width ≡ 64) × (at ≤ end) × (end ≤ at + 128) × (end ≤ length (now v64)) × (end ≤ 1024) ⌝ }
+    ensures { λ r. ⌜ r ≡ length (groupBytes (take (end - at) (drop at (codesOf t (now (v64 .entry)))))) ⌝ }
+{
+    let first = least(at + 32, end);
+    let second = least(at + 64, end);
+    let third = least(at + 96, end);
+    group::measured_four(
+        wide(t, v64, at, first),
+        wide(t, v64, first, second),
+        wide(t, v64, second, third),
+        wide(t, v64, third, end),
+    )
+}
+
+// The bytes themselves, at the front of `out`, and how many they are.
+fn put_long32(t: Setting, v32: &[u32], c32: &[u32], at: usize, end: usize, out: &mut [u8]) -> usize
+    requires { ⌜ (t .width ≡ 32) × (at ≤ end) × (end ≤ at + 128) × (end ≤ length (now v32)) × (end ≤ 1024) ⌝ }
+    requires { ⌜ (length (now v32) ≤ length (now c32)) × Staged t (now v32) (now c32) ⌝ }
+    requires { ⌜ length (groupBytes (take (end - at) (drop at (codesOf t (now v32))))) ≤ length (now out) ⌝ }
+    ensures { λ r. ⌜ r ≡ length (groupBytes (take (end - at) (drop at (codesOf t (now (v32 .entry)))))) ⌝ }
+    ensures { λ r. ⌜ now (out .exit) ≡ groupBytes (take (end - at) (drop at (codesOf t (now (v32 .entry))))) ++ drop r (now (out .entry)) ⌝ }
+{
+    let first = least(at + 32, end);
+    let second = least(at + 64, end);
+    let third = least(at + 96, end);
+    group_written::four32(
+        narrow(t, v32, c32, at, first),
+        narrow(t, v32, c32, first, second),
+        narrow(t, v32, c32, second, third),
+        narrow(t, v32, c32, third, end),
+        out,
+    )
+}
+
+fn put_long64(t: Setting, v64: &[u64], at: usize, end: usize, out: &mut [u8]) -> usize
+    requires { ⌜ (t .width ≡ 64) × (at ≤ end) × (end ≤ at + 128) × (end ≤ length (now v64)) × (end ≤ 1024) ⌝ }
+    requires { ⌜ length (groupBytes (take (end - at) (drop at (codesOf t (now v64))))) ≤ length (now out) ⌝ }
+    ensures { λ r. ⌜ r ≡ length (groupBytes (take (end - at) (drop at (codesOf t (now (v64 .entry)))))) ⌝ }
+    ensures { λ r. ⌜ now (out .exit) ≡ groupBytes (take (end - at) (drop at (codesOf t (now (v64 .entry))))) ++ drop r (now (out .entry)) ⌝ }
+{
+    let first = least(at + 32, end);
+    let second = least(at + 64, end);
+    let third = least(at + 96, end);
+    group_written::four(
+        wide(t, v64, at, first),
+        wide(t, v64, first, second),
+        wide(t, v64, second, third),
+        wide(t, v64, third, end),
+        out,
+    )
+}
+
+// The two of both widths.
+fn measured_long(t: Setting, v32: &[u32], c32: &[u32], v64: &[u64], at: usize, end: usize) -> usize
+    requires { ⌜ Allowed t × (at ≤ end) × (end ≤ at + 128) × (end ≤ length (chosen (t .width) (now v32) (now v64))) × (end ≤ 1024) ⌝ }
+    requires { ⌜ (length (now v32) ≤ length (now c32)) × Staged t (now v32) (now c32) ⌝ }
+    ensures { λ r. ⌜ r ≡ length (groupBytes (take (end - at) (drop at (lentCodes t (now (v32 .entry)) (now (v64 .entry)))))) ⌝ }
+{
+    if t.width == 32 {
+        return measured_long32(t, v32, c32, at, end);
     }
-    coded_wide(t, v64, at, end)
+    measured_long64(t, v64, at, end)
+}
+
+fn put_long(
+    t: Setting,
+    v32: &[u32],
+    c32: &[u32],
+    v64: &[u64],
+    at: usize,
+    end: usize,
+    out: &mut [u8],
+) -> usize
+    requires { ⌜ Allowed t × (at ≤ end) × (end ≤ at + 128) × (end ≤ length (chosen (t .width) (now v32) (now v64))) × (end ≤ 1024) ⌝ }
+    requires { ⌜ (length (now v32) ≤ length (now c32)) × Staged t (now v32) (now c32) ⌝ }
+    requires { ⌜ length (groupBytes (take (end - at) (drop at (lentCodes t (now v32) (now v64))))) ≤ length (now out) ⌝ }
+    ensures { λ r. ⌜ r ≡ length (groupBytes (take (end - at) (drop at (lentCodes t (now (v32 .entry)) (now (v64 .entry)))))) ⌝ }
+    ensures { λ r. ⌜ now (out .exit) ≡ groupBytes (take (end - at) (drop at (lentCodes t (now (v32 .entry)) (now (v64 .entry))))) ++ drop r (now (out .entry)) ⌝ }
+{
+    if t.width == 32 {
+        return put_long32(t, v32, c32, at, end, out);
+    }
+    put_long64(t, v64, at, end, out)
 }
 
 // How many bytes the full group from `at` on takes. Mode 2 has a way of its own here and below, so that nothing comes into the loops of
@@ -165,7 +267,10 @@ pub(crate) fn measured_group(t: Setting, v32: &[u32], c32: &[u32], v64: &[u64], 
     requires { ⌜ (length (now v32) ≤ length (now c32)) × Staged t (now v32) (now c32) ⌝ }
     ensures { λ r. ⌜ r ≡ length (groupBytes (take (groupSize t) (drop at (lentCodes t (now (v32 .entry)) (now (v64 .entry)))))) ⌝ }
 {
-    let end = at + setting::group_size(t);
+    if t.size == 128 {
+        return measured_long(t, v32, c32, v64, at, at + 128);
+    }
+    let end = at + 32;
     if t.width == 32 {
         if t.mode == 2 {
             return group::measured_full32(differenced_narrow(v32, at, end));
@@ -193,7 +298,10 @@ pub(crate) fn put_group(
     ensures { λ r. ⌜ r ≡ length (groupBytes (take (groupSize t) (drop at (lentCodes t (now (v32 .entry)) (now (v64 .entry)))))) ⌝ }
     ensures { λ r. ⌜ now (out .exit) ≡ groupBytes (take (groupSize t) (drop at (lentCodes t (now (v32 .entry)) (now (v64 .entry))))) ++ drop r (now (out .entry)) ⌝ }
 {
-    let end = at + setting::group_size(t);
+    if t.size == 128 {
+        return put_long(t, v32, c32, v64, at, at + 128, out);
+    }
+    let end = at + 32;
     if t.width == 32 {
         if t.mode == 2 {
             return group_written::full32(differenced_narrow(v32, at, end), out);
@@ -204,6 +312,46 @@ pub(crate) fn put_group(
         return group_written::full(differenced_wide(v64, at, end), out);
     }
     group_written::full(coded_wide(t, v64, at, end), out)
+}
+
+// The same of a chunk's last group, which is not full: its codes are those from `at` on.
+pub(crate) fn measured_last(
+    t: Setting,
+    v32: &[u32],
+    c32: &[u32],
+    v64: &[u64],
+    at: usize,
+    end: usize,
+) -> usize
+    requires { ⌜ Allowed t × (at ≤ end) × (end ≤ at + groupSize t) × (end ≤ length (chosen (t .width) (now v32) (now v64))) × (end ≤ 1024) ⌝ }
+    requires { ⌜ (length (now v32) ≤ length (now c32)) × Staged t (now v32) (now c32) ⌝ }
+    ensures { λ r. ⌜ r ≡ length (groupBytes (take (end - at) (drop at (lentCodes t (now (v32 .entry)) (now (v64 .entry)))))) ⌝ }
+{
+    if t.size == 128 {
+        return measured_long(t, v32, c32, v64, at, end);
+    }
+    group::measured(coded(t, v32, c32, v64, at, end))
+}
+
+pub(crate) fn put_last(
+    t: Setting,
+    v32: &[u32],
+    c32: &[u32],
+    v64: &[u64],
+    at: usize,
+    end: usize,
+    out: &mut [u8],
+) -> usize
+    requires { ⌜ Allowed t × (at ≤ end) × (end ≤ at + groupSize t) × (end ≤ length (chosen (t .width) (now v32) (now v64))) × (end ≤ 1024) ⌝ }
+    requires { ⌜ (length (now v32) ≤ length (now c32)) × Staged t (now v32) (now c32) ⌝ }
+    requires { ⌜ length (groupBytes (take (end - at) (drop at (lentCodes t (now v32) (now v64))))) ≤ length (now out) ⌝ }
+    ensures { λ r. ⌜ r ≡ length (groupBytes (take (end - at) (drop at (lentCodes t (now (v32 .entry)) (now (v64 .entry)))))) ⌝ }
+    ensures { λ r. ⌜ now (out .exit) ≡ groupBytes (take (end - at) (drop at (lentCodes t (now (v32 .entry)) (now (v64 .entry))))) ++ drop r (now (out .entry)) ⌝ }
+{
+    if t.size == 128 {
+        return put_long(t, v32, c32, v64, at, end, out);
+    }
+    group_written::written(coded(t, v32, c32, v64, at, end), out)
 }
 
 // The first n codes, at the front of `out`.
@@ -252,42 +400,70 @@ fn repeated64(p: u64, n: usize, out: &mut [u64])
     }
 }
 
-// The codes of the group at the front of `s`, whose width is not 0, at the front of `out`: a full one by its block, if the bytes go on far
-// enough for the loads of every code.
-fn read_codes32(s: &[u8], n: usize, out: &mut [u32])
-    requires { ⌜ (n ≤ 32) × (1 ≤ givenWidth (now s)) × (givenWidth (now s) ≤ 32) × (groupLength n (now s) ≤ length (now s)) × (n ≤ length (now out)) ⌝ }
-    ensures { λ _. ⌜ now (out .exit) ≡ groupCodes n (now (s .entry)) ++ drop n (now (out .entry)) ⌝ }
+// The codes of a block of w bits each, at the front of `out`: a full one by its arm, if the bytes go on far enough for the loads of every code.
+fn read_block32(s: &[u8], w: usize, n: usize, out: &mut [u32])
+    requires { ⌜ (n ≤ 32) × (1 ≤ w) × (w ≤ 32) × (bytesFor w n < length (now s)) × (n ≤ length (now out)) ⌝ }
+    ensures { λ _. ⌜ now (out .exit) ≡ blockCodes w n (now (s .entry)) ++ drop n (now (out .entry)) ⌝ }
 {
-    let w = bytes::wide(s[0]) as usize;
     if n == 32 {
         if 4 * w + 10 <= s.len() {
             block32::opened32(s, w, out);
             return;
         }
     }
-    let g = group_read::codes_of(s, n);
+    let g = group_read::codes_of(s, w, n);
     copied32(&g.codes, n, out);
 }
 
-fn read_codes64(s: &[u8], n: usize, out: &mut [u64])
-    requires { ⌜ (n ≤ 32) × (1 ≤ givenWidth (now s)) × (givenWidth (now s) ≤ 64) × (groupLength n (now s) ≤ length (now s)) × (n ≤ length (now out)) ⌝ }
-    ensures { λ _. ⌜ now (out .exit) ≡ groupCodes n (now (s .entry)) ++ drop n (now (out .entry)) ⌝ }
+fn read_block64(s: &[u8], w: usize, n: usize, out: &mut [u64])
+    requires { ⌜ (n ≤ 32) × (1 ≤ w) × (w ≤ 64) × (bytesFor w n < length (now s)) × (n ≤ length (now out)) ⌝ }
+    ensures { λ _. ⌜ now (out .exit) ≡ blockCodes w n (now (s .entry)) ++ drop n (now (out .entry)) ⌝ }
 {
-    let w = bytes::wide(s[0]) as usize;
     if n == 32 {
         if 4 * w + 10 <= s.len() {
             block64::opened64(s, w, out);
             return;
         }
     }
-    let g = group_read::codes_of(s, n);
+    let g = group_read::codes_of(s, w, n);
     copied64(&g.codes, n, out);
+}
+
+// The codes of the group at the front of `s`, whose width is not 0, at the front of `out`: block by block.
+fn read_codes32(s: &[u8], n: usize, out: &mut [u32])
+    requires { ⌜ (n ≤ 128) × (1 ≤ givenWidth (now s)) × (givenWidth (now s) ≤ 32) × (groupLength n (now s) ≤ length (now s)) × (n ≤ length (now out)) ⌝ }
+    ensures { λ _. ⌜ now (out .exit) ≡ groupCodes n (now (s .entry)) ++ drop n (now (out .entry)) ⌝ }
+{
+    let w = bytes::wide(s[0]) as usize;
+    let mut from: usize = 0;
+    let mut done: usize = 0;
+    while done < n {
+        let count = group_read::block_count(n - done);
+        read_block32(&s[from..], w, count, &mut out[done..]);
+        from += 4 * w;
+        done += count;
+    }
+}
+
+fn read_codes64(s: &[u8], n: usize, out: &mut [u64])
+    requires { ⌜ (n ≤ 128) × (1 ≤ givenWidth (now s)) × (givenWidth (now s) ≤ 64) × (groupLength n (now s) ≤ length (now s)) × (n ≤ length (now out)) ⌝ }
+    ensures { λ _. ⌜ now (out .exit) ≡ groupCodes n (now (s .entry)) ++ drop n (now (out .entry)) ⌝ }
+{
+    let w = bytes::wide(s[0]) as usize;
+    let mut from: usize = 0;
+    let mut done: usize = 0;
+    while done < n {
+        let count = group_read::block_count(n - done);
+        read_block64(&s[from..], w, count, &mut out[done..]);
+        from += 4 * w;
+        done += count;
+    }
 }
 
 // The patterns of the group at the front of `s` in the modes 0 and 1, at the front of `out`; its codes go through the scratch `c`. In both modes
 // the code 0 is that of the pattern 0, so that a group of no bits, as fields with many zeros have, is not opened.
 fn put_values32(t: Setting, s: &[u8], n: usize, c: &mut [u32], out: &mut [u32])
-    requires { ⌜ Allowed t × (t .width ≡ 32) × (n ≤ 32) × (givenWidth (now s) ≤ 32) × (groupLength n (now s) ≤ length (now s)) × (n ≤ length (now c)) × (n ≤ length (now out)) ⌝ }
+    requires { ⌜ Allowed t × (t .width ≡ 32) × (n ≤ 128) × (givenWidth (now s) ≤ 32) × (groupLength n (now s) ≤ length (now s)) × (n ≤ length (now c)) × (n ≤ length (now out)) ⌝ }
     ensures { λ _. ⌜ now (out .exit) ≡ map (patternAt t) (groupCodes n (now (s .entry))) ++ drop n (now (out .entry)) ⌝ }
 {
     if 0 < s[0] {
@@ -299,7 +475,7 @@ fn put_values32(t: Setting, s: &[u8], n: usize, c: &mut [u32], out: &mut [u32])
 }
 
 fn put_values64(t: Setting, s: &[u8], n: usize, c: &mut [u64], out: &mut [u64])
-    requires { ⌜ Allowed t × (t .width ≡ 64) × (n ≤ 32) × (givenWidth (now s) ≤ 64) × (groupLength n (now s) ≤ length (now s)) × (n ≤ length (now c)) × (n ≤ length (now out)) ⌝ }
+    requires { ⌜ Allowed t × (t .width ≡ 64) × (n ≤ 128) × (givenWidth (now s) ≤ 64) × (groupLength n (now s) ≤ length (now s)) × (n ≤ length (now c)) × (n ≤ length (now out)) ⌝ }
     ensures { λ _. ⌜ now (out .exit) ≡ map (patternAt t) (groupCodes n (now (s .entry))) ++ drop n (now (out .entry)) ⌝ }
 {
     if 0 < s[0] {
@@ -312,7 +488,7 @@ fn put_values64(t: Setting, s: &[u8], n: usize, c: &mut [u64], out: &mut [u64])
 
 // The same in mode 2, behind the pattern `before`, which the code 0 repeats: nearly constant fields have many groups of no bits there.
 fn put_summed32(before: u32, s: &[u8], n: usize, c: &mut [u32], out: &mut [u32])
-    requires { ⌜ (n ≤ 32) × (givenWidth (now s) ≤ 32) × (groupLength n (now s) ≤ length (now s)) × (n ≤ length (now c)) × (n ≤ length (now out)) ⌝ }
+    requires { ⌜ (n ≤ 128) × (givenWidth (now s) ≤ 32) × (groupLength n (now s) ≤ length (now s)) × (n ≤ length (now c)) × (n ≤ length (now out)) ⌝ }
     ensures { λ _. ⌜ now (out .exit) ≡ runningSums 32 before (groupCodes n (now (s .entry))) ++ drop n (now (out .entry)) ⌝ }
 {
     if 0 < s[0] {
@@ -324,7 +500,7 @@ fn put_summed32(before: u32, s: &[u8], n: usize, c: &mut [u32], out: &mut [u32])
 }
 
 fn put_summed64(before: u64, s: &[u8], n: usize, c: &mut [u64], out: &mut [u64])
-    requires { ⌜ (n ≤ 32) × (givenWidth (now s) ≤ 64) × (groupLength n (now s) ≤ length (now s)) × (n ≤ length (now c)) × (n ≤ length (now out)) ⌝ }
+    requires { ⌜ (n ≤ 128) × (givenWidth (now s) ≤ 64) × (groupLength n (now s) ≤ length (now s)) × (n ≤ length (now c)) × (n ≤ length (now out)) ⌝ }
     ensures { λ _. ⌜ now (out .exit) ≡ runningSums 64 before (groupCodes n (now (s .entry))) ++ drop n (now (out .entry)) ⌝ }
 {
     if 0 < s[0] {
@@ -347,7 +523,7 @@ pub(crate) fn put_values(
     o64: &mut [u64],
     at: usize,
 )
-    requires { ⌜ Allowed t × (n ≤ 32) × (givenWidth (now s) ≤ t .width) × (groupLength n (now s) ≤ length (now s)) ⌝ }
+    requires { ⌜ Allowed t × (n ≤ 128) × (givenWidth (now s) ≤ t .width) × (groupLength n (now s) ≤ length (now s)) ⌝ }
     requires { ⌜ (at ≤ 1024) × (n ≤ length (chosen (t .width) (now c32) (now c64))) × (at + n ≤ length (chosen (t .width) (now o32) (now o64))) ⌝ }
     ensures { λ _. ⌜ chosen (t .width) (now (o32 .exit)) (now (o64 .exit)) ≡ landed at (patternsAfter t (lastOf 0 (take at (chosen (t .width) (now (o32 .entry)) (now (o64 .entry))))) (groupCodes n (now (s .entry)))) (chosen (t .width) (now (o32 .entry)) (now (o64 .entry))) ⌝ }
 {
@@ -381,7 +557,7 @@ fn pattern(t: Setting, c: u64) -> u64
 }
 
 // The pattern of the code i, of codes that stand behind `before`: in mode 2 the sum up to that code and with it, else of that code alone.
-pub(crate) fn value(t: Setting, before: u64, codes: &[u64], i: usize) -> u64
+fn picked(t: Setting, before: u64, codes: &[u64], i: usize) -> u64
     requires { ⌜ Allowed t × (before < 2 ^ t .width) × (i < length (now codes)) × (i < 1024) × Below (2 ^ t .width) (take (i + 1) (now codes)) ⌝ }
     ensures { λ p. ⌜ p ≡ getD (patternsAfter t before (take (i + 1) (now (codes .entry)))) i 0 ⌝ }
 {
@@ -392,15 +568,48 @@ pub(crate) fn value(t: Setting, before: u64, codes: &[u64], i: usize) -> u64
     }
 }
 
-// The pattern that what follows a good group of n codes stands behind. It counts in mode 2 alone, so the others do not open the group.
+// The last pattern of a block's codes in mode 2.
+fn block_sum(t: Setting, before: u64, s: &[u8], w: usize, n: usize) -> u64
+    requires { ⌜ Allowed t × (before < 2 ^ t .width) × (n ≤ 32) × (w ≤ t .width) × (bytesFor w n < length (now s)) ⌝ }
+    ensures { λ r. ⌜ (r < 2 ^ t .width) × (r ≡ lastOf before (runningSums (t .width) before (blockCodes w n (now (s .entry))))) ⌝ }
+{
+    let g = group_read::codes_of(s, w, n);
+    let codes = g.codes;
+    differences::last_sum(t, before, &codes, n)
+}
+
+// The pattern that what follows the first n codes of a good group stands behind. It counts in mode 2 alone, so the others do not open the group.
 pub(crate) fn carried(t: Setting, before: u64, s: &[u8], n: usize) -> u64
-    requires { ⌜ Allowed t × (before < 2 ^ t .width) × (n ≤ 32) × (givenWidth (now s) ≤ t .width) × (groupLength n (now s) ≤ length (now s)) ⌝ }
+    requires { ⌜ Allowed t × (before < 2 ^ t .width) × (n ≤ 128) × (givenWidth (now s) ≤ t .width) × (groupLength n (now s) ≤ length (now s)) ⌝ }
     ensures { λ r. ⌜ (r < 2 ^ t .width) × SameBehind t r (lastOf before (patternsAfter t before (groupCodes n (now (s .entry))))) ⌝ }
 {
     if t.mode != 2 {
         return before;
     }
-    let g = group_read::codes_of(s, n);
+    let w = bytes::wide(s[0]) as usize;
+    let mut last = before;
+    let mut from: usize = 0;
+    let mut left = n;
+    while 0 < left {
+        let count = group_read::block_count(left);
+        last = block_sum(t, last, &s[from..], w, count);
+        from += 4 * w;
+        left -= count;
+    }
+    last
+}
+
+// The value i of a good group of n, whose codes stand behind `before`: the full blocks before its own are passed over, and in mode 2 summed up.
+pub(crate) fn value(t: Setting, before: u64, s: &[u8], n: usize, i: usize) -> u64
+    requires { ⌜ Allowed t × (before < 2 ^ t .width) × (i < n) × (n ≤ 128) × (givenWidth (now s) ≤ t .width) × (groupLength n (now s) ≤ length (now s)) ⌝ }
+    ensures { λ p. ⌜ p ≡ getD (patternsAfter t before (groupCodes n (now (s .entry)))) i 0 ⌝ }
+{
+    let w = bytes::wide(s[0]) as usize;
+    let block = i / 32;
+    let passed = 32 * block;
+    let last = carried(t, before, s, passed);
+    let from = 4 * w * block;
+    let g = group_read::codes_of(&s[from..], w, group_read::block_count(n - passed));
     let codes = g.codes;
-    differences::last_sum(t, before, &codes, n)
+    picked(t, last, &codes, i - passed)
 }

@@ -47,7 +47,7 @@ fn read(
     o32: &mut [u32],
     o64: &mut [u64],
 ) -> ChunkRead
-    requires { ⌜ (room ≡ length (chosen width (now o32) (now o64))) × (32 ≤ length (chosen width (now c32) (now c64))) ⌝ }
+    requires { ⌜ (room ≡ length (chosen width (now o32) (now o64))) × (128 ≤ length (chosen width (now c32) (now c64))) ⌝ }
     ensures { λ r. ⌜ r ≡ chunkRead width (now (bytes .entry)) j (length (chosen width (now (o32 .entry)) (now (o64 .entry)))) ⌝ }
     ensures { λ _. ⌜ chosen width (now (o32 .exit)) (now (o64 .exit)) ≡ chunkOut width (now (bytes .entry)) j (chosen width (now (o32 .entry)) (now (o64 .entry))) ⌝ }
 {
@@ -70,7 +70,7 @@ pub fn values32(bytes: &[u8], j: usize, out: &mut [u32]) -> ChunkRead
     ensures { λ _. ⌜ now (out .exit) ≡ chunkOut 32 (now (bytes .entry)) j (now (out .entry)) ⌝ }
 {
     let mut none = [0u64; 0];
-    let mut c32 = [0u32; 32];
+    let mut c32 = [0u32; 128];
     let mut c64 = [0u64; 0];
     let room = out.len();
     read(32, bytes, j, room, &mut c32, &mut c64, out, &mut none)
@@ -82,7 +82,7 @@ pub fn values64(bytes: &[u8], j: usize, out: &mut [u64]) -> ChunkRead
 {
     let mut none = [0u32; 0];
     let mut c32 = [0u32; 0];
-    let mut c64 = [0u64; 32];
+    let mut c64 = [0u64; 128];
     let room = out.len();
     read(64, bytes, j, room, &mut c32, &mut c64, &mut none, out)
 }

@@ -22,17 +22,17 @@ use crate::setting::Setting;
 use blocks::bytes;
 
 // 1 2 3: what is refused before a value is looked at.
-fn length_step(width: usize, level: usize, mode: usize, k: i32, n: usize) -> Step
+fn length_step(width: usize, level: usize, mode: usize, k: i32, size: usize, n: usize) -> Step
     requires { ⌜ knownWidth width ≡ true ⌝ }
-    ensures { λ r. ⌜ r ≡ first (lengthRows width level mode k n) ⌝ }
+    ensures { λ r. ⌜ r ≡ first (lengthRows width level mode k size n) ⌝ }
 {
     if !setting::known_level(level) {
         return Step::Stop(1, 0);
     }
-    if !setting::allowed(width, mode, k) {
+    if !setting::allowed(width, mode, k, size) {
         return Step::Stop(2, 0);
     }
-    if level < setting::need_of(setting::setting_of(width, mode, k)) {
+    if level < setting::need_of(setting::setting_of(width, mode, k, size)) {
         return Step::Stop(2, 0);
     }
     if 1048576 < n {
@@ -105,7 +105,7 @@ fn put_front(level: u32, t: Setting, n: usize, out: &mut [u8])
         level,
         needed as u32,
         t.width,
-        t.mode,
+        setting::mode_number(t),
         setting::k_bits(t),
         n as u32,
         chunks as u32,
@@ -221,19 +221,27 @@ fn measured_or_refused(
     level: u32,
     mode: u32,
     k: i32,
+    size: u32,
     v32: &[u32],
     v64: &[u64],
     c32: &mut [u32],
     n: usize,
 ) -> Answer
     requires { ⌜ (knownWidth width ≡ true) × (n ≡ length (chosen width (now v32) (now v64))) × (min 1024 (length (now v32)) ≤ length (now c32)) ⌝ }
-    ensures { λ r. ⌜ r ≡ lengthAnswer width level mode k (chosen width (now (v32 .entry)) (now (v64 .entry))) ⌝ }
+    ensures { λ r. ⌜ r ≡ lengthAnswer width level mode k size (chosen width (now (v32 .entry)) (now (v64 .entry))) ⌝ }
 {
-    let refused = length_step(width as usize, level as usize, mode as usize, k, n);
+    let refused = length_step(
+        width as usize,
+        level as usize,
+        mode as usize,
+        k,
+        size as usize,
+        n,
+    );
     if let Step::Stop(number, detail) = refused {
         return Answer::Refused(number, detail);
     }
-    let t = setting::setting_of(width as usize, mode as usize, k);
+    let t = setting::setting_of(width as usize, mode as usize, k, size as usize);
     Answer::Done(measured(t, v32, v64, c32, n))
 }
 
@@ -243,6 +251,7 @@ fn packed_or_refused(
     level: u32,
     mode: u32,
     k: i32,
+    size: u32,
     v32: &[u32],
     v64: &[u64],
     c32: &mut [u32],
@@ -250,14 +259,21 @@ fn packed_or_refused(
     out: &mut [u8],
 ) -> Answer
     requires { ⌜ (knownWidth width ≡ true) × (n ≡ length (chosen width (now v32) (now v64))) × (min 1024 (length (now v32)) ≤ length (now c32)) ⌝ }
-    ensures { λ r. ⌜ r ≡ packAnswer width level mode k (chosen width (now (v32 .entry)) (now (v64 .entry))) (length (now (out .entry))) ⌝ }
-    ensures { λ _. ⌜ now (out .exit) ≡ packOut width level mode k (chosen width (now (v32 .entry)) (now (v64 .entry))) (now (out .entry)) ⌝ }
+    ensures { λ r. ⌜ r ≡ packAnswer width level mode k size (chosen width (now (v32 .entry)) (now (v64 .entry))) (length (now (out .entry))) ⌝ }
+    ensures { λ _. ⌜ now (out .exit) ≡ packOut width level mode k size (chosen width (now (v32 .entry)) (now (v64 .entry))) (now (out .entry)) ⌝ }
 {
-    let refused = length_step(width as usize, level as usize, mode as usize, k, n);
+    let refused = length_step(
+        width as usize,
+        level as usize,
+        mode as usize,
+        k,
+        size as usize,
+        n,
+    );
     if let Step::Stop(number, detail) = refused {
         return Answer::Refused(number, detail);
     }
-    let t = setting::setting_of(width as usize, mode as usize, k);
+    let t = setting::setting_of(width as usize, mode as usize, k, size as usize);
     let short = room_step(t, v32, v64, c32, n, out.len());
     if let Step::Stop(number, detail) = short {
         return Answer::Refused(number, detail);
@@ -266,26 +282,46 @@ fn packed_or_refused(
 }
 
 // How many bytes pack would use.
-pub fn length32(level: u32, mode: u32, k: i32, values: &[u32]) -> Answer
-    ensures { λ r. ⌜ r ≡ lengthAnswer 32 level mode k (now (values .entry)) ⌝ }
+pub fn length32(level: u32, mode: u32, k: i32, size: u32, values: &[u32]) -> Answer
+    ensures { λ r. ⌜ r ≡ lengthAnswer 32 level mode k size (now (values .entry)) ⌝ }
 {
     let none = [0u64; 0];
     let mut c32 = [0u32; 1024];
-    measured_or_refused(32, level, mode, k, values, &none, &mut c32, values.len())
+    measured_or_refused(
+        32,
+        level,
+        mode,
+        k,
+        size,
+        values,
+        &none,
+        &mut c32,
+        values.len(),
+    )
 }
 
-pub fn length64(level: u32, mode: u32, k: i32, values: &[u64]) -> Answer
-    ensures { λ r. ⌜ r ≡ lengthAnswer 64 level mode k (now (values .entry)) ⌝ }
+pub fn length64(level: u32, mode: u32, k: i32, size: u32, values: &[u64]) -> Answer
+    ensures { λ r. ⌜ r ≡ lengthAnswer 64 level mode k size (now (values .entry)) ⌝ }
 {
     let none = [0u32; 0];
     let mut c32 = [0u32; 0];
-    measured_or_refused(64, level, mode, k, &none, values, &mut c32, values.len())
+    measured_or_refused(
+        64,
+        level,
+        mode,
+        k,
+        size,
+        &none,
+        values,
+        &mut c32,
+        values.len(),
+    )
 }
 
 // The packed stream at the front of `out`; on a refusal the output is as it was.
-pub fn pack32(level: u32, mode: u32, k: i32, values: &[u32], out: &mut [u8]) -> Answer
-    ensures { λ r. ⌜ r ≡ packAnswer 32 level mode k (now (values .entry)) (length (now (out .entry))) ⌝ }
-    ensures { λ _. ⌜ now (out .exit) ≡ packOut 32 level mode k (now (values .entry)) (now (out .entry)) ⌝ }
+pub fn pack32(level: u32, mode: u32, k: i32, size: u32, values: &[u32], out: &mut [u8]) -> Answer
+    ensures { λ r. ⌜ r ≡ packAnswer 32 level mode k size (now (values .entry)) (length (now (out .entry))) ⌝ }
+    ensures { λ _. ⌜ now (out .exit) ≡ packOut 32 level mode k size (now (values .entry)) (now (out .entry)) ⌝ }
 {
     let none = [0u64; 0];
     let mut c32 = [0u32; 1024];
@@ -294,6 +330,7 @@ pub fn pack32(level: u32, mode: u32, k: i32, values: &[u32], out: &mut [u8]) -> 
         level,
         mode,
         k,
+        size,
         values,
         &none,
         &mut c32,
@@ -302,9 +339,9 @@ pub fn pack32(level: u32, mode: u32, k: i32, values: &[u32], out: &mut [u8]) -> 
     )
 }
 
-pub fn pack64(level: u32, mode: u32, k: i32, values: &[u64], out: &mut [u8]) -> Answer
-    ensures { λ r. ⌜ r ≡ packAnswer 64 level mode k (now (values .entry)) (length (now (out .entry))) ⌝ }
-    ensures { λ _. ⌜ now (out .exit) ≡ packOut 64 level mode k (now (values .entry)) (now (out .entry)) ⌝ }
+pub fn pack64(level: u32, mode: u32, k: i32, size: u32, values: &[u64], out: &mut [u8]) -> Answer
+    ensures { λ r. ⌜ r ≡ packAnswer 64 level mode k size (now (values .entry)) (length (now (out .entry))) ⌝ }
+    ensures { λ _. ⌜ now (out .exit) ≡ packOut 64 level mode k size (now (values .entry)) (now (out .entry)) ⌝ }
 {
     let none = [0u32; 0];
     let mut c32 = [0u32; 0];
@@ -313,6 +350,7 @@ pub fn pack64(level: u32, mode: u32, k: i32, values: &[u64], out: &mut [u8]) -> 
         level,
         mode,
         k,
+        size,
         &none,
         values,
         &mut c32,

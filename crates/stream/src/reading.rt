@@ -66,7 +66,7 @@ fn unpacked_or_refused(
     o32: &mut [u32],
     o64: &mut [u64],
 ) -> Answer
-    requires { ⌜ (room ≡ length (chosen width (now o32) (now o64))) × (32 ≤ length (chosen width (now c32) (now c64))) ⌝ }
+    requires { ⌜ (room ≡ length (chosen width (now o32) (now o64))) × (128 ≤ length (chosen width (now c32) (now c64))) ⌝ }
     ensures { λ r. ⌜ r ≡ unpackAnswer width level (now (bytes .entry)) (length (chosen width (now (o32 .entry)) (now (o64 .entry)))) ⌝ }
     ensures { λ _. ⌜ chosen width (now (o32 .exit)) (now (o64 .exit)) ≡ unpackOut width level (now (bytes .entry)) (chosen width (now (o32 .entry)) (now (o64 .entry))) ⌝ }
 {
@@ -85,7 +85,7 @@ pub fn unpack32(level: u32, bytes: &[u8], out: &mut [u32]) -> Answer
     ensures { λ _. ⌜ now (out .exit) ≡ unpackOut 32 level (now (bytes .entry)) (now (out .entry)) ⌝ }
 {
     let mut none = [0u64; 0];
-    let mut c32 = [0u32; 32];
+    let mut c32 = [0u32; 128];
     let mut c64 = [0u64; 0];
     let room = out.len();
     unpacked_or_refused(
@@ -106,7 +106,7 @@ pub fn unpack64(level: u32, bytes: &[u8], out: &mut [u64]) -> Answer
 {
     let mut none = [0u32; 0];
     let mut c32 = [0u32; 0];
-    let mut c64 = [0u64; 32];
+    let mut c64 = [0u64; 128];
     let room = out.len();
     unpacked_or_refused(
         64,

@@ -32,7 +32,7 @@ pub(crate) fn restore_chunk(
     o64: &mut [u64],
 )
     requires { ⌜ Opened (length (now bytes)) h × (j < h .chunks) × Placed h (now bytes) j × (wholeChunk (h .width) (groupSize (settingIn h)) (countOf h j) (chunkOf h (now bytes) j) ≡ true) ⌝ }
-    requires { ⌜ (place ≤ 1048576) × (place + countOf h j ≤ length (chosen (h .width) (now o32) (now o64))) × (32 ≤ length (chosen (h .width) (now c32) (now c64))) ⌝ }
+    requires { ⌜ (place ≤ 1048576) × (place + countOf h j ≤ length (chosen (h .width) (now o32) (now o64))) × (128 ≤ length (chosen (h .width) (now c32) (now c64))) ⌝ }
     ensures { λ _. ⌜ chosen (h .width) (now (o32 .exit)) (now (o64 .exit)) ≡ landed place (chunkValues h (now (bytes .entry)) j) (chosen (h .width) (now (o32 .entry)) (now (o64 .entry))) ⌝ }
 {
     let t = header::setting_in(h);
@@ -52,7 +52,7 @@ pub(crate) fn restore(
     o32: &mut [u32],
     o64: &mut [u64],
 )
-    requires { ⌜ Readable (h .width) h (now bytes) × (first (chunkRows h (now bytes)) ≡ Pass) × (h .count ≤ length (chosen (h .width) (now o32) (now o64))) × (32 ≤ length (chosen (h .width) (now c32) (now c64))) ⌝ }
+    requires { ⌜ Readable (h .width) h (now bytes) × (first (chunkRows h (now bytes)) ≡ Pass) × (h .count ≤ length (chosen (h .width) (now o32) (now o64))) × (128 ≤ length (chosen (h .width) (now c32) (now c64))) ⌝ }
     ensures { λ _. ⌜ chosen (h .width) (now (o32 .exit)) (now (o64 .exit)) ≡ valuesIn h (now (bytes .entry)) ++ drop (h .count) (chosen (h .width) (now (o32 .entry)) (now (o64 .entry))) ⌝ }
 {
     let mut j: usize = 0;

@@ -5,7 +5,8 @@ ghost use Prim.Native.Nat.{_^_, _≤_, _<_};
 ghost use lib.IntN.{subℕ};
 ghost use Rattle.bins.specs.Answers.{binAnswer};
 ghost use Rattle.numbers.specs.Signed.{bitsOf};
-ghost use Rattle.stream.specs.Setting.{knownLevel, knownWidth, fractionBits, need, streamNeed, allowedSetting, binFor, settingOf, kBits, groupSize, limitOf};
+ghost use Rattle.stream.specs.Setting.{knownLevel, knownWidth, fractionBits, need, streamNeed, allowedMode, allowedSetting, binFor, settingOf};
+ghost use Rattle.stream.specs.Setting.{modeNumber, kBits, groupSize, limitOf};
 ghost use Rattle.stream.specs.Relied.{Allowed};
 use bins::bin;
 use bins::bin::BinAnswer;
@@ -15,9 +16,10 @@ pub(crate) struct Setting {
     pub width: u32,
     pub mode: u32,
     pub bin: u32,
+    pub size: u32,
 }
 
-pub(crate) const HIGHEST_LEVEL: u32 = 12;
+pub(crate) const HIGHEST_LEVEL: u32 = 13;
 
 pub fn known_level(level: usize) -> bool
     ensures { λ r. ⌜ r ≡ knownLevel level ⌝ }
@@ -42,10 +44,10 @@ fn bin_at(width: usize, k: i32) -> BinAnswer
     bin::bin64(k)
 }
 
-// Whether a setting is allowed, at some level.
-pub(crate) fn allowed(width: usize, mode: usize, k: i32) -> bool
+// Whether a mode is allowed, with its k.
+fn allowed_mode(width: usize, mode: usize, k: i32) -> bool
     requires { ⌜ knownWidth width ≡ true ⌝ }
-    ensures { λ r. ⌜ r ≡ allowedSetting width mode k ⌝ }
+    ensures { λ r. ⌜ r ≡ allowedMode width mode k ⌝ }
 {
     if mode == 1 {
         let bin = bin_at(width, k);
@@ -57,9 +59,17 @@ pub(crate) fn allowed(width: usize, mode: usize, k: i32) -> bool
     ((mode == 0) | (mode == 2)) & (k == 0)
 }
 
+// Whether a setting is allowed, at some level.
+pub(crate) fn allowed(width: usize, mode: usize, k: i32, size: usize) -> bool
+    requires { ⌜ knownWidth width ≡ true ⌝ }
+    ensures { λ r. ⌜ r ≡ allowedSetting width mode k size ⌝ }
+{
+    allowed_mode(width, mode, k) & ((size == 32) | (size == 128))
+}
+
 // The bin of an allowed setting. The lossless modes have none, and count as bin 0.
 fn bin_for(width: usize, mode: usize, k: i32) -> u32
-    requires { ⌜ (knownWidth width ≡ true) × (allowedSetting width mode k ≡ true) ⌝ }
+    requires { ⌜ (knownWidth width ≡ true) × (allowedMode width mode k ≡ true) ⌝ }
     ensures { λ r. ⌜ r ≡ binFor width mode k ⌝ }
 {
     if mode != 1 {
@@ -73,21 +83,25 @@ fn bin_for(width: usize, mode: usize, k: i32) -> u32
 }
 
 // The one place where a setting is made, of a call's numbers or a header's.
-pub(crate) fn setting_of(width: usize, mode: usize, k: i32) -> Setting
-    requires { ⌜ (knownWidth width ≡ true) × (allowedSetting width mode k ≡ true) ⌝ }
-    ensures { λ r. ⌜ (r ≡ settingOf width mode k) × Allowed r ⌝ }
+pub(crate) fn setting_of(width: usize, mode: usize, k: i32, size: usize) -> Setting
+    requires { ⌜ (knownWidth width ≡ true) × (allowedSetting width mode k size ≡ true) ⌝ }
+    ensures { λ r. ⌜ (r ≡ settingOf width mode k size) × Allowed r ⌝ }
 {
     Setting {
         width: width as u32,
         mode: mode as u32,
         bin: bin_for(width, mode, k),
+        size: size as u32,
     }
 }
 
-// The largest of the needs of the width and the mode.
+// The largest of the needs of the width, the mode and the group size.
 pub(crate) fn need_of(t: Setting) -> usize
     ensures { λ r. ⌜ r ≡ need t ⌝ }
 {
+    if t.size == 128 {
+        return 13;
+    }
     if t.mode == 2 {
         return 11;
     }
@@ -109,6 +123,17 @@ pub(crate) fn stream_need(t: Setting, high: bool) -> usize
         return 12;
     }
     need
+}
+
+// The mode number of the header: "256 is added to the mode number for 128".
+pub(crate) fn mode_number(t: Setting) -> u32
+    requires { ⌜ Allowed t ⌝ }
+    ensures { λ r. ⌜ r ≡ modeNumber t ⌝ }
+{
+    if t.size == 128 {
+        return t.mode + 256;
+    }
+    t.mode
 }
 
 // "k in two's complement (0 in mode 0)", and in mode 2: the smallest k, of bin 0, is -150 or -1075.
@@ -138,9 +163,9 @@ fn difference_bits(a: u32, b: u32) -> u32
 
 // The size of a group.
 pub(crate) fn group_size(t: Setting) -> usize
-    ensures { λ r. ⌜ (r ≡ groupSize t) × (0 < r) × (r ≤ 32) ⌝ }
+    ensures { λ r. ⌜ (r ≡ groupSize t) × (0 < r) × (r ≤ 128) ⌝ }
 {
-    32
+    if t.size == 128 { 128 } else { 32 }
 }
 
 // The largest u that a code may have.

@@ -1,8 +1,8 @@
--- What is known of a setting: its need by cases, and its bin where it is allowed.
+-- What is known of a setting: its need by cases, its group size, and its bin where it is allowed.
 use mathlib.Core.Path.{_≡_, refl, sym, subst, _∙_}
 use mathlib.Core.Logic.{_⊎_, inl, inr, ⊎-elim}
 use mathlib.Core.Bool.{Bool, true, false, _&&_, cond}
-use Prim.Native.Nat.{ℕ, suc, _-_, _*_, _^_, _≤_, _<_, zero-le}
+use Prim.Native.Nat.{ℕ, suc, _+_, _-_, _*_, _/_, _^_, _≤_, _<_, zero-le, max}
 use native.Mathlib.Omega.{arith}
 use native.Mathlib.Nat.{lt-of-le-of-lt}
 use borrow.Author.Tests.{eqb-true, eq-eqb, ne-eqb, leb-true}
@@ -18,9 +18,10 @@ use Rattle.bins.specs.Tolerance.{allowedK, lastBin}
 use Rattle.numbers.specs.Theorem.{Format}
 use Rattle.bins.specs.Answers.{binAnswer}
 use Rattle.numbers.proofs.Theorems.{format-32, format-64, a-bin-is-that-of-k, no-bin-means-not-allowed, an-allowed-k-has-a-bin}
-use Rattle.stream.specs.Setting.{highestLevel, knownLevel, knownWidth, fractionBits, losslessMode, isZero, allowedSetting, binFor, settingOf, widthNeed, modeNeed, need, groupSize}
+use Rattle.stream.specs.Setting.{highestLevel, knownLevel, knownWidth, knownSize, fractionBits, losslessMode, isZero, allowedMode, allowedSetting}
+use Rattle.stream.specs.Setting.{binFor, settingOf, widthNeed, modeNeed, sizeNeed, need, groupSize}
 use Rattle.stream.specs.Chunk.{groupsIn}
-use Rattle.stream.specs.Header.{kOf, needRight, settingRight}
+use Rattle.stream.specs.Header.{kOf, saidMode, saidSize, needRight, settingRight}
 use Rattle.stream.specs.Relied.{Allowed, Settled}
 use Rattle.stream.specs.Packing.{Packable}
 use Rattle.stream.specs.declared.header.Header.{Header}
@@ -48,6 +49,12 @@ width-format W e =
 pub width-most : (W : ℕ) → knownWidth W ≡ true → W ≤ 64
 width-most W e = ⊎-elim (λ a. omega arith) (λ a. omega arith) (width-cases W e)
 
+-- ---- group sizes
+
+pub size-cases : (size : ℕ) → knownSize size ≡ true → (size ≡ 32) ⊎ (size ≡ 128)
+unfolding knownSize
+size-cases size e = ⊎-elim (λ a. inl (eqb-true size 32 a)) (λ a. inr (eqb-true size 128 a)) (either (eqb size 32) (eqb size 128) e)
+
 -- ---- needs
 
 mode-need-small : (b : Bool) → cond b 9 8 ≤ 9
@@ -58,24 +65,39 @@ width-need-small : (b : Bool) → cond b 10 8 ≤ 10
 width-need-small true = lit≤ tt
 width-need-small false = lit≤ tt
 
+other-need-small : (a b c : Bool) → max (cond a 10 8) (cond b 9 (cond c 11 8)) ≤ 13
+other-need-small true true c = lit≤ tt
+other-need-small true false true = lit≤ tt
+other-need-small true false false = lit≤ tt
+other-need-small false true c = lit≤ tt
+other-need-small false false true = lit≤ tt
+other-need-small false false false = lit≤ tt
+
 module _ (t : Setting) where
-  pub need-mode-2 : t .mode ≡ 2 → 11 ≡ need t
-  unfolding need widthNeed modeNeed
-  need-mode-2 e = rw e (omega (arith, width-need-small (eqb (t .width) 64)))
+  pub need-128 : t .size ≡ 128 → 13 ≡ need t
+  unfolding need widthNeed modeNeed sizeNeed
+  need-128 e = rw e (omega (arith, other-need-small (eqb (t .width) 64) (eqb (t .mode) 1) (eqb (t .mode) 2)))
 
-  -- and where the mode is another
-  module _ (other : t .mode ≡ 2 → ⊥) where
-    pub need-64 : t .width ≡ 64 → 10 ≡ need t
-    unfolding need widthNeed modeNeed
-    need-64 e = rw (eq-eqb (t .width) 64 e, ne-eqb (t .mode) 2 other) (omega (arith, mode-need-small (eqb (t .mode) 1)))
+  -- and where the size is another
+  module _ (short : t .size ≡ 128 → ⊥) where
+    pub need-mode-2 : t .mode ≡ 2 → 11 ≡ need t
+    unfolding need widthNeed modeNeed sizeNeed
+    need-mode-2 e = rw (e, ne-eqb (t .size) 128 short) (omega (arith, width-need-small (eqb (t .width) 64)))
 
-    pub need-mode-1 : (t .width ≡ 64 → ⊥) → t .mode ≡ 1 → 9 ≡ need t
-    unfolding need widthNeed modeNeed
-    need-mode-1 n e = rw (ne-eqb (t .width) 64 n, eq-eqb (t .mode) 1 e)
+    -- and where the mode is another
+    module _ (other : t .mode ≡ 2 → ⊥) where
+      pub need-64 : t .width ≡ 64 → 10 ≡ need t
+      unfolding need widthNeed modeNeed sizeNeed
+      need-64 e =
+          rw (eq-eqb (t .width) 64 e, ne-eqb (t .mode) 2 other, ne-eqb (t .size) 128 short) (omega (arith, mode-need-small (eqb (t .mode) 1)))
 
-    pub need-mode-0 : (t .width ≡ 64 → ⊥) → (t .mode ≡ 1 → ⊥) → 8 ≡ need t
-    unfolding need widthNeed modeNeed
-    need-mode-0 n m = rw (ne-eqb (t .width) 64 n, ne-eqb (t .mode) 1 m, ne-eqb (t .mode) 2 other)
+      pub need-mode-1 : (t .width ≡ 64 → ⊥) → t .mode ≡ 1 → 9 ≡ need t
+      unfolding need widthNeed modeNeed sizeNeed
+      need-mode-1 n e = rw (ne-eqb (t .width) 64 n, eq-eqb (t .mode) 1 e, ne-eqb (t .size) 128 short)
+
+      pub need-mode-0 : (t .width ≡ 64 → ⊥) → (t .mode ≡ 1 → ⊥) → 8 ≡ need t
+      unfolding need widthNeed modeNeed sizeNeed
+      need-mode-0 n m = rw (ne-eqb (t .width) 64 n, ne-eqb (t .mode) 1 m, ne-eqb (t .mode) 2 other, ne-eqb (t .size) 128 short)
 
 -- a level has few bits
 pub level-small : (level : ℕ) → knownLevel level ≡ true → level < 2 ^ 32
@@ -91,24 +113,40 @@ pub record Dividing (size : ℕ) : Type 0 where
 
 pub dividing : (t : Setting) → Dividing (groupSize t)
 unfolding groupSize
-dividing t = record { some = lit< tt; parts = 32; whole = refl }
+dividing t = go (eqb (t .size) 128)
+  where
+    go : (b : Bool) → Dividing (cond b 128 32)
+    go true = record { some = lit< tt; parts = 8; whole = refl }
+    go false = record { some = lit< tt; parts = 32; whole = refl }
+
+-- by cases: four blocks of 32 codes, or one
+pub four-blocks : (t : Setting) → t .size ≡ 128 → groupSize t ≡ 128
+unfolding groupSize
+four-blocks t e = rw (eq-eqb (t .size) 128 e)
 
 pub size-some : (t : Setting) → 0 < groupSize t
 size-some t = dividing t .some
 
--- a full group is one block of 32 codes
-pub one-block : (t : Setting) → groupSize t ≡ 32
+pub one-block : (t : Setting) → (t .size ≡ 128 → ⊥) → groupSize t ≡ 32
 unfolding groupSize
-one-block t = refl
+one-block t n = rw (ne-eqb (t .size) 128 n)
 
-pub size-most : (t : Setting) → groupSize t ≤ 32
+pub size-most : (t : Setting) → groupSize t ≤ 128
 unfolding groupSize
-size-most t = lit≤ tt
+size-most t = go (eqb (t .size) 128)
+  where
+    go : (b : Bool) → cond b 128 32 ≤ 128
+    go true = lit≤ tt
+    go false = lit≤ tt
 
 -- a chunk has at most 32 groups
 pub groups-most : (t : Setting) (n : ℕ) → n ≤ 1024 → groupsIn (groupSize t) n ≤ 32
 unfolding groupsIn groupSize
-groups-most t n few = omega arith
+groups-most t n few = go (eqb (t .size) 128)
+  where
+    go : (b : Bool) → (n + (cond b 128 32 - 1)) / cond b 128 32 ≤ 32
+    go true = omega arith
+    go false = omega arith
 
 -- ---- k
 
@@ -119,9 +157,9 @@ zero-test (pos n) f = refl
 zero-test (negsuc n) f = let h : n < 2 ^ 31 = f .sfits in ne-eqb (2 ^ 32 - suc n) 0 (λ e. omega arith)
 
 -- an allowed setting of mode 1: its k has a bin
-module _ (W mode : ℕ) (k : ℤ) (allowed : allowedSetting W mode k ≡ true) (lossy : mode ≡ 1) where
+module _ (W mode : ℕ) (k : ℤ) (allowed : allowedMode W mode k ≡ true) (lossy : mode ≡ 1) where
   k-allowed : allowedK W (fractionBits W) k ≡ true
-  unfolding allowedSetting
+  unfolding allowedMode
   k-allowed = rw (eq-eqb mode 1 lossy) at allowed
 
   pub setting-bin : (j : ℕ) → binAnswer W (fractionBits W) k ≡ bin.Bin j → j ≡ binFor W mode k
@@ -162,8 +200,18 @@ mode-cases mode h = go (le-or-lt mode 0) (le-or-lt 2 mode)
 
 -- ---- the setting of a header that is right
 
-pub mode-small : (W mode : ℕ) (k : ℤ) → allowedSetting W mode k ≡ true → mode ≤ 2
-unfolding allowedSetting
+-- an allowed setting has an allowed mode and a size
+module _ (W mode : ℕ) (k : ℤ) (size : ℕ) (allowed : allowedSetting W mode k size ≡ true) where
+  pub mode-allowed : allowedMode W mode k ≡ true
+  unfolding allowedSetting
+  mode-allowed = and-left (allowedMode W mode k) (knownSize size) allowed
+
+  pub size-known : knownSize size ≡ true
+  unfolding allowedSetting
+  size-known = and-right (allowedMode W mode k) (knownSize size) allowed
+
+pub mode-small : (W mode : ℕ) (k : ℤ) → allowedMode W mode k ≡ true → mode ≤ 2
+unfolding allowedMode
 mode-small W mode k = go (eqb mode 1) refl
   where
     go : (b : Bool) → eqb mode 1 ≡ b → cond b (allowedK W (fractionBits W) k) (losslessMode mode && isZero k) ≡ true → mode ≤ 2
@@ -173,32 +221,32 @@ mode-small W mode k = go (eqb mode 1) refl
 pub settled : (h : Header) → settingRight h ≡ true → Settled h
 unfolding settingRight
 settled h e =
-    let allowed = and-right (knownWidth (h .width) && needRight h) (allowedSetting (h .width) (h .mode) (kOf h)) e in
-    let known = and-left (knownWidth (h .width)) (needRight h) (and-left (knownWidth (h .width) && needRight h) (allowedSetting (h .width) (h .mode) (kOf h)) e) in
+    let set = allowedSetting (h .width) (saidMode (h .mode)) (kOf h) (saidSize (h .mode)) in
+    let known = and-left (knownWidth (h .width)) (needRight h) (and-left (knownWidth (h .width) && needRight h) set e) in
     record {
       known = known;
       narrow = width-most (h .width) known;
-      mode = mode-small (h .width) (h .mode) (kOf h) allowed;
-      allowed = allowed;
+      allowed = and-right (knownWidth (h .width) && needRight h) set e;
     }
 
 -- ---- the setting that is made
 
-module _ (W mode : ℕ) (k : ℤ) (known : knownWidth W ≡ true) (allowed : allowedSetting W mode k ≡ true) where
-  pub made-allowed : Allowed (settingOf W mode k)
+module _ (W mode : ℕ) (k : ℤ) (size : ℕ) (known : knownWidth W ≡ true) (allowed : allowedSetting W mode k size ≡ true) where
+  pub made-allowed : Allowed (settingOf W mode k size)
   unfolding binFor
   made-allowed =
       record {
         known = known;
-        mode = mode-small W mode k allowed;
+        mode = mode-small W mode k (mode-allowed W mode k size allowed);
         bin = go (eqb mode 1) refl;
         none = λ n. rw (ne-eqb mode 1 n);
+        size = size-known W mode k size allowed;
       }
     where
       go : (b : Bool) → eqb mode 1 ≡ b → binFor W mode k ≤ lastBin W (fractionBits W)
       go true e =
           rw e (an-allowed-k-has-a-bin W (fractionBits W) (width-format W known) k
-          (k-allowed W mode k allowed (eqb-true mode 1 e)))
+          (k-allowed W mode k (mode-allowed W mode k size allowed) (eqb-true mode 1 e)))
       go false e = rw e zero-le
 
 -- A list that a stream of a setting may hold, with its written minor.
@@ -209,5 +257,5 @@ pub record Storable (level : ℕ) (t : Setting) (vs : List ℕ) : Type 0 where
   pub few : length vs ≤ 1048576
   pub patterns : Below (2 ^ t .width) vs
 
-pub storable : (W level mode : ℕ) (k : ℤ) (vs : List ℕ) → Packable W level mode k vs → Storable level (settingOf W mode k) vs
-storable W level mode k vs p = record { setting = made-allowed W mode k (p .width) (p .allowed); minor = p .minor; needs = p .needs; few = p .few; patterns = p .patterns }
+pub storable : (W level mode : ℕ) (k : ℤ) (size : ℕ) (vs : List ℕ) → Packable W level mode k size vs → Storable level (settingOf W mode k size) vs
+storable W level mode k size vs p = record { setting = made-allowed W mode k size (p .width) (p .allowed); minor = p .minor; needs = p .needs; few = p .few; patterns = p .patterns }

@@ -1,69 +1,54 @@
--- `stream::group_checked::block_limited` meets its contract: the block opened is the group's codes.
--- Assumes nothing.
-use mathlib.Core.Path.{_≡_, sym, ap, _∙_}
-use mathlib.Core.List.{List, [], _++_, append-nil}
-use Prim.Native.Nat.{ℕ, _/_, _^_}
-use Rattle.blocks.specs.Bytes.{Below, number, digits}
-use Rattle.stream.specs.Group.{givenWidth, within, groupCodes}
-use Rattle.stream.proofs.Law.Group.Reading.{codes-from}
 use borrow.Author.Needs.{needs}
 use Rattle.stream.proofs.group_checked.block_limited.Statement.{statement}
 use Rattle.stream.proofs.group_checked.block_limited.Tie as tie
+use Rattle.stream.proofs.group_checked.block_limited.Reads as reads
+use Rattle.stream.proofs.group_checked.block_limited.Lts as lts
+use Rattle.stream.proofs.group.counted.Reads as counted-reads
+use Rattle.stream.proofs.group_checked.full_limited.Reads as full-limited-reads
+use Rattle.stream.proofs.group_checked.limited.Reads as limited-reads
+use Rattle.stream.proofs.group_read.codes_of.Reads as codes-of-reads
 
--- a block's codes, with nothing behind them
-codes : (s : List ℕ) (w : ℕ) → Below 256 s → w ≡ givenWidth s → digits (2 ^ w) 32 (number 256 s / 2 ^ 8) ++ [] ≡ groupCodes 32 s
-codes s w bytes is =
-    append-nil (digits (2 ^ w) 32 (number 256 s / 256)) ∙ ap (λ (k : ℕ). digits (2 ^ k) 32 (number 256 s / 256)) is ∙ sym (codes-from 32 s bytes)
+-- src/group_checked.rt:156:12
+mul-if2 : tie.Need-mul-if2
+mul-if2 c = search needs
 
-slice-aggregate-opened32 : tie.Need-slice-aggregate-opened32
-slice-aggregate-opened32 c = search needs
+-- src/group_checked.rt:156:12
+add-if2 : tie.Need-add-if2
+add-if2 c = search needs
 
-opened32-requires : tie.Need-opened32-requires
-opened32-requires c κs = search needs
+-- src/group_checked.rt:157:13
+full-limited-requires : tie.Need-full-limited-requires
+full-limited-requires c κs = search needs
 
-slice-aggregate-limited32 : tie.Need-slice-aggregate-limited32
-slice-aggregate-limited32 c = search needs
-
-limited32-requires : tie.Need-limited32-requires
-limited32-requires c κs = search needs
-
+-- src/group_checked.rt:157:13
 returns : tie.Need-returns
-returns c =
-    let k = c .before .before .before .before .before .before in
-    let f = k .before in
-    c .limited32 .ensures
-    ∙ ap (within (f .args .limit)) (c .before .before .before .opened32 .ensures ∙ codes (f .args .s .now) (f .args .w) (λ i. k .shared-slice-known .given i .fits) (f .pre .2))
+returns c = ?
 
-slice-aggregate-opened64 : tie.Need-slice-aggregate-opened64
-slice-aggregate-opened64 c = search needs
+-- src/group_checked.rt:160:13
+codes-of-requires : tie.Need-codes-of-requires
+codes-of-requires c κs = search needs
 
-opened64-requires : tie.Need-opened64-requires
-opened64-requires c κs = search needs
+-- src/group_checked.rt:161:13
+counted-requires : tie.Need-counted-requires
+counted-requires c κs = search needs
 
-slice-aggregate-limited : tie.Need-slice-aggregate-limited
-slice-aggregate-limited c = search needs
-
+-- src/group_checked.rt:161:5
 limited-requires : tie.Need-limited-requires
 limited-requires c κs = search needs
 
+-- src/group_checked.rt:151:1
 returns-2 : tie.Need-returns-2
-returns-2 c =
-    let k = c .before .before .before .before .before .before in
-    let f = k .before in
-    c .limited .ensures
-    ∙ ap (within (f .args .limit)) (c .before .before .before .opened64 .ensures ∙ codes (f .args .s .now) (f .args .w) (λ i. k .shared-slice-known .given i .fits) (f .pre .2))
+returns-2 c = ?
 
 pub block-limited-spec : {M : Type 1} → statement M
 block-limited-spec =
     tie.close
     (tie.spec
-    slice-aggregate-opened32
-    opened32-requires
-    slice-aggregate-limited32
-    limited32-requires
+    mul-if2
+    add-if2
+    full-limited-requires
     returns
-    slice-aggregate-opened64
-    opened64-requires
-    slice-aggregate-limited
+    codes-of-requires
+    counted-requires
     limited-requires
     returns-2)

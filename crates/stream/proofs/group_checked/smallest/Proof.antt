@@ -1,63 +1,84 @@
--- `stream::group_checked::smallest` meets its contract: four codes are looked at at a time, or the codes one by one.
--- Assumes nothing.
-use mathlib.Core.Path.{_≡_, sym, ap, _∙_, subst⁻¹}
-use mathlib.Core.List.{List}
-use Prim.Native.Nat.{ℕ, _^_}
-use lib.Dec.{eqb}
-use Rattle.blocks.specs.Bytes.{Below}
-use Rattle.stream.specs.Group.{widthOf, groupCodes}
-use Rattle.stream.proofs.Law.Group.RoundTrip.{codes-below}
-use borrow.Author.Needs.{needs}
 use Rattle.stream.proofs.group_checked.smallest.Statement.{statement}
 use Rattle.stream.proofs.group_checked.smallest.Tie as tie
+use Rattle.stream.proofs.group_checked.smallest.Reads as reads
+use Rattle.stream.proofs.group_checked.smallest.Lts as lts
+use Rattle.stream.proofs.group_checked.block_reached.Reads as block-reached-reads
+use Rattle.stream.proofs.group_read.block_count.Reads as block-count-reads
 
-mul-if2 : tie.Need-mul-if2
-mul-if2 c = search needs
+abbrev Inv-loop : tie.InvT-loop
+Inv-loop s n w from₀ left₀ from left = ?
 
-add-if2 : tie.Need-add-if2
-add-if2 c = search needs
+abbrev μ-loop : tie.MeasureT-loop
+μ-loop s n w from₀ left₀ from left = ?
 
-reached-by-four-requires : tie.Need-reached-by-four-requires
-reached-by-four-requires c κs = search needs
+-- src/group_checked.rt:97:5
+loop-holds : tie.Need-loop-holds Inv-loop μ-loop
+loop-holds c = ?
 
-returns : tie.Need-returns
-returns c =
-    let a = c .before .before .before .before .args in
-    c .reached-by-four .ensures ∙ ap (λ (n : ℕ). eqb (a .w) (widthOf (groupCodes n (a .s .now)))) (sym (c .before .before .if1 .taken))
+-- src/group_checked.rt:98:13
+block-count-requires : tie.Need-block-count-requires Inv-loop μ-loop
+block-count-requires c κs = ?
 
-codes-of-requires : tie.Need-codes-of-requires
-codes-of-requires c κs = search needs
+-- src/group_checked.rt:99:26
+sub-block-reached : tie.Need-sub-block-reached Inv-loop μ-loop
+sub-block-reached c = ?
 
-counted-requires : tie.Need-counted-requires
-counted-requires c κs = search needs
+-- src/group_checked.rt:99:26
+part-block-reached-start : tie.Need-part-block-reached-start Inv-loop μ-loop
+part-block-reached-start c = ?
 
--- the part that is looked at is the group's codes
-abbrev entry : tie.After-counted → tie.Start
-entry c = c .before .before .before .before .before .before .before
+-- src/group_checked.rt:99:26
+part-block-reached-end : tie.Need-part-block-reached-end Inv-loop μ-loop
+part-block-reached-end c = ?
 
-codes-are : (c : tie.After-counted) → c .counted .result .now ≡ groupCodes (entry c .args .n) (entry c .args .s .now)
-codes-are c = c .counted .ensures ∙ c .before .before .before .before .codes-of .ensures .1
+-- src/group_checked.rt:99:12
+block-reached-requires : tie.Need-block-reached-requires Inv-loop μ-loop
+block-reached-requires c κs = ?
 
-reached-requires : tie.Need-reached-requires
-reached-requires c κs =
-    let f = entry c in (
-      f .pre .1,
-      subst⁻¹ (λ (cs : List ℕ). Below (2 ^ f .args .w) cs) (codes-are c)
-          (subst⁻¹ (λ (w : ℕ). Below (2 ^ w) (groupCodes (f .args .n) (f .args .s .now))) (f .pre .3) (codes-below (f .args .n) (f .args .s .now))),
-    )
+-- src/group_checked.rt:100:13
+returns : tie.Need-returns Inv-loop μ-loop
+returns c = ?
 
-returns-2 : tie.Need-returns-2
-returns-2 c = c .reached .ensures ∙ ap (λ (cs : List ℕ). eqb (entry (c .before) .args .w) (widthOf cs)) (codes-are (c .before))
+-- src/group_checked.rt:102:17
+mul-from : tie.Need-mul-from Inv-loop μ-loop
+mul-from c = ?
+
+-- src/group_checked.rt:102:9
+add-from : tie.Need-add-from Inv-loop μ-loop
+add-from c = ?
+
+-- src/group_checked.rt:103:9
+sub-left : tie.Need-sub-left Inv-loop μ-loop
+sub-left c = ?
+
+-- src/group_checked.rt:97:5
+loop-less : tie.Need-loop-less Inv-loop μ-loop
+loop-less c = ?
+
+-- src/group_checked.rt:97:5
+loop-again : tie.Need-loop-again Inv-loop μ-loop
+loop-again c = ?
+
+-- src/group_checked.rt:91:1
+returns-2 : tie.Need-returns-2 Inv-loop μ-loop
+returns-2 c = ?
 
 pub smallest-spec : {M : Type 1} → statement M
 smallest-spec =
     tie.close
     (tie.spec
-    mul-if2
-    add-if2
-    reached-by-four-requires
+    Inv-loop
+    μ-loop
+    loop-holds
+    block-count-requires
+    sub-block-reached
+    part-block-reached-start
+    part-block-reached-end
+    block-reached-requires
     returns
-    codes-of-requires
-    counted-requires
-    reached-requires
+    mul-from
+    add-from
+    sub-left
+    loop-less
+    loop-again
     returns-2)

@@ -1,82 +1,120 @@
--- `stream::lent::read_codes64` meets its contract: a full group's block, or the codes of a group.
-use mathlib.Core.Path.{sym, ap, ap₂, _∙_}
-use mathlib.Core.List.{List, _++_}
-use Prim.Native.Nat.{ℕ, _/_, _^_}
-use native.Mathlib.Omega.{arith}
-use lib.ListN.{drop}
-use borrow.Author.Needs.{needs}
-use Rattle.blocks.specs.Bytes.{number, digits}
-use Rattle.stream.specs.Group.{givenWidth, groupLength}
-use Rattle.stream.proofs.Law.Group.Reading.{codes-from}
-use Rattle.stream.proofs.Law.Group.RoundTrip.{length-codes}
-use Rattle.stream.proofs.Law.Chunk.Restoring.{long-enough}
 use Rattle.stream.proofs.lent.read_codes64.Statement.{statement}
 use Rattle.stream.proofs.lent.read_codes64.Tie as tie
+use Rattle.stream.proofs.lent.read_codes64.Reads as reads
+use Rattle.stream.proofs.lent.read_codes64.Lts as lts
+use Rattle.blocks.proofs.bytes.wide.Reads as wide-reads
+use Rattle.stream.proofs.group_read.block_count.Reads as block-count-reads
+use Rattle.stream.proofs.lent.read_block64.Reads as read-block64-reads
 
-shared-slice-read-wide : tie.Need-shared-slice-read-wide
-unfolding groupLength
-shared-slice-read-wide c = omega (arith, c .before .before .before .pre .3)
+abbrev Inv-loop : tie.InvT-loop
+Inv-loop s n out₀ w from₀ done₀ out from done = ?
 
-wide-requires : tie.Need-wide-requires
-wide-requires c κs = search needs
+abbrev μ-loop : tie.MeasureT-loop
+μ-loop s n out₀ w from₀ done₀ out from done = ?
 
-mul-if2 : tie.Need-mul-if2
-mul-if2 c = search needs
+-- src/lent.rt:452:25
+shared-slice-read-wide : tie.Need-shared-slice-read-wide Inv-loop μ-loop
+shared-slice-read-wide c = ?
 
-add-if2 : tie.Need-add-if2
-add-if2 c = search needs
+-- src/lent.rt:452:13
+wide-requires : tie.Need-wide-requires Inv-loop μ-loop
+wide-requires c κs = ?
 
-opened64-requires : tie.Need-opened64-requires
-unfolding givenWidth
-opened64-requires c κs =
-    let p = c .before .before .before .before .before .before .before .pre in
-    let w = c .before .before .before .wide .ensures .0 in
-    (omega (arith, w, p .1), omega (arith, w, p .2), c .before .if2 .taken, omega (arith, p .4, c .before .before .if1 .taken))
+-- src/lent.rt:455:5
+loop-holds : tie.Need-loop-holds Inv-loop μ-loop
+loop-holds c = ?
 
-same-length : tie.Need-same-length
-same-length c = search needs
+-- src/lent.rt:456:45
+sub-block-count : tie.Need-sub-block-count Inv-loop μ-loop
+sub-block-count c = ?
 
-returns : tie.Need-returns
-unfolding givenWidth
-returns c =
-    let s = c .before .before .before .before .before .before .before .before .before .before in
-    let a = s .args in
-    c .before .before .opened64 .ensures
-    ∙ ap₂ (λ (w n : ℕ). digits (2 ^ w) n (number 256 (a .s .now) / 256) ++ drop n (a .out .now)) (c .before .before .before .before .before .before .wide .ensures .0) (sym (c .before .before .before .before .before .if1 .taken))
-    ∙ ap (λ (cs : List ℕ). cs ++ drop (a .n) (a .out .now)) (sym (codes-from (a .n) (a .s .now) (λ i. c .before .before .before .before .before .before .before .before .before .shared-slice-known .given i .fits)))
+-- src/lent.rt:456:13
+block-count-requires : tie.Need-block-count-requires Inv-loop μ-loop
+block-count-requires c κs = ?
 
-codes-of-requires : tie.Need-codes-of-requires
-codes-of-requires c κs = search needs
+-- src/lent.rt:457:22
+sub-read-block64 : tie.Need-sub-read-block64 Inv-loop μ-loop
+sub-read-block64 c = ?
 
-copied64-requires : tie.Need-copied64-requires
-copied64-requires c κs =
-    let s = c .before .before .before .before .before .before .before .before .before .before in
-    let a = s .args in
-    let g = c .before .before .before .before .codes-of in (
-      long-enough (a .n) _ _ (g .ensures .1) (length-codes (a .n) (a .s .now)),
-      s .pre .4,
-    )
+-- src/lent.rt:457:22
+part-read-block64-start : tie.Need-part-read-block64-start Inv-loop μ-loop
+part-read-block64-start c = ?
 
-same-length-2 : tie.Need-same-length-2
-same-length-2 c = search needs
+-- src/lent.rt:457:22
+part-read-block64-end : tie.Need-part-read-block64-end Inv-loop μ-loop
+part-read-block64-end c = ?
 
-returns-2 : tie.Need-returns-2
-returns-2 c =
-    let a = c .before .before .before .before .before .before .before .before .before .before .before .before .before .args in
-    c .before .before .copied64 .ensures ∙ ap (λ (cs : List ℕ). cs ++ drop (a .n) (a .out .now)) (c .before .before .before .before .before .before .before .codes-of .ensures .1)
+-- src/lent.rt:457:44
+mul-read-block64 : tie.Need-mul-read-block64 Inv-loop μ-loop
+mul-read-block64 c = ?
+
+-- src/lent.rt:457:44
+sub-read-block64-2 : tie.Need-sub-read-block64-2 Inv-loop μ-loop
+sub-read-block64-2 c = ?
+
+-- src/lent.rt:457:44
+part-read-block64-start-2 : tie.Need-part-read-block64-start-2 Inv-loop μ-loop
+part-read-block64-start-2 c = ?
+
+-- src/lent.rt:457:44
+part-read-block64-end-2 : tie.Need-part-read-block64-end-2 Inv-loop μ-loop
+part-read-block64-end-2 c = ?
+
+-- src/lent.rt:457:9
+read-block64-requires : tie.Need-read-block64-requires Inv-loop μ-loop
+read-block64-requires c κs = ?
+
+-- src/lent.rt:458:17
+mul-from : tie.Need-mul-from Inv-loop μ-loop
+mul-from c = ?
+
+-- src/lent.rt:458:9
+add-from : tie.Need-add-from Inv-loop μ-loop
+add-from c = ?
+
+-- src/lent.rt:459:9
+add-done : tie.Need-add-done Inv-loop μ-loop
+add-done c = ?
+
+-- src/lent.rt:455:5
+loop-less : tie.Need-loop-less Inv-loop μ-loop
+loop-less c = ?
+
+-- src/lent.rt:455:5
+loop-again : tie.Need-loop-again Inv-loop μ-loop
+loop-again c = ?
+
+-- src/lent.rt:448:1
+same-length : tie.Need-same-length Inv-loop μ-loop
+same-length c = ?
+
+-- src/lent.rt:448:1
+returns : tie.Need-returns Inv-loop μ-loop
+returns c = ?
 
 pub read-codes64-spec : {M : Type 1} → statement M
 read-codes64-spec =
     tie.close
     (tie.spec
+    Inv-loop
+    μ-loop
     shared-slice-read-wide
     wide-requires
-    mul-if2
-    add-if2
-    opened64-requires
+    loop-holds
+    sub-block-count
+    block-count-requires
+    sub-read-block64
+    part-read-block64-start
+    part-read-block64-end
+    mul-read-block64
+    sub-read-block64-2
+    part-read-block64-start-2
+    part-read-block64-end-2
+    read-block64-requires
+    mul-from
+    add-from
+    add-done
+    loop-less
+    loop-again
     same-length
-    returns
-    codes-of-requires
-    copied64-requires
-    same-length-2
-    returns-2)
+    returns)

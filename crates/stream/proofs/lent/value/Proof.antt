@@ -1,66 +1,95 @@
--- `stream::lent::value` meets its contract: in mode 2 the last of the sums up to it, else the pattern of its own code.
-use Prim.Native.Nat.{ℕ, _+_, _^_, _<_}
-use mathlib.Core.List.{List}
-use mathlib.Core.Path.{sym, ap, subst, _∙_}
-use native.Mathlib.Numerals.{add-one}
-use native.Mathlib.Omega.{arith}
-use lib.ListN.{take, getD}
-use lib.Seq.{length-take-le, getD-take}
-use Rattle.numbers.specs.Difference.{runningSums}
-use Rattle.numbers.proofs.Theorems.{the-last-of-a-list, as-many-sums}
-use Rattle.stream.specs.Setting.{patternAt}
-use Rattle.stream.proofs.Law.Plain.Mapped.{map-at}
-use Rattle.stream.proofs.Law.Setting.Codes.{patterns-by-sum, patterns-each}
 use borrow.Author.Needs.{needs}
 use Rattle.stream.proofs.lent.value.Statement.{statement}
 use Rattle.stream.proofs.lent.value.Tie as tie
+use Rattle.stream.proofs.lent.value.Reads as reads
+use Rattle.stream.proofs.lent.value.Lts as lts
+use Rattle.blocks.proofs.bytes.wide.Reads as wide-reads
+use Rattle.stream.proofs.group_read.block_count.Reads as block-count-reads
+use Rattle.stream.proofs.group_read.codes_of.Reads as codes-of-reads
+use Rattle.stream.proofs.lent.carried.Reads as carried-reads
+use Rattle.stream.proofs.lent.picked.Reads as picked-reads
 
-add-last-sum : tie.Need-add-last-sum
-add-last-sum c = search needs
+-- src/lent.rt:607:25
+shared-slice-read-wide : tie.Need-shared-slice-read-wide
+shared-slice-read-wide c = ?
 
-last-sum-requires : tie.Need-last-sum-requires
-last-sum-requires c κs = search needs
+-- src/lent.rt:607:13
+wide-requires : tie.Need-wide-requires
+wide-requires c κs = search needs
 
-mul-pattern : tie.Need-mul-pattern
-mul-pattern c = search needs
+-- src/lent.rt:609:18
+mul-passed : tie.Need-mul-passed
+mul-passed c = search needs
 
-shared-slice-read-pattern : tie.Need-shared-slice-read-pattern
-shared-slice-read-pattern c = search needs
+-- src/lent.rt:610:9
+carried-requires : tie.Need-carried-requires
+carried-requires c κs = ?
 
-pattern-requires : tie.Need-pattern-requires
-pattern-requires c κs =
-    let s = c .before .before .before .before in
-    let a = s .args in
-    (s .pre .0, subst (λ (x : ℕ). x < 2 ^ a .t .width) (getD-take (a .i + 1) (a .codes .now) (a .i) 0 (omega arith)) (s .pre .4 (a .i)))
+-- src/lent.rt:611:16
+mul-from : tie.Need-mul-from
+mul-from c = search needs
 
+-- src/lent.rt:611:16
+mul-from-2 : tie.Need-mul-from-2
+mul-from-2 c = ?
+
+-- src/lent.rt:612:34
+sub-codes-of : tie.Need-sub-codes-of
+sub-codes-of c = ?
+
+-- src/lent.rt:612:34
+part-codes-of-start : tie.Need-part-codes-of-start
+part-codes-of-start c = ?
+
+-- src/lent.rt:612:34
+part-codes-of-end : tie.Need-part-codes-of-end
+part-codes-of-end c = search needs
+
+-- src/lent.rt:612:73
+sub-block-count : tie.Need-sub-block-count
+sub-block-count c = search needs
+
+-- src/lent.rt:612:49
+block-count-requires : tie.Need-block-count-requires
+block-count-requires c κs = search needs
+
+-- src/lent.rt:612:9
+codes-of-requires : tie.Need-codes-of-requires
+codes-of-requires c κs = ?
+
+-- src/lent.rt:614:21
+slice-aggregate-picked : tie.Need-slice-aggregate-picked
+slice-aggregate-picked c = search needs
+
+-- src/lent.rt:614:29
+sub-picked : tie.Need-sub-picked
+sub-picked c = search needs
+
+-- src/lent.rt:614:5
+picked-requires : tie.Need-picked-requires
+picked-requires c κs = ?
+
+-- src/lent.rt:603:1
 returns : tie.Need-returns
-returns c =
-    let s = c .before .before .before .before in
-    let a = s .args in
-    let W = a .t .width in
-    let cs = take (a .i + 1) (a .codes .now) in
-    c .last-sum .ensures
-    ∙ the-last-of-a-list (a .before) (runningSums W (a .before) cs) (a .i) (as-many-sums W (a .before) cs ∙ length-take-le (a .i + 1) (a .codes .now) (omega (arith, s .pre .2)) ∙ add-one (a .i))
-    ∙ ap (λ (ps : List ℕ). getD ps (a .i) 0) (sym (patterns-by-sum (a .t) (a .before) cs (c .before .if1 .taken)))
-
-returns-2 : tie.Need-returns-2
-returns-2 c =
-    let s = c .before .before .before .before .before in
-    let a = s .args in
-    let cs = take (a .i + 1) (a .codes .now) in
-    c .pattern .ensures
-    ∙ ap (patternAt (a .t)) (sym (getD-take (a .i + 1) (a .codes .now) (a .i) 0 (omega arith)))
-    ∙ sym (ap (λ (ps : List ℕ). getD ps (a .i) 0) (patterns-each (a .t) (a .before) cs (c .before .before .if1 .left))
-    ∙ map-at (patternAt (a .t)) cs (a .i) (rw (length-take-le (a .i + 1) (a .codes .now) (omega (arith, s .pre .2))) (omega arith)))
+returns c = ?
 
 pub value-spec : {M : Type 1} → statement M
 value-spec =
     tie.close
     (tie.spec
-    add-last-sum
-    last-sum-requires
-    mul-pattern
-    shared-slice-read-pattern
-    pattern-requires
-    returns
-    returns-2)
+    shared-slice-read-wide
+    wide-requires
+    mul-passed
+    carried-requires
+    mul-from
+    mul-from-2
+    sub-codes-of
+    part-codes-of-start
+    part-codes-of-end
+    sub-block-count
+    block-count-requires
+    codes-of-requires
+    slice-aggregate-picked
+    sub-picked
+    picked-requires
+    returns)

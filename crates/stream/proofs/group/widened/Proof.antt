@@ -1,4 +1,4 @@
--- `stream::lent::widened` meets its contract. The invariant: the codes passed are copied.
+-- `stream::group::widened` meets its contract. The invariant: the codes passed are copied.
 use mathlib.Core.Path.{_≡_, refl, sym, _∙_}
 use mathlib.Core.List.{List}
 use Prim.Native.Nat.{ℕ, _-_, _≤_}
@@ -7,8 +7,8 @@ use lib.ListN.{length, take, getD, length-set}
 use lib.Seq.{take-all}
 use borrow.Author.Needs.{needs}
 use Rattle.stream.proofs.Law.Plain.Mapped.{one-copied}
-use Rattle.stream.proofs.lent.widened.Statement.{statement}
-use Rattle.stream.proofs.lent.widened.Tie as tie
+use Rattle.stream.proofs.group.widened.Statement.{statement}
+use Rattle.stream.proofs.group.widened.Tie as tie
 
 abbrev Inv-loop : tie.InvT-loop
 Inv-loop codes wide₀ i₀ wide i =

@@ -1,0 +1,69 @@
+-- `stream::group_checked::full_limited` meets its contract: the block opened is the group's codes.
+-- Assumes nothing.
+use mathlib.Core.Path.{_≡_, sym, ap, _∙_}
+use mathlib.Core.List.{List, [], _++_, append-nil}
+use Prim.Native.Nat.{ℕ, _/_, _^_}
+use Rattle.blocks.specs.Bytes.{Below, number, digits}
+use Rattle.stream.specs.Group.{givenWidth, within, groupCodes}
+use Rattle.stream.proofs.Law.Group.Reading.{codes-from}
+use borrow.Author.Needs.{needs}
+use Rattle.stream.proofs.group_checked.full_limited.Statement.{statement}
+use Rattle.stream.proofs.group_checked.full_limited.Tie as tie
+
+-- a block's codes, with nothing behind them
+codes : (s : List ℕ) (w : ℕ) → Below 256 s → w ≡ givenWidth s → digits (2 ^ w) 32 (number 256 s / 2 ^ 8) ++ [] ≡ groupCodes 32 s
+codes s w bytes is =
+    append-nil (digits (2 ^ w) 32 (number 256 s / 256)) ∙ ap (λ (k : ℕ). digits (2 ^ k) 32 (number 256 s / 256)) is ∙ sym (codes-from 32 s bytes)
+
+slice-aggregate-opened32 : tie.Need-slice-aggregate-opened32
+slice-aggregate-opened32 c = search needs
+
+opened32-requires : tie.Need-opened32-requires
+opened32-requires c κs = search needs
+
+slice-aggregate-limited32 : tie.Need-slice-aggregate-limited32
+slice-aggregate-limited32 c = search needs
+
+limited32-requires : tie.Need-limited32-requires
+limited32-requires c κs = search needs
+
+returns : tie.Need-returns
+returns c =
+    let k = c .before .before .before .before .before .before in
+    let f = k .before in
+    c .limited32 .ensures
+    ∙ ap (within (f .args .limit)) (c .before .before .before .opened32 .ensures ∙ codes (f .args .s .now) (f .args .w) (λ i. k .shared-slice-known .given i .fits) (f .pre .2))
+
+slice-aggregate-opened64 : tie.Need-slice-aggregate-opened64
+slice-aggregate-opened64 c = search needs
+
+opened64-requires : tie.Need-opened64-requires
+opened64-requires c κs = search needs
+
+slice-aggregate-limited : tie.Need-slice-aggregate-limited
+slice-aggregate-limited c = search needs
+
+limited-requires : tie.Need-limited-requires
+limited-requires c κs = search needs
+
+returns-2 : tie.Need-returns-2
+returns-2 c =
+    let k = c .before .before .before .before .before .before in
+    let f = k .before in
+    c .limited .ensures
+    ∙ ap (within (f .args .limit)) (c .before .before .before .opened64 .ensures ∙ codes (f .args .s .now) (f .args .w) (λ i. k .shared-slice-known .given i .fits) (f .pre .2))
+
+pub full-limited-spec : {M : Type 1} → statement M
+full-limited-spec =
+    tie.close
+    (tie.spec
+    slice-aggregate-opened32
+    opened32-requires
+    slice-aggregate-limited32
+    limited32-requires
+    returns
+    slice-aggregate-opened64
+    opened64-requires
+    slice-aggregate-limited
+    limited-requires
+    returns-2)
