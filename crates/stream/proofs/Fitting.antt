@@ -90,9 +90,9 @@ module _ (level : ℕ) (s : List ℕ) (bytes : Below 256 s) where
 
 -- ---- writing values of W bits
 
-module _ (W level mode : ℕ) (k : ℤ) (vs : List ℕ) (known : knownWidth W ≡ true) (patterns : Below (2 ^ W) vs) where
-  pub length-fits : Fits (lengthAnswer W level mode k vs)
-  length-fits = length-answer-small W level mode k vs known patterns
+module _ (W level mode : ℕ) (k : ℤ) (size : ℕ) (vs : List ℕ) (known : knownWidth W ≡ true) (patterns : Below (2 ^ W) vs) where
+  pub length-fits : Fits (lengthAnswer W level mode k size vs)
+  length-fits = length-answer-small W level mode k size vs known patterns
 
-  pub pack-fits : (room : ℕ) → Fits (packAnswer W level mode k vs room)
-  pack-fits room = pack-answer-small W level mode k vs known patterns room
+  pub pack-fits : (room : ℕ) → Fits (packAnswer W level mode k size vs room)
+  pack-fits room = pack-answer-small W level mode k size vs known patterns room

@@ -28,7 +28,7 @@ all-zero = refl
 
 -- the largest u of a stream of width 32, mode 1, k = -2
 mostU : ℕ
-mostU = limitOf (settingOf 32 1 (negsuc 1))
+mostU = limitOf (settingOf 32 1 (negsuc 1) 32)
 
 -- each row: the largest u, how many codes, the bytes; first two that are good, then one for each rule that a group can break at width 32
 rows : List Bool
@@ -73,11 +73,11 @@ unfolding places chunkAnswer firstFault groupsIn mostU limitOf binFor clipped fr
 places-known = refl
 
 -- the list itself, coded losslessly, as a chunk
-three-values : chunkBytes 32 (codesOf (settingOf 32 0 (pos 0)) (0x00000000 ∷ 0x80000000 ∷ 0x00000001 ∷ [])) ≡ 3 ∷ 16 ∷ 1 ∷ []
+three-values : chunkBytes 32 (codesOf (settingOf 32 0 (pos 0) 32) (0x00000000 ∷ 0x80000000 ∷ 0x00000001 ∷ [])) ≡ 3 ∷ 16 ∷ 1 ∷ []
 unfolding chunkBytes groupsBytes groupsIn binFor codesAfter codeAt fractionBits losslessCode rotated stepped lowered minus field signedView folded groupBytes widthOf largest packed bytesFor digits number size
 three-values = refl
 
 -- "1,024 zeros": 32 groups of one byte
-zeros : chunkBytes 32 (codesOf (settingOf 32 0 (pos 0)) (replicate 1024 0)) ≡ replicate 32 0
+zeros : chunkBytes 32 (codesOf (settingOf 32 0 (pos 0) 32) (replicate 1024 0)) ≡ replicate 32 0
 unfolding chunkBytes groupsBytes groupsIn binFor codesAfter codeAt fractionBits losslessCode rotated stepped lowered minus field signedView folded groupBytes widthOf largest packed bytesFor digits number size
 zeros = refl

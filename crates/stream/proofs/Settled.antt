@@ -31,13 +31,13 @@ both p p′ = (one (p .answers) (p′ .answers), one (p .leaves) (p′ .leaves))
 
 -- ---- packing: the values vs of width W, at a level and a setting
 
-module _ (W level mode : ℕ) (k : ℤ) (vs : List ℕ) where
-  pub length-is-settled : (r r′ : Answer) → r ≡ lengthAnswer W level mode k vs → r′ ≡ lengthAnswer W level mode k vs → r ≡ r′
+module _ (W level mode : ℕ) (k : ℤ) (size : ℕ) (vs : List ℕ) where
+  pub length-is-settled : (r r′ : Answer) → r ≡ lengthAnswer W level mode k size vs → r′ ≡ lengthAnswer W level mode k size vs → r ≡ r′
   length-is-settled r r′ = one
 
   pub pack-is-settled : (out : List ℕ) (r r′ : Answer) (now now′ : List ℕ)
-      → Promised (packAnswer W level mode k vs (length out)) (packOut W level mode k vs out) r now
-      → Promised (packAnswer W level mode k vs (length out)) (packOut W level mode k vs out) r′ now′
+      → Promised (packAnswer W level mode k size vs (length out)) (packOut W level mode k size vs out) r now
+      → Promised (packAnswer W level mode k size vs (length out)) (packOut W level mode k size vs out) r′ now′
       → (r ≡ r′) × (now ≡ now′)
   pack-is-settled out r r′ now now′ = both
 

@@ -40,52 +40,52 @@ use Rattle.stream.proofs.Law.Setting.Allowed.{level-small, made-allowed
 use Rattle.stream.proofs.Law.ReadBack.Values.{lossless-back, length-back, tolerance-back, special-back}
 
 -- Demand 1: a refused pack leaves its output as it was.
-pub refused-pack-untouched : (W level mode : ℕ) (k : ℤ) (vs out : List ℕ) (number detail : ℕ)
-    → packAnswer W level mode k vs (length out) ≡ Refused number detail → packOut W level mode k vs out ≡ out
+pub refused-pack-untouched : (W level mode : ℕ) (k : ℤ) (size : ℕ) (vs out : List ℕ) (number detail : ℕ)
+    → packAnswer W level mode k size vs (length out) ≡ Refused number detail → packOut W level mode k size vs out ≡ out
 unfolding packAnswer packOut after
-refused-pack-untouched W level mode k vs out number detail e =
-    rw (refused-stop (first (packRows W level mode k vs (length out))) (length (stream level (settingOf W mode k) vs)) number detail e)
+refused-pack-untouched W level mode k size vs out number detail e =
+    rw (refused-stop (first (packRows W level mode k size vs (length out))) (length (stream level (settingOf W mode k size) vs)) number detail e)
 
 -- a refusal is the first row that is given: "given exactly when"
-pub refused-length : (W level mode : ℕ) (k : ℤ) (vs : List ℕ) (number detail : ℕ)
-    → lengthAnswer W level mode k vs ≡ Refused number detail ↔ Decides (lengthRows W level mode k (length vs)) number detail
+pub refused-length : (W level mode : ℕ) (k : ℤ) (size : ℕ) (vs : List ℕ) (number detail : ℕ)
+    → lengthAnswer W level mode k size vs ≡ Refused number detail ↔ Decides (lengthRows W level mode k size (length vs)) number detail
 unfolding lengthAnswer answer
-refused-length W level mode k vs number detail =
-    let rows = lengthRows W level mode k (length vs) in
-    let size = length (stream level (settingOf W mode k) vs) in
-    (λ e. decides rows number detail (refused-stop (first rows) size number detail e), λ d. ap (λ (a : Step). answer a size) (decided rows number detail d))
+refused-length W level mode k size vs number detail =
+    let rows = lengthRows W level mode k size (length vs) in
+    let long = length (stream level (settingOf W mode k size) vs) in
+    (λ e. decides rows number detail (refused-stop (first rows) long number detail e), λ d. ap (λ (a : Step). answer a long) (decided rows number detail d))
 
-pub refused-pack : (W level mode : ℕ) (k : ℤ) (vs : List ℕ) (room number detail : ℕ)
-    → packAnswer W level mode k vs room ≡ Refused number detail ↔ Decides (packRows W level mode k vs room) number detail
+pub refused-pack : (W level mode : ℕ) (k : ℤ) (size : ℕ) (vs : List ℕ) (room number detail : ℕ)
+    → packAnswer W level mode k size vs room ≡ Refused number detail ↔ Decides (packRows W level mode k size vs room) number detail
 unfolding packAnswer answer
-refused-pack W level mode k vs room number detail =
-    let rows = packRows W level mode k vs room in
-    let size = length (stream level (settingOf W mode k) vs) in
-    (λ e. decides rows number detail (refused-stop (first rows) size number detail e), λ d. ap (λ (a : Step). answer a size) (decided rows number detail d))
+refused-pack W level mode k size vs room number detail =
+    let rows = packRows W level mode k size vs room in
+    let long = length (stream level (settingOf W mode k size) vs) in
+    (λ e. decides rows number detail (refused-stop (first rows) long number detail e), λ d. ap (λ (a : Step). answer a long) (decided rows number detail d))
 
 -- the stated order: "Pack: 1 2 3 4. Length: 1 2 3"
-pub length-order : (W level mode : ℕ) (k : ℤ) (n : ℕ) → numbersOf (lengthRows W level mode k n) ≡ 1 ∷ 2 ∷ 3 ∷ []
+pub length-order : (W level mode : ℕ) (k : ℤ) (size : ℕ) (n : ℕ) → numbersOf (lengthRows W level mode k size n) ≡ 1 ∷ 2 ∷ 3 ∷ []
 unfolding lengthRows numbersOf
-length-order W level mode k n = refl
+length-order W level mode k size n = refl
 
-pub pack-order : (W level mode : ℕ) (k : ℤ) (vs : List ℕ) (room : ℕ) → numbersOf (packRows W level mode k vs room) ≡ 1 ∷ 2 ∷ 3 ∷ 4 ∷ []
+pub pack-order : (W level mode : ℕ) (k : ℤ) (size : ℕ) (vs : List ℕ) (room : ℕ) → numbersOf (packRows W level mode k size vs room) ≡ 1 ∷ 2 ∷ 3 ∷ 4 ∷ []
 unfolding packRows lengthRows numbersOf
-pack-order W level mode k vs room = refl
+pack-order W level mode k size vs room = refl
 
 -- what an accepted pack says of its call, and what it leaves
-module _ (W level mode : ℕ) (k : ℤ) (vs out : List ℕ) (n : ℕ) (done : packAnswer W level mode k vs (length out) ≡ Done n) where
-  passes : (first (packRows W level mode k vs (length out)) ≡ Pass) × (length (stream level (settingOf W mode k) vs) ≡ n)
+module _ (W level mode : ℕ) (k : ℤ) (size : ℕ) (vs out : List ℕ) (n : ℕ) (done : packAnswer W level mode k size vs (length out) ≡ Done n) where
+  passes : (first (packRows W level mode k size vs (length out)) ≡ Pass) × (length (stream level (settingOf W mode k size) vs) ≡ n)
   unfolding packAnswer
-  passes = done-pass (first (packRows W level mode k vs (length out))) (length (stream level (settingOf W mode k) vs)) n done
+  passes = done-pass (first (packRows W level mode k size vs (length out))) (length (stream level (settingOf W mode k size) vs)) n done
 
-  three-passed : Passed W level mode k (length vs)
+  three-passed : Passed W level mode k size (length vs)
   unfolding packRows
   three-passed =
-      let size = length (stream level (settingOf W mode k) vs) in
-      length-passed W level mode k (length vs) (opened-both (lengthRows W level mode k (length vs)) (row 4 (ltb (length out) size) size ∷ []) (passes .0) .0)
+      let long = length (stream level (settingOf W mode k size) vs) in
+      length-passed W level mode k size (length vs) (opened-both (lengthRows W level mode k size (length vs)) (row 4 (ltb (length out) long) long ∷ []) (passes .0) .0)
 
   -- with any written minor that is not below its level
-  pub accepted-later : knownWidth W ≡ true → Below (2 ^ W) vs → (written : ℕ) → level ≤ written → written < 2 ^ 32 → Packable W written mode k vs
+  pub accepted-later : knownWidth W ≡ true → Below (2 ^ W) vs → (written : ℕ) → level ≤ written → written < 2 ^ 32 → Packable W written mode k size vs
   accepted-later width below written later minor =
       let p = three-passed in
       record {
@@ -97,118 +97,118 @@ module _ (W level mode : ℕ) (k : ℤ) (vs out : List ℕ) (n : ℕ) (done : pa
         patterns = below;
       }
 
-  pub accepted-list : knownWidth W ≡ true → Below (2 ^ W) vs → Packable W level mode k vs
+  pub accepted-list : knownWidth W ≡ true → Below (2 ^ W) vs → Packable W level mode k size vs
   accepted-list width below = accepted-later width below level (omega arith) (level-small level (three-passed .known))
 
-  pub accepted-bytes : take n (packOut W level mode k vs out) ≡ stream level (settingOf W mode k) vs
+  pub accepted-bytes : take n (packOut W level mode k size vs out) ≡ stream level (settingOf W mode k size) vs
   unfolding packOut after
   accepted-bytes =
       rw (passes .0)
-      (take-at (stream level (settingOf W mode k) vs) (drop (length (stream level (settingOf W mode k) vs)) out) n (passes .1))
+      (take-at (stream level (settingOf W mode k size) vs) (drop (length (stream level (settingOf W mode k size) vs)) out) n (passes .1))
 
   -- pack leaves the stream of document 01, and alters nothing past it
-  pub accepted-leaves : (n ≡ length (stream level (settingOf W mode k) vs)) × (packOut W level mode k vs out ≡ stream level (settingOf W mode k) vs ++ drop n out)
+  pub accepted-leaves : (n ≡ length (stream level (settingOf W mode k size) vs)) × (packOut W level mode k size vs out ≡ stream level (settingOf W mode k size) vs ++ drop n out)
   unfolding packOut after
   accepted-leaves = (sym (passes .1), rw (passes .0, passes .1))
 
   -- and what a reader may meet of it: side parts added, and a need in its place
   module _ (ps : List Side) (well : WellFormedSides (n + 12 * length ps) ps) where
-    lies : WellFormedSides (length (stream level (settingOf W mode k) vs) + 12 * length ps) ps
+    lies : WellFormedSides (length (stream level (settingOf W mode k size) vs) + 12 * length ps) ps
     lies = subst (λ (m : ℕ). WellFormedSides (m + 12 * length ps) ps) (sym (passes .1)) well
 
-    pub accepted-is-sent : Sent level (settingOf W mode k) vs ps (need (settingOf W mode k)) (addSides (take n (packOut W level mode k vs out)) ps)
+    pub accepted-is-sent : Sent level (settingOf W mode k size) vs ps (need (settingOf W mode k size)) (addSides (take n (packOut W level mode k size vs out)) ps)
     accepted-is-sent =
-        subst (λ (b : List ℕ). Sent level (settingOf W mode k) vs ps (need (settingOf W mode k)) (addSides b ps)) (sym accepted-bytes)
-        (sided-sent level (settingOf W mode k) vs ps lies)
+        subst (λ (b : List ℕ). Sent level (settingOf W mode k size) vs ps (need (settingOf W mode k size)) (addSides b ps)) (sym accepted-bytes)
+        (sided-sent level (settingOf W mode k size) vs ps lies)
 
     pub accepted-is-raised : (written needed : ℕ) → needed < 2 ^ 32
-        → Sent written (settingOf W mode k) vs ps needed (placed 8 needed (placed 4 written (addSides (take n (packOut W level mode k vs out)) ps)))
+        → Sent written (settingOf W mode k size) vs ps needed (placed 8 needed (placed 4 written (addSides (take n (packOut W level mode k size vs out)) ps)))
     accepted-is-raised written needed fits =
         record {
-          well-formed = subst (λ (m : ℕ). WellFormedSides (m + 12 * length ps) ps) (length-stream level (settingOf W mode k) vs ∙ sym (length-stream written (settingOf W mode k) vs)) lies;
+          well-formed = subst (λ (m : ℕ). WellFormedSides (m + 12 * length ps) ps) (length-stream level (settingOf W mode k size) vs ∙ sym (length-stream written (settingOf W mode k size) vs)) lies;
           fits = fits;
-          bytes = ap (placed 8 needed) (ap (λ (b : List ℕ). placed 4 written (addSides b ps)) accepted-bytes ∙ rewritten level written (settingOf W mode k) vs ps);
+          bytes = ap (placed 8 needed) (ap (λ (b : List ℕ). placed 4 written (addSides b ps)) accepted-bytes ∙ rewritten level written (settingOf W mode k size) vs ps);
         }
 
   -- side parts alone leave the minors as pack wrote them
   pub the-minors-as-they-were : (ps : List Side)
-      → placed 8 (need (settingOf W mode k)) (placed 4 level (addSides (take n (packOut W level mode k vs out)) ps)) ≡ addSides (take n (packOut W level mode k vs out)) ps
+      → placed 8 (need (settingOf W mode k size)) (placed 4 level (addSides (take n (packOut W level mode k size vs out)) ps)) ≡ addSides (take n (packOut W level mode k size vs out)) ps
   the-minors-as-they-were ps =
       rw accepted-bytes
-      (ap (placed 8 (need (settingOf W mode k))) (rewritten level level (settingOf W mode k) vs ps) ∙ same-need level (settingOf W mode k) vs ps)
+      (ap (placed 8 (need (settingOf W mode k size))) (rewritten level level (settingOf W mode k size) vs ps) ∙ same-need level (settingOf W mode k size) vs ps)
 
 -- for a list that a stream may hold
-module _ (W level mode : ℕ) (k : ℤ) (vs : List ℕ) (p : Packable W level mode k vs) where
+module _ (W level mode : ℕ) (k : ℤ) (size : ℕ) (vs : List ℕ) (p : Packable W level mode k size vs) where
   -- ---- writing
 
   -- length answers the stream's length, at a level that we know
-  pub length-is-answered : knownLevel level ≡ true → lengthAnswer W level mode k vs ≡ Done (length (stream level (settingOf W mode k) vs))
-  length-is-answered known = sym (length-done W level mode k vs (length (stream level (settingOf W mode k) vs)) (rows-pass W level mode k vs known p) (length-stream level (settingOf W mode k) vs))
+  pub length-is-answered : knownLevel level ≡ true → lengthAnswer W level mode k size vs ≡ Done (length (stream level (settingOf W mode k size) vs))
+  length-is-answered known = sym (length-done W level mode k size vs (length (stream level (settingOf W mode k size) vs)) (rows-pass W level mode k size vs known p) (length-stream level (settingOf W mode k size) vs))
 
   -- pack writes the stream where there is room for it, and alters nothing past it
-  pub the-stream-is-packed : knownLevel level ≡ true → (out : List ℕ) → length (stream level (settingOf W mode k) vs) ≤ length out
-      → (packAnswer W level mode k vs (length out) ≡ Done (length (stream level (settingOf W mode k) vs)))
-      × (packOut W level mode k vs out ≡ stream level (settingOf W mode k) vs ++ drop (length (stream level (settingOf W mode k) vs)) out)
+  pub the-stream-is-packed : knownLevel level ≡ true → (out : List ℕ) → length (stream level (settingOf W mode k size) vs) ≤ length out
+      → (packAnswer W level mode k size vs (length out) ≡ Done (length (stream level (settingOf W mode k size) vs)))
+      × (packOut W level mode k size vs out ≡ stream level (settingOf W mode k size) vs ++ drop (length (stream level (settingOf W mode k size) vs)) out)
   the-stream-is-packed known out room =
       let done =
-      pack-done W level mode k vs out (rows-pass W level mode k vs known p) (length (stream level (settingOf W mode k) vs)) (stream level (settingOf W mode k) vs ++ drop (length (stream level (settingOf W mode k) vs)) out)
-      (sym (room-enough (settingOf W mode k) vs (length out) (rw (length-stream level (settingOf W mode k) vs) at room))) refl refl in
+      pack-done W level mode k size vs out (rows-pass W level mode k size vs known p) (length (stream level (settingOf W mode k size) vs)) (stream level (settingOf W mode k size) vs ++ drop (length (stream level (settingOf W mode k size) vs)) out)
+      (sym (room-enough (settingOf W mode k size) vs (length out) (rw (length-stream level (settingOf W mode k size) vs) at room))) refl refl in
       (sym (done .0), sym (done .1))
 
   -- "Packed length is never above 48 + 4c + (n/32 rounded up) + n·W/8."
   pub packed-length-bound :
-      length (stream level (settingOf W mode k) vs) ≤ 48 + 4 * chunksIn (length vs) + groupsIn (groupSize (settingOf W mode k)) (length vs) + length vs * W / 8
+      length (stream level (settingOf W mode k size) vs) ≤ 48 + 4 * chunksIn (length vs) + groupsIn (groupSize (settingOf W mode k size)) (length vs) + length vs * W / 8
   unfolding mostBytes
-  packed-length-bound = rw (length-stream level (settingOf W mode k) vs) (end-most (settingOf W mode k) vs (p .width) (p .patterns))
+  packed-length-bound = rw (length-stream level (settingOf W mode k size) vs) (end-most (settingOf W mode k size) vs (p .width) (p .patterns))
 
   -- ---- what a reader meets: the plain stream, or one with side parts behind its data
 
-  pub the-plain-stream : Sent level (settingOf W mode k) vs [] (need (settingOf W mode k)) (stream level (settingOf W mode k) vs)
-  the-plain-stream = plain-sent level (settingOf W mode k) vs
+  pub the-plain-stream : Sent level (settingOf W mode k size) vs [] (need (settingOf W mode k size)) (stream level (settingOf W mode k size) vs)
+  the-plain-stream = plain-sent level (settingOf W mode k size) vs
 
-  pub with-side-parts : (ps : List Side) → WellFormedSides (length (stream level (settingOf W mode k) vs) + 12 * length ps) ps
-      → Sent level (settingOf W mode k) vs ps (need (settingOf W mode k)) (addSides (stream level (settingOf W mode k) vs) ps)
-  with-side-parts ps = sided-sent level (settingOf W mode k) vs ps
+  pub with-side-parts : (ps : List Side) → WellFormedSides (length (stream level (settingOf W mode k size) vs) + 12 * length ps) ps
+      → Sent level (settingOf W mode k size) vs ps (need (settingOf W mode k size)) (addSides (stream level (settingOf W mode k size) vs) ps)
+  with-side-parts ps = sided-sent level (settingOf W mode k size) vs ps
 
-  module _ (ps : List Side) (needed : ℕ) (s : List ℕ) (sent : Sent level (settingOf W mode k) vs ps needed s) where
+  module _ (ps : List Side) (needed : ℕ) (s : List ℕ) (sent : Sent level (settingOf W mode k size) vs ps needed s) where
     -- it is bytes
     pub bytes-only : Below 256 s
-    bytes-only = bytes-sent level (settingOf W mode k) vs (storable W level mode k vs p) ps needed s sent
+    bytes-only = bytes-sent level (settingOf W mode k size) vs (storable W level mode k size vs p) ps needed s sent
 
     -- the table "at | number" is read as it was written, with that need in the third place
     pub the-header-is-read : (j : ℕ) → j < 12
         → word s (4 * j)
-        ≡ getD (1 ∷ level ∷ needed ∷ drop 3 (headerNumbers level (settingOf W mode k) (length vs) (length ps) (endOf (settingOf W mode k) vs (chunksIn (length vs))))) j 0
-    the-header-is-read = header-words level (settingOf W mode k) vs (storable W level mode k vs p) ps needed s sent
+        ≡ getD (1 ∷ level ∷ needed ∷ drop 3 (headerNumbers level (settingOf W mode k size) (length vs) (length ps) (endOf (settingOf W mode k size) vs (chunksIn (length vs))))) j 0
+    the-header-is-read = header-words level (settingOf W mode k size) vs (storable W level mode k size vs p) ps needed s sent
 
     -- no rule of the refusals 8 (but for the needed minor's own), 9 and 10 is broken
     pub every-rule-is-kept :
-        (need (settingOf W mode k) ≤ needed → needed ≤ level → settingRight (headerOf s) ≡ true) × (layoutRight (length s) (headerOf s) ≡ true)
+        (need (settingOf W mode k size) ≤ needed → needed ≤ level → settingRight (headerOf s) ≡ true) × (layoutRight (length s) (headerOf s) ≡ true)
         × (chunkTableRight (headerOf s) s ≡ true) × (sideTableRight (headerOf s) s ≡ true)
         × ((j : ℕ) → j < chunksIn (length vs) → chunkState (headerOf s) s j ≡ Good)
     every-rule-is-kept = (
-      setting-kept level (settingOf W mode k) vs (storable W level mode k vs p) ps needed s sent,
-      layout-kept level (settingOf W mode k) vs (storable W level mode k vs p) ps needed s sent,
-      chunk-table-kept level (settingOf W mode k) vs (storable W level mode k vs p) ps needed s sent,
-      side-table-kept level (settingOf W mode k) vs (storable W level mode k vs p) ps needed s sent,
-      chunks-kept level (settingOf W mode k) vs (storable W level mode k vs p) ps needed s sent,
+      setting-kept level (settingOf W mode k size) vs (storable W level mode k size vs p) ps needed s sent,
+      layout-kept level (settingOf W mode k size) vs (storable W level mode k size vs p) ps needed s sent,
+      chunk-table-kept level (settingOf W mode k size) vs (storable W level mode k size vs p) ps needed s sent,
+      side-table-kept level (settingOf W mode k size) vs (storable W level mode k size vs p) ps needed s sent,
+      chunks-kept level (settingOf W mode k size) vs (storable W level mode k size vs p) ps needed s sent,
     )
 
     -- the ids of the side table are those of the side parts
     pub the-ids-are-read : idsIn (headerOf s) s ≡ idsOf ps
-    the-ids-are-read = ids-kept level (settingOf W mode k) vs (storable W level mode k vs p) ps needed s sent
+    the-ids-are-read = ids-kept level (settingOf W mode k size) vs (storable W level mode k size vs p) ps needed s sent
 
     -- the values are the patterns of the codes, chunk by chunk
-    pub the-values-are-read : values s ≡ comingBack (settingOf W mode k) vs
-    the-values-are-read = values-read level (settingOf W mode k) vs (storable W level mode k vs p) ps needed s sent
+    pub the-values-are-read : values s ≡ comingBack (settingOf W mode k size) vs
+    the-values-are-read = values-read level (settingOf W mode k size) vs (storable W level mode k size vs p) ps needed s sent
 
     -- as many as there were
     pub as-many-values : length (values s) ≡ length vs
-    as-many-values = ap length the-values-are-read ∙ length-back (settingOf W mode k) vs
+    as-many-values = ap length the-values-are-read ∙ length-back (settingOf W mode k size) vs
 
     -- "Lossless packing restores every bit pattern", in mode 0 and in mode 2
     pub lossless-values : losslessMode mode ≡ true → values s ≡ vs
-    lossless-values e = the-values-are-read ∙ lossless-back (settingOf W mode k) (made-allowed W mode k (p .width) (p .allowed)) vs (p .patterns) e
+    lossless-values e = the-values-are-read ∙ lossless-back (settingOf W mode k size) (made-allowed W mode k size (p .width) (p .allowed)) vs (p .patterns) e
 
     bin-is : mode ≡ 1 → binFor W mode k ≡ binOf W (fractionBits W) k
     unfolding binFor
@@ -217,19 +217,19 @@ module _ (W level mode : ℕ) (k : ℤ) (vs : List ℕ) (p : Packable W level mo
     -- "Under tolerance 2^k, a value whose magnitude is below the threshold returns at most 2^k off, exactly; all else returns bit for bit."
     pub tolerance-values : mode ≡ 1 → (i : ℕ) → i < length vs → Within W (fractionBits W) (binOf W (fractionBits W) k) (getD vs i 0) (getD (values s) i 0)
     tolerance-values e i h = rw the-values-are-read
-        (subst (λ (j : ℕ). Within W (fractionBits W) j (getD vs i 0) (getD (comingBack (settingOf W mode k) vs) i 0)) (bin-is e)
-        (tolerance-back (settingOf W mode k) (made-allowed W mode k (p .width) (p .allowed)) vs (p .patterns) e i h))
+        (subst (λ (j : ℕ). Within W (fractionBits W) j (getD vs i 0) (getD (comingBack (settingOf W mode k size) vs) i 0)) (bin-is e)
+        (tolerance-back (settingOf W mode k size) (made-allowed W mode k size (p .width) (p .allowed)) vs (p .patterns) e i h))
 
     -- "infinities and not-a-numbers too": their ordinals are those from the largest exponent on
     pub special-values : mode ≡ 1 → (i : ℕ) → i < length vs
         → (2 ^ (W - 1 - fractionBits W) - 1) * 2 ^ fractionBits W ≤ ordinal W (getD vs i 0) → getD (values s) i 0 ≡ getD vs i 0
-    special-values e i h l = rw the-values-are-read (special-back (settingOf W mode k) (made-allowed W mode k (p .width) (p .allowed)) vs (p .patterns) e i h l)
+    special-values e i h l = rw the-values-are-read (special-back (settingOf W mode k size) (made-allowed W mode k size (p .width) (p .allowed)) vs (p .patterns) e i h l)
 
     -- ---- each level refuses by 7, with the need, what it does not reach; of the rest the need and the ids of the side parts decide
 
     -- by 8 where they ask for another need, or the written minor is below it; by 15 where one is high
     abbrev said : Step
-    said = cond (leb needed level && eqb needed (streamNeed (settingOf W mode k) (someHigh (idsOf ps)))) (first (map idRow (idsOf ps))) (Stop 8 0)
+    said = cond (leb needed level && eqb needed (streamNeed (settingOf W mode k size) (someHigh (idsOf ps)))) (first (map idRow (idsOf ps))) (Stop 8 0)
 
     module _ (L : ℕ) (known : knownLevel L ≡ true) where
       -- 7 with the need, or what they say
@@ -246,42 +246,42 @@ module _ (W level mode : ℕ) (k : ℤ) (vs : List ℕ) (p : Packable W level mo
       pub check-exactly : first (checkRows L s) ≡ exactly
       check-exactly =
           either-way (first (checkRows L s))
-          (check-read level (settingOf W mode k) vs (storable W level mode k vs p) ps needed s sent L known)
-          (check-stop level (settingOf W mode k) vs (storable W level mode k vs p) ps needed s sent L known)
+          (check-read level (settingOf W mode k size) vs (storable W level mode k size vs p) ps needed s sent L known)
+          (check-stop level (settingOf W mode k size) vs (storable W level mode k size vs p) ps needed s sent L known)
 
       pub unpack-exactly : (room : ℕ) → length vs ≤ room → first (unpackRows W L s room) ≡ exactly
       unpack-exactly room l =
           either-way (first (unpackRows W L s room))
-          (unpack-read level (settingOf W mode k) vs (storable W level mode k vs p) ps needed s sent L known room l)
-          (unpack-stop level (settingOf W mode k) vs (storable W level mode k vs p) ps needed s sent L known W room)
+          (unpack-read level (settingOf W mode k size) vs (storable W level mode k size vs p) ps needed s sent L known room l)
+          (unpack-stop level (settingOf W mode k size) vs (storable W level mode k size vs p) ps needed s sent L known W room)
 
       -- probe of each index likewise
       pub probe-exactly : (i : ℕ) → i < length vs → first (probeRows W L s i) ≡ exactly
       probe-exactly i l =
           either-way (first (probeRows W L s i))
-          (probe-read level (settingOf W mode k) vs (storable W level mode k vs p) ps needed s sent L known i l)
-          (probe-stop level (settingOf W mode k) vs (storable W level mode k vs p) ps needed s sent L known W i)
+          (probe-read level (settingOf W mode k size) vs (storable W level mode k size vs p) ps needed s sent L known i l)
+          (probe-stop level (settingOf W mode k size) vs (storable W level mode k size vs p) ps needed s sent L known W i)
 
       -- so where no id is high and the need is the setting's and reached, check counts the values and unpack hands them out
-      pub it-is-read : someHigh (idsOf ps) ≡ false → needed ≡ need (settingOf W mode k) → needed ≤ L → (out : List ℕ) → length vs ≤ length out
+      pub it-is-read : someHigh (idsOf ps) ≡ false → needed ≡ need (settingOf W mode k size) → needed ≤ L → (out : List ℕ) → length vs ≤ length out
           → (checkAnswer L s ≡ Done (length vs)) × (unpackAnswer W L s (length out) ≡ Done (length vs))
           × (unpackOut W L s out ≡ values s ++ drop (length vs) out)
       unfolding checkAnswer unpackAnswer unpackOut answer after
       it-is-read low own h out l =
-          let n = ap (λ (x : Header). x .count) (header-read level (settingOf W mode k) vs (storable W level mode k vs p) ps needed s sent) in
-          let nothing = told-low level (settingOf W mode k) vs (storable W level mode k vs p) ps needed s sent low own in
-          let checks = check-read level (settingOf W mode k) vs (storable W level mode k vs p) ps needed s sent L known h ∙ nothing in
-          let passes = unpack-read level (settingOf W mode k) vs (storable W level mode k vs p) ps needed s sent L known (length out) l h ∙ nothing in
+          let n = ap (λ (x : Header). x .count) (header-read level (settingOf W mode k size) vs (storable W level mode k size vs p) ps needed s sent) in
+          let nothing = told-low level (settingOf W mode k size) vs (storable W level mode k size vs p) ps needed s sent low own in
+          let checks = check-read level (settingOf W mode k size) vs (storable W level mode k size vs p) ps needed s sent L known h ∙ nothing in
+          let passes = unpack-read level (settingOf W mode k size) vs (storable W level mode k size vs p) ps needed s sent L known (length out) l h ∙ nothing in
           (rw checks (ap Done n), rw passes (ap Done n), rw passes (ap (λ (m : ℕ). values s ++ drop m out) n))
 
       -- and where the needed minor is not reached, every reader names it, and unpack's output stays as it was
       pub it-is-too-new : L < needed → TooNew L s needed
       unfolding checkAnswer unpackAnswer unpackOut answer after probeAnswer32 probeAnswer64 probed32 probed64
       it-is-too-new h =
-          let unpacks = unpack-stop level (settingOf W mode k) vs (storable W level mode k vs p) ps needed s sent L known in
-          let probes = probe-stop level (settingOf W mode k) vs (storable W level mode k vs p) ps needed s sent L known in
+          let unpacks = unpack-stop level (settingOf W mode k size) vs (storable W level mode k size vs p) ps needed s sent L known in
+          let probes = probe-stop level (settingOf W mode k size) vs (storable W level mode k size vs p) ps needed s sent L known in
           record {
-            check = rw (check-stop level (settingOf W mode k) vs (storable W level mode k vs p) ps needed s sent L known h);
+            check = rw (check-stop level (settingOf W mode k size) vs (storable W level mode k size vs p) ps needed s sent L known h);
             unpack = λ any back. (rw (unpacks any (length back) h), rw (unpacks any (length back) h));
             probe32 = λ i. rw (probes 32 i h);
             probe64 = λ i. rw (probes 64 i h);
@@ -301,13 +301,13 @@ module _ (W level mode : ℕ) (k : ℤ) (vs : List ℕ) (p : Packable W level mo
           }
 
       -- 15: the need is that of a stream with a high id, and there is one
-      pub refused-by-15 : needed ≤ L → someHigh (idsOf ps) ≡ true → needed ≡ streamNeed (settingOf W mode k) true → needed ≤ level
+      pub refused-by-15 : needed ≤ L → someHigh (idsOf ps) ≡ true → needed ≡ streamNeed (settingOf W mode k size) true → needed ≤ level
           → RefusedBy W L s (length vs) 15 (firstHigh (idsOf ps))
       refused-by-15 h high right reached =
           all-readers 15 (firstHigh (idsOf ps))
-          (rw (le-ltb L needed h) (told-high level (settingOf W mode k) vs (storable W level mode k vs p) ps needed s sent high right reached))
+          (rw (le-ltb L needed h) (told-high level (settingOf W mode k size) vs (storable W level mode k size vs p) ps needed s sent high right reached))
 
       -- 8: it is the need of another stream, or above the written minor
-      pub refused-by-8 : needed ≤ L → ((needed ≡ streamNeed (settingOf W mode k) (someHigh (idsOf ps))) × (needed ≤ level) → ⊥) → RefusedBy W L s (length vs) 8 0
+      pub refused-by-8 : needed ≤ L → ((needed ≡ streamNeed (settingOf W mode k size) (someHigh (idsOf ps))) × (needed ≤ level) → ⊥) → RefusedBy W L s (length vs) 8 0
       refused-by-8 h other =
-          all-readers 8 0 (rw (le-ltb L needed h) (told-wrong level (settingOf W mode k) vs (storable W level mode k vs p) ps needed s sent other))
+          all-readers 8 0 (rw (le-ltb L needed h) (told-wrong level (settingOf W mode k size) vs (storable W level mode k size vs p) ps needed s sent other))

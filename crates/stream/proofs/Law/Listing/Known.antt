@@ -7,10 +7,10 @@ use Rattle.numbers.specs.Signed.{signedView}
 use Rattle.bins.specs.Tolerance.{kOffset, lastBin, allowedK, binOf, largestU}
 use Rattle.blocks.specs.Bytes.{number, digits}
 use Rattle.stream.specs.Group.{bytesFor, largest, widthOf, givenWidth, groupLength, groupNumber, groupCodes, within, goodGroup}
-use Rattle.stream.specs.Setting.{highestLevel, knownLevel, knownWidth, fractionBits, widthNeed, modeNeed, need, streamNeed, losslessMode, isZero, allowedSetting, binFor, groupSize, limitOf}
+use Rattle.stream.specs.Setting.{highestLevel, knownLevel, knownWidth, fractionBits, widthNeed, modeNeed, need, streamNeed, losslessMode, isZero, allowedSetting, binFor, groupSize, limitOf, sizeNeed, allowedMode, knownSize}
 use Rattle.stream.specs.Chunk.{groupsIn, firstFault, chunkAnswer}
 use Rattle.stream.specs.Rows.{rowsFrom, first, answer}
-use Rattle.stream.specs.Header.{word, headerOf, kOf, chunksIn, tooMany, needRight, settingRight, layoutRight}
+use Rattle.stream.specs.Header.{word, headerOf, kOf, chunksIn, tooMany, needRight, settingRight, layoutRight, saidMode, saidSize}
 use Rattle.stream.specs.Tables.{every, startAt, startRight, chunkTableRight, partAt, sideTableRight, idsFrom, idsIn, someHigh}
 use Rattle.stream.specs.Stream.{joined, countOf, chunkOf, chunkState}
 use Rattle.stream.specs.Writing.{spell}
@@ -33,7 +33,7 @@ threeText =
 -- "the numbers 1 8 8 32 0 0 3 1 48 52 0 55, the table 0, then bytes 03 10 01. It prints, whole:"
 pub three-listed : listing (spell (1 ∷ 8 ∷ 8 ∷ 32 ∷ 0 ∷ 0 ∷ 3 ∷ 1 ∷ 48 ∷ 52 ∷ 0 ∷ 55 ∷ 0 ∷ []) ++ (0x03 ∷ 0x10 ∷ 0x01 ∷ []))
     ≡ threeText
-unfolding size signedView number digits bytesFor largest widthOf givenWidth groupLength groupNumber groupCodes within goodGroup highestLevel knownLevel knownWidth fractionBits widthNeed modeNeed need someHigh streamNeed losslessMode isZero allowedSetting binFor groupSize limitOf groupsIn firstFault chunkAnswer first answer word headerOf kOf chunksIn tooMany needRight settingRight layoutRight every startAt startRight chunkTableRight partAt sideTableRight idsFrom idsIn joined countOf chunkOf chunkState spell headerRows openingRows needRow sideRows tableRows faultDetail faultRow rowsFrom chunkRow chunkRows contentRows checkRows checkAnswer mostInput digit decimalIn decimal minus signedDecimal newline point formatWord needsWord widthWord modeWord boundWord valuesWord chunksWord sidesWord chunkWord atWord bytesWord groupsWord refusedWord detailWord labelled formatLine settingLine countLine chunkLine streamLines refusedLine answerLines listing threeText
+unfolding size signedView number digits bytesFor largest widthOf givenWidth groupLength groupNumber groupCodes within goodGroup highestLevel knownLevel knownWidth fractionBits widthNeed modeNeed sizeNeed need someHigh streamNeed losslessMode isZero allowedSetting allowedMode knownSize binFor groupSize limitOf groupsIn firstFault chunkAnswer first answer word headerOf kOf chunksIn tooMany needRight settingRight saidMode saidSize layoutRight every startAt startRight chunkTableRight partAt sideTableRight idsFrom idsIn joined countOf chunkOf chunkState spell headerRows openingRows needRow sideRows tableRows faultDetail faultRow rowsFrom chunkRow chunkRows contentRows checkRows checkAnswer mostInput digit decimalIn decimal minus signedDecimal newline point formatWord needsWord widthWord modeWord boundWord valuesWord chunksWord sidesWord chunkWord atWord bytesWord groupsWord refusedWord detailWord labelled formatLine settingLine countLine chunkLine streamLines refusedLine answerLines listing threeText
 three-listed = refl
 
 -- `format 1.9 needs 1.9`, `width 32 mode 1 bound -2`, `values 0 chunks 0 sides 0`
@@ -46,15 +46,15 @@ noneText =
 
 -- no values, in mode 1 with k = -2
 pub none-listed : listing (spell (1 ∷ 9 ∷ 9 ∷ 32 ∷ 1 ∷ 4294967294 ∷ 0 ∷ 0 ∷ 48 ∷ 48 ∷ 0 ∷ 48 ∷ [])) ≡ noneText
-unfolding size signedView number digits bytesFor largest widthOf givenWidth groupLength groupNumber groupCodes within goodGroup highestLevel knownLevel knownWidth fractionBits widthNeed modeNeed need someHigh streamNeed losslessMode isZero allowedSetting binFor groupSize limitOf groupsIn firstFault chunkAnswer first answer word headerOf kOf chunksIn tooMany needRight settingRight layoutRight every startAt startRight chunkTableRight partAt sideTableRight idsFrom idsIn joined countOf chunkOf chunkState spell headerRows openingRows needRow sideRows tableRows faultDetail faultRow rowsFrom chunkRow chunkRows contentRows checkRows checkAnswer mostInput digit decimalIn decimal minus signedDecimal newline point formatWord needsWord widthWord modeWord boundWord valuesWord chunksWord sidesWord chunkWord atWord bytesWord groupsWord refusedWord detailWord labelled formatLine settingLine countLine chunkLine streamLines refusedLine answerLines listing kOffset lastBin allowedK binOf largestU noneText
+unfolding size signedView number digits bytesFor largest widthOf givenWidth groupLength groupNumber groupCodes within goodGroup highestLevel knownLevel knownWidth fractionBits widthNeed modeNeed sizeNeed need someHigh streamNeed losslessMode isZero allowedSetting allowedMode knownSize binFor groupSize limitOf groupsIn firstFault chunkAnswer first answer word headerOf kOf chunksIn tooMany needRight settingRight saidMode saidSize layoutRight every startAt startRight chunkTableRight partAt sideTableRight idsFrom idsIn joined countOf chunkOf chunkState spell headerRows openingRows needRow sideRows tableRows faultDetail faultRow rowsFrom chunkRow chunkRows contentRows checkRows checkAnswer mostInput digit decimalIn decimal minus signedDecimal newline point formatWord needsWord widthWord modeWord boundWord valuesWord chunksWord sidesWord chunkWord atWord bytesWord groupsWord refusedWord detailWord labelled formatLine settingLine countLine chunkLine streamLines refusedLine answerLines listing kOffset lastBin allowedK binOf largestU noneText
 none-listed = refl
 
--- `refused 7 detail 13`
+-- `refused 7 detail 14`
 pub refusedText : List ℕ
 refusedText =
-    (114 ∷ 101 ∷ 102 ∷ 117 ∷ 115 ∷ 101 ∷ 100 ∷ 32 ∷ 55 ∷ 32 ∷ 100 ∷ 101 ∷ 116 ∷ 97 ∷ 105 ∷ 108 ∷ 32 ∷ 49 ∷ 51 ∷ 10 ∷ [])
+    (114 ∷ 101 ∷ 102 ∷ 117 ∷ 115 ∷ 101 ∷ 100 ∷ 32 ∷ 55 ∷ 32 ∷ 100 ∷ 101 ∷ 116 ∷ 97 ∷ 105 ∷ 108 ∷ 32 ∷ 49 ∷ 52 ∷ 10 ∷ [])
 
--- a stream that needs 1.13
-pub refused-listed : listing (spell (1 ∷ 13 ∷ 13 ∷ 32 ∷ 0 ∷ 0 ∷ 0 ∷ 0 ∷ 48 ∷ 48 ∷ 0 ∷ 48 ∷ [])) ≡ refusedText
-unfolding size signedView number digits bytesFor largest widthOf givenWidth groupLength groupNumber groupCodes within goodGroup highestLevel knownLevel knownWidth fractionBits widthNeed modeNeed need someHigh streamNeed losslessMode isZero allowedSetting binFor groupSize limitOf groupsIn firstFault chunkAnswer first answer word headerOf kOf chunksIn tooMany needRight settingRight layoutRight every startAt startRight chunkTableRight partAt sideTableRight idsFrom idsIn joined countOf chunkOf chunkState spell headerRows openingRows needRow sideRows tableRows faultDetail faultRow rowsFrom chunkRow chunkRows contentRows checkRows checkAnswer mostInput digit decimalIn decimal minus signedDecimal newline point formatWord needsWord widthWord modeWord boundWord valuesWord chunksWord sidesWord chunkWord atWord bytesWord groupsWord refusedWord detailWord labelled formatLine settingLine countLine chunkLine streamLines refusedLine answerLines listing refusedText
+-- a stream that needs 1.14
+pub refused-listed : listing (spell (1 ∷ 14 ∷ 14 ∷ 32 ∷ 0 ∷ 0 ∷ 0 ∷ 0 ∷ 48 ∷ 48 ∷ 0 ∷ 48 ∷ [])) ≡ refusedText
+unfolding size signedView number digits bytesFor largest widthOf givenWidth groupLength groupNumber groupCodes within goodGroup highestLevel knownLevel knownWidth fractionBits widthNeed modeNeed sizeNeed need someHigh streamNeed losslessMode isZero allowedSetting allowedMode knownSize binFor groupSize limitOf groupsIn firstFault chunkAnswer first answer word headerOf kOf chunksIn tooMany needRight settingRight saidMode saidSize layoutRight every startAt startRight chunkTableRight partAt sideTableRight idsFrom idsIn joined countOf chunkOf chunkState spell headerRows openingRows needRow sideRows tableRows faultDetail faultRow rowsFrom chunkRow chunkRows contentRows checkRows checkAnswer mostInput digit decimalIn decimal minus signedDecimal newline point formatWord needsWord widthWord modeWord boundWord valuesWord chunksWord sidesWord chunkWord atWord bytesWord groupsWord refusedWord detailWord labelled formatLine settingLine countLine chunkLine streamLines refusedLine answerLines listing refusedText
 refused-listed = refl

@@ -11,7 +11,7 @@ use borrow.Author.Tests.{le-ltb, lt-leb, le-leb, eq-eqb}
 use lib.Dec.{leb, lit<}
 use lib.ListN.{length, drop, getD, length-append}
 use Rattle.blocks.specs.Bytes.{Below}
-use Rattle.stream.specs.Setting.{need, kBits}
+use Rattle.stream.specs.Setting.{need, modeNumber, kBits}
 use Rattle.stream.specs.Header.{word, headerOf, kOf, chunksIn, tooMany, needRight, settingRight, layoutRight}
 use Rattle.stream.specs.Writing.{spell, dataOf, startsOf, headerNumbers, endOf}
 use Rattle.stream.specs.declared.header.Header.{Header}
@@ -19,7 +19,7 @@ use Rattle.stream.specs.declared.setting.Setting.{Setting}
 use Rattle.blocks.proofs.Law.Digits.{everywhere}
 use Rattle.stream.proofs.Law.Setting.Allowed.{Storable, width-most}
 use Rattle.stream.proofs.Law.Setting.Widths.{need-least}
-use Rattle.stream.proofs.Law.Setting.Exponent.{bits-small, setting-back, allowed-back}
+use Rattle.stream.proofs.Law.Setting.Exponent.{bits-small, number-small, setting-back, allowed-back}
 use Rattle.stream.proofs.Law.Plain.Joined.{length-singles, singles-at}
 use Rattle.stream.proofs.Law.Plain.Truth.{and-false}
 use Rattle.stream.proofs.Law.Written.Numbers.{word-spelled}
@@ -33,7 +33,7 @@ headerFor level needed t vs sides =
       written = level;
       needed = needed;
       width = t .width;
-      mode = t .mode;
+      mode = modeNumber t;
       exponent = kBits t;
       count = length vs;
       chunks = chunksIn (length vs);
@@ -105,7 +105,7 @@ module _ (level needed : ℕ) (t : Setting) (vs : List ℕ) where
               (
                 omega (arith, width-most (t .width) (p .setting .known)),
                 (
-                  omega (arith, p .setting .mode),
+                  number-small t (p .setting),
                   (
                     bits-small t (p .setting),
                     (

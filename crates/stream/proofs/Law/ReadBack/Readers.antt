@@ -12,7 +12,7 @@ use borrow.Author.Tests.{lt-ltb, le-ltb, lt-leb, le-leb, eq-eqb, ne-eqb}
 use lib.Dec.{leb, eqb, lit<}
 use lib.ListN.{length, drop, getD, length-append, List·getD-append}
 use Rattle.blocks.specs.Bytes.{Below}
-use Rattle.stream.specs.Setting.{knownLevel, need, streamNeed, kBits, groupSize, codesOf}
+use Rattle.stream.specs.Setting.{knownLevel, need, streamNeed, kBits, groupSize, codesOf, modeNumber}
 use Rattle.stream.specs.Rows.{Row, rowsFrom, first}
 use Rattle.stream.specs.Header.{word, headerOf, kOf, chunksIn, settingRight, layoutRight}
 use Rattle.stream.specs.Tables.{chunkTableRight, sideTableRight, idsIn, someHigh, firstHigh}
@@ -61,7 +61,7 @@ module _ (level : ℕ) (t : Setting) (vs : List ℕ) (ps : List Side) where
   unfolding placed addSides stream body headerNumbers
   sided =
       let c = chunksIn (length vs) in
-      let ten : List ℕ = 1 ∷ level ∷ need t ∷ t .width ∷ t .mode ∷ kBits t ∷ length vs ∷ c ∷ 48 ∷ (48 + 4 * c) ∷ [] in
+      let ten : List ℕ = 1 ∷ level ∷ need t ∷ t .width ∷ modeNumber t ∷ kBits t ∷ length vs ∷ c ∷ 48 ∷ (48 + 4 * c) ∷ [] in
       let front = spell (frontNumbers level (need t) t vs (length ps)) in
       let table = spell (entries (endOf t vs c + 12 * length ps) ps) in
       ap₂ (λ (b : List ℕ) (n : ℕ). b ++ spell (entries (n + 12 * length ps) ps) ++ parts ps)

@@ -25,28 +25,28 @@ use Rattle.stream.proofs.Law.Written.Pieces.{length-front, end-is}
 -- ---- rows 1 2 3
 
 -- a list and a setting that these rows pass
-pub record Passed (W level mode : ℕ) (k : ℤ) (n : ℕ) : Type 0 where
+pub record Passed (W level mode : ℕ) (k : ℤ) (size : ℕ) (n : ℕ) : Type 0 where
   pub known : knownLevel level ≡ true
-  pub allowed : allowedSetting W mode k ≡ true
-  pub needs : need (settingOf W mode k) ≤ level
+  pub allowed : allowedSetting W mode k size ≡ true
+  pub needs : need (settingOf W mode k size) ≤ level
   pub few : n ≤ 1048576
 
-pub length-passed : (W level mode : ℕ) (k : ℤ) (n : ℕ) → first (lengthRows W level mode k n) ≡ Pass → Passed W level mode k n
+pub length-passed : (W level mode : ℕ) (k : ℤ) (size : ℕ) (n : ℕ) → first (lengthRows W level mode k size n) ≡ Pass → Passed W level mode k size n
 unfolding lengthRows tooMany
-length-passed W level mode k n e =
-    let one = passed-both (row 1 (not (knownLevel level)) 0) (row 2 (not (allowedSetting W mode k) || ltb level (need (settingOf W mode k))) 0 ∷ row 3 (ltb 1048576 n) 0 ∷ []) e in
-    let two = passed-both (row 2 (not (allowedSetting W mode k) || ltb level (need (settingOf W mode k))) 0) (row 3 (ltb 1048576 n) 0 ∷ []) (one .1) in
-    let both = or-false (not (allowedSetting W mode k)) (ltb level (need (settingOf W mode k))) (not-given 2 0 (not (allowedSetting W mode k) || ltb level (need (settingOf W mode k))) (two .0)) in
+length-passed W level mode k size n e =
+    let one = passed-both (row 1 (not (knownLevel level)) 0) (row 2 (not (allowedSetting W mode k size) || ltb level (need (settingOf W mode k size))) 0 ∷ row 3 (ltb 1048576 n) 0 ∷ []) e in
+    let two = passed-both (row 2 (not (allowedSetting W mode k size) || ltb level (need (settingOf W mode k size))) 0) (row 3 (ltb 1048576 n) 0 ∷ []) (one .1) in
+    let both = or-false (not (allowedSetting W mode k size)) (ltb level (need (settingOf W mode k size))) (not-given 2 0 (not (allowedSetting W mode k size) || ltb level (need (settingOf W mode k size))) (two .0)) in
     record {
       known = not-false (knownLevel level) (not-given 1 0 (not (knownLevel level)) (one .0));
-      allowed = not-false (allowedSetting W mode k) (both .0);
-      needs = ltb-false level (need (settingOf W mode k)) (both .1);
+      allowed = not-false (allowedSetting W mode k size) (both .0);
+      needs = ltb-false level (need (settingOf W mode k size)) (both .1);
       few = ltb-false 1048576 n (not-given 3 0 (ltb 1048576 n) (two .1));
     }
 
-pub rows-pass : (W level mode : ℕ) (k : ℤ) (vs : List ℕ) → knownLevel level ≡ true → Packable W level mode k vs → first (lengthRows W level mode k (length vs)) ≡ Pass
+pub rows-pass : (W level mode : ℕ) (k : ℤ) (size : ℕ) (vs : List ℕ) → knownLevel level ≡ true → Packable W level mode k size vs → first (lengthRows W level mode k size (length vs)) ≡ Pass
 unfolding lengthRows tooMany first
-rows-pass W level mode k vs known p = rw (known, p .allowed, le-ltb level (need (settingOf W mode k)) (p .needs), le-ltb 1048576 (length vs) (p .few))
+rows-pass W level mode k size vs known p = rw (known, p .allowed, le-ltb level (need (settingOf W mode k size)) (p .needs), le-ltb 1048576 (length vs) (p .few))
 
 -- ---- row 4
 
@@ -84,45 +84,45 @@ module _ (level : ℕ) (t : Setting) (vs : List ℕ) where
   unfolding stream
   length-stream = length-body 0
 
-module _ (W level mode : ℕ) (k : ℤ) (vs : List ℕ) where
-  pub length-refused : (number detail : ℕ) → first (lengthRows W level mode k (length vs)) ≡ Stop number detail → Refused number detail ≡ lengthAnswer W level mode k vs
+module _ (W level mode : ℕ) (k : ℤ) (size : ℕ) (vs : List ℕ) where
+  pub length-refused : (number detail : ℕ) → first (lengthRows W level mode k size (length vs)) ≡ Stop number detail → Refused number detail ≡ lengthAnswer W level mode k size vs
   unfolding lengthAnswer answer
   length-refused number detail e = rw e
 
-  pub length-done : (n : ℕ) → first (lengthRows W level mode k (length vs)) ≡ Pass → n ≡ endOf (settingOf W mode k) vs (chunksIn (length vs)) → Done n ≡ lengthAnswer W level mode k vs
+  pub length-done : (n : ℕ) → first (lengthRows W level mode k size (length vs)) ≡ Pass → n ≡ endOf (settingOf W mode k size) vs (chunksIn (length vs)) → Done n ≡ lengthAnswer W level mode k size vs
   unfolding lengthAnswer answer
-  length-done n e is = rw e (ap Done (is ∙ sym (length-stream level (settingOf W mode k) vs)))
+  length-done n e is = rw e (ap Done (is ∙ sym (length-stream level (settingOf W mode k size) vs)))
 
   module _ (out : List ℕ) where
-    rows-refused : (number detail : ℕ) → first (packRows W level mode k vs (length out)) ≡ Stop number detail
-        → (Refused number detail ≡ packAnswer W level mode k vs (length out)) × (out ≡ packOut W level mode k vs out)
+    rows-refused : (number detail : ℕ) → first (packRows W level mode k size vs (length out)) ≡ Stop number detail
+        → (Refused number detail ≡ packAnswer W level mode k size vs (length out)) × (out ≡ packOut W level mode k size vs out)
     unfolding packAnswer packOut answer after
     rows-refused number detail e = (rw e, rw e)
 
     -- 1 2 3
-    pub pack-refused : (number detail : ℕ) → first (lengthRows W level mode k (length vs)) ≡ Stop number detail
-        → (Refused number detail ≡ packAnswer W level mode k vs (length out)) × (out ≡ packOut W level mode k vs out)
+    pub pack-refused : (number detail : ℕ) → first (lengthRows W level mode k size (length vs)) ≡ Stop number detail
+        → (Refused number detail ≡ packAnswer W level mode k size vs (length out)) × (out ≡ packOut W level mode k size vs out)
     unfolding packRows
     pack-refused number detail e =
         rows-refused number detail
-        (shut number detail (lengthRows W level mode k (length vs))
-        (row 4 (ltb (length out) (length (stream level (settingOf W mode k) vs))) (length (stream level (settingOf W mode k) vs)) ∷ []) e)
+        (shut number detail (lengthRows W level mode k size (length vs))
+        (row 4 (ltb (length out) (length (stream level (settingOf W mode k size) vs))) (length (stream level (settingOf W mode k size) vs)) ∷ []) e)
 
-    module _ (pass : first (lengthRows W level mode k (length vs)) ≡ Pass) where
-      fourth : first (packRows W level mode k vs (length out)) ≡ first (shortRow (settingOf W mode k) vs (length out) ∷ [])
+    module _ (pass : first (lengthRows W level mode k size (length vs)) ≡ Pass) where
+      fourth : first (packRows W level mode k size vs (length out)) ≡ first (shortRow (settingOf W mode k size) vs (length out) ∷ [])
       unfolding packRows shortRow
       fourth =
-          opened (lengthRows W level mode k (length vs)) (row 4 (ltb (length out) (length (stream level (settingOf W mode k) vs))) (length (stream level (settingOf W mode k) vs)) ∷ []) pass
-          ∙ ap (λ (n : ℕ). first (row 4 (ltb (length out) n) n ∷ [])) (length-stream level (settingOf W mode k) vs)
+          opened (lengthRows W level mode k size (length vs)) (row 4 (ltb (length out) (length (stream level (settingOf W mode k size) vs))) (length (stream level (settingOf W mode k size) vs)) ∷ []) pass
+          ∙ ap (λ (n : ℕ). first (row 4 (ltb (length out) n) n ∷ [])) (length-stream level (settingOf W mode k size) vs)
 
       -- 4
-      pub pack-short : (number detail : ℕ) → first (shortRow (settingOf W mode k) vs (length out) ∷ []) ≡ Stop number detail
-          → (Refused number detail ≡ packAnswer W level mode k vs (length out)) × (out ≡ packOut W level mode k vs out)
+      pub pack-short : (number detail : ℕ) → first (shortRow (settingOf W mode k size) vs (length out) ∷ []) ≡ Stop number detail
+          → (Refused number detail ≡ packAnswer W level mode k size vs (length out)) × (out ≡ packOut W level mode k size vs out)
       pack-short number detail e = rows-refused number detail (fourth ∙ e)
 
-      pub pack-done : (r : ℕ) (new : List ℕ) → first (shortRow (settingOf W mode k) vs (length out) ∷ []) ≡ Pass → r ≡ length (stream level (settingOf W mode k) vs)
-          → new ≡ stream level (settingOf W mode k) vs ++ drop r out
-          → (Done r ≡ packAnswer W level mode k vs (length out)) × (new ≡ packOut W level mode k vs out)
+      pub pack-done : (r : ℕ) (new : List ℕ) → first (shortRow (settingOf W mode k size) vs (length out) ∷ []) ≡ Pass → r ≡ length (stream level (settingOf W mode k size) vs)
+          → new ≡ stream level (settingOf W mode k size) vs ++ drop r out
+          → (Done r ≡ packAnswer W level mode k size vs (length out)) × (new ≡ packOut W level mode k size vs out)
       unfolding packAnswer packOut answer after
       pack-done r new e is new-is =
-          (rw (fourth ∙ e) (ap Done is), rw (fourth ∙ e) (new-is ∙ ap (λ (n : ℕ). stream level (settingOf W mode k) vs ++ drop n out) is))
+          (rw (fourth ∙ e) (ap Done is), rw (fourth ∙ e) (new-is ∙ ap (λ (n : ℕ). stream level (settingOf W mode k size) vs ++ drop n out) is))

@@ -199,33 +199,33 @@ module _ (level : ℕ) (s : List ℕ) (bytes : Below 256 s) where
 
 -- ---- writing
 
-module _ (W level mode : ℕ) (k : ℤ) (vs : List ℕ) (known : knownWidth W ≡ true) (below : Below (2 ^ W) vs) where
-  length-small : Small (2 ^ 32) (lengthRows W level mode k (length vs))
+module _ (W level mode : ℕ) (k : ℤ) (size : ℕ) (vs : List ℕ) (known : knownWidth W ≡ true) (below : Below (2 ^ W) vs) where
+  length-small : Small (2 ^ 32) (lengthRows W level mode k size (length vs))
   unfolding lengthRows
   length-small = plain 1 _ _ (lit< tt, lit< tt) (plain 2 _ _ (lit< tt, lit< tt) (plain 3 _ _ (lit< tt, lit< tt) no-rows))
 
   -- behind 3 the values are few, and so are the bytes
-  stream-small : first (lengthRows W level mode k (length vs)) ≡ Pass → length (stream level (settingOf W mode k) vs) < 2 ^ 32
+  stream-small : first (lengthRows W level mode k size (length vs)) ≡ Pass → length (stream level (settingOf W mode k size) vs) < 2 ^ 32
   stream-small pass =
-      rw (length-stream level (settingOf W mode k) vs)
-      (omega (arith, end-small (settingOf W mode k) vs known below (length-passed W level mode k (length vs) pass .few) (chunksIn (length vs)) (omega arith)))
+      rw (length-stream level (settingOf W mode k size) vs)
+      (omega (arith, end-small (settingOf W mode k size) vs known below (length-passed W level mode k size (length vs) pass .few) (chunksIn (length vs)) (omega arith)))
 
-  pub length-answer-small : SmallAnswer (2 ^ 32) (lengthAnswer W level mode k vs)
+  pub length-answer-small : SmallAnswer (2 ^ 32) (lengthAnswer W level mode k size vs)
   unfolding lengthAnswer
-  length-answer-small = answer-small (lengthRows W level mode k (length vs)) (length (stream level (settingOf W mode k) vs)) length-small stream-small
+  length-answer-small = answer-small (lengthRows W level mode k size (length vs)) (length (stream level (settingOf W mode k size) vs)) length-small stream-small
 
   -- 4, which has that length, stands behind 3
   module _ (room : ℕ) where
     abbrev short : List Row
-    short = row 4 (ltb room (length (stream level (settingOf W mode k) vs))) (length (stream level (settingOf W mode k) vs)) ∷ []
+    short = row 4 (ltb room (length (stream level (settingOf W mode k size) vs))) (length (stream level (settingOf W mode k size) vs)) ∷ []
 
-    pack-small : Small (2 ^ 32) (lengthRows W level mode k (length vs) ++ short)
+    pack-small : Small (2 ^ 32) (lengthRows W level mode k size (length vs) ++ short)
     pack-small =
-        append-small (lengthRows W level mode k (length vs)) short length-small
+        append-small (lengthRows W level mode k size (length vs)) short length-small
         (λ pass. row-small 4 _ _ _ (lit< tt, lit< tt) (λ _. stream-small pass) (λ _. no-rows))
 
-    pub pack-answer-small : SmallAnswer (2 ^ 32) (packAnswer W level mode k vs room)
+    pub pack-answer-small : SmallAnswer (2 ^ 32) (packAnswer W level mode k size vs room)
     unfolding packAnswer packRows
     pack-answer-small =
-        answer-small (packRows W level mode k vs room) (length (stream level (settingOf W mode k) vs)) pack-small
-        (λ pass. stream-small (opened-both (lengthRows W level mode k (length vs)) short pass .0))
+        answer-small (packRows W level mode k size vs room) (length (stream level (settingOf W mode k size) vs)) pack-small
+        (λ pass. stream-small (opened-both (lengthRows W level mode k size (length vs)) short pass .0))

@@ -55,8 +55,12 @@ pub size-cases : (size : ℕ) → knownSize size ≡ true → (size ≡ 32) ⊎ 
 unfolding knownSize
 size-cases size e = ⊎-elim (λ a. inl (eqb-true size 32 a)) (λ a. inr (eqb-true size 128 a)) (either (eqb size 32) (eqb size 128) e)
 
+pub known-most : (size : ℕ) → knownSize size ≡ true → size ≤ 128
+known-most size e = ⊎-elim (λ a. omega arith) (λ a. omega arith) (size-cases size e)
+
 -- ---- needs
 
+-- no width and no mode needs more than 13, and each by itself less
 mode-need-small : (b : Bool) → cond b 9 8 ≤ 9
 mode-need-small true = lit≤ tt
 mode-need-small false = lit≤ tt
@@ -65,7 +69,7 @@ width-need-small : (b : Bool) → cond b 10 8 ≤ 10
 width-need-small true = lit≤ tt
 width-need-small false = lit≤ tt
 
-other-need-small : (a b c : Bool) → max (cond a 10 8) (cond b 9 (cond c 11 8)) ≤ 13
+pub other-need-small : (a b c : Bool) → max (cond a 10 8) (cond b 9 (cond c 11 8)) ≤ 13
 other-need-small true true c = lit≤ tt
 other-need-small true false true = lit≤ tt
 other-need-small true false false = lit≤ tt

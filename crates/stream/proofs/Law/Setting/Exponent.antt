@@ -1,8 +1,8 @@
--- The header's number for k is a number of 32 bits, and gives the setting back.
+-- The header's numbers for k and for the mode have 32 bits, and give the setting back.
 use mathlib.Core.Path.{_≡_, refl, sym, ap}
 use mathlib.Core.Logic.{_⊎_, inl, inr}
 use mathlib.Core.Bool.{Bool, true, false, cond}
-use Prim.Native.Nat.{ℕ, suc, _-_, _^_, _≤_, _<_}
+use Prim.Native.Nat.{ℕ, suc, _+_, _-_, _^_, _≤_, _<_}
 use native.Mathlib.Omega.{arith}
 use borrow.Author.Tests.{eq-eqb, ne-eqb, lt-ltb, le-ltb}
 use lib.Dec.{eqb, lit<}
@@ -12,11 +12,12 @@ use Rattle.bins.specs.Tolerance.{kOffset, lastBin, binOf}
 use Rattle.numbers.specs.Bound.{exponentOf}
 use Rattle.numbers.specs.Theorem.{Format}
 use Rattle.numbers.proofs.Theorems.{the-k-of-a-bin-is-allowed, the-bin-of-its-k}
-use Rattle.stream.specs.Setting.{fractionBits, losslessMode, isZero, allowedSetting, binFor, settingOf, kBits}
+use Rattle.stream.specs.Setting.{fractionBits, losslessMode, isZero, allowedMode, allowedSetting, binFor, settingOf, modeNumber, kBits}
+use Rattle.stream.specs.Header.{saidMode, saidSize}
 use Rattle.stream.specs.Relied.{Allowed}
 use Rattle.stream.specs.declared.setting.Setting.{Setting}
 use Rattle.blocks.proofs.Law.Truth.{le-or-lt}
-use Rattle.stream.proofs.Law.Setting.Allowed.{width-cases, width-format, mode-cases}
+use Rattle.stream.proofs.Law.Setting.Allowed.{width-cases, size-cases, width-format, mode-cases}
 
 -- a small number in two's complement, read back
 positive-back : (n : ℕ) → n < 2 ^ 31 → signedView 32 (bitsOf 32 (pos n)) ≡ pos n
@@ -102,13 +103,37 @@ module _ (t : Setting) (allowed : Allowed t) where
       go (inl e) = rw (eq-eqb (t .mode) 1 e) (the-bin-of-its-k W m format (t .bin))
       go (inr e) = rw (ne-eqb (t .mode) 1 (e .0)) (sym (allowed .none (e .0)))
 
-  pub setting-back : settingOf W (t .mode) (signedView 32 (kBits t)) ≡ t
-  setting-back = ap (λ (b : ℕ). record { width = W; mode = t .mode; bin = b }) bin-back
-
-  pub allowed-back : allowedSetting W (t .mode) (signedView 32 (kBits t)) ≡ true
-  unfolding allowedSetting isZero
-  allowed-back = rw k-back (go (mode-cases (t .mode) (allowed .mode)))
+  -- the mode number is small, and says the mode and the size
+  pub number-small : modeNumber t < 2 ^ 32
+  unfolding modeNumber
+  number-small = go (eqb (t .size) 128)
     where
-      go : Cases → allowedSetting W (t .mode) (cond (eqb (t .mode) 1) (exponentOf W m (t .bin)) (pos 0)) ≡ true
+      go : (b : Bool) → cond b (t .mode + 256) (t .mode) < 2 ^ 32
+      go true = omega (arith, allowed .mode)
+      go false = omega (arith, allowed .mode)
+
+  abbrev Said : ℕ → Type 0
+  Said number = (saidMode number ≡ t .mode) × (saidSize number ≡ t .size)
+
+  pub said-back : Said (modeNumber t)
+  unfolding modeNumber saidMode saidSize
+  said-back = go (size-cases (t .size) (allowed .size))
+    where
+      go : (t .size ≡ 32) ⊎ (t .size ≡ 128) → Said (modeNumber t)
+      go (inl e) = rw (e, lt-ltb (t .mode) 256 (omega (arith, allowed .mode))) (refl, refl)
+      go (inr e) = rw (e, le-ltb (t .mode + 256) 256 (omega arith)) (let back : t .mode + 256 - 256 ≡ t .mode = omega arith in back, refl)
+
+  pub setting-back : settingOf W (saidMode (modeNumber t)) (signedView 32 (kBits t)) (saidSize (modeNumber t)) ≡ t
+  setting-back = rw (said-back .0, said-back .1) (ap (λ (b : ℕ). record { width = W; mode = t .mode; bin = b; size = t .size }) bin-back)
+
+  mode-back : allowedMode W (t .mode) (signedView 32 (kBits t)) ≡ true
+  unfolding allowedMode isZero
+  mode-back = rw k-back (go (mode-cases (t .mode) (allowed .mode)))
+    where
+      go : Cases → allowedMode W (t .mode) (cond (eqb (t .mode) 1) (exponentOf W m (t .bin)) (pos 0)) ≡ true
       go (inl e) = rw (e, the-k-of-a-bin-is-allowed W m format (t .bin) (allowed .bin))
       go (inr e) = rw (ne-eqb (t .mode) 1 (e .0), e .1)
+
+  pub allowed-back : allowedSetting W (saidMode (modeNumber t)) (signedView 32 (kBits t)) (saidSize (modeNumber t)) ≡ true
+  unfolding allowedSetting
+  allowed-back = rw (said-back .0, said-back .1, mode-back, allowed .size)

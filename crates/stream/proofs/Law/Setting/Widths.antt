@@ -4,13 +4,14 @@ use mathlib.Core.Logic.{⊎-elim}
 use mathlib.Core.Bool.{Bool, true, false, _&&_, cond}
 use Prim.Native.Nat.{ℕ, _*_, _≤_, max}
 use borrow.Author.Tests.{ltb-true, ltb-false}
+use native.Mathlib.Nat.{max-le}
 use native.Mathlib.Omega.{arith}
 use lib.Dec.{ltb, eqb, lit≤}
 use Rattle.numbers.specs.Theorem.{Format}
 use Rattle.numbers.proofs.Theorems.{format-32, format-64}
-use Rattle.stream.specs.Setting.{knownWidth, fractionBits, widthNeed, modeNeed, need, streamNeed}
+use Rattle.stream.specs.Setting.{knownWidth, fractionBits, widthNeed, modeNeed, sizeNeed, need, streamNeed}
 use Rattle.stream.specs.declared.setting.Setting.{Setting}
-use Rattle.stream.proofs.Law.Setting.Allowed.{width-cases}
+use Rattle.stream.proofs.Law.Setting.Allowed.{width-cases, other-need-small}
 
 pub record WidthBytes (W : ℕ) : Type 0 where
   pub bytes : ℕ
@@ -36,25 +37,22 @@ known-64 = refl
 
 -- no setting needs less than 8
 pub need-least : (t : Setting) → 8 ≤ need t
-unfolding need widthNeed modeNeed
+unfolding need widthNeed
 need-least t = go (eqb (t .width) 64)
   where
-    go : (a : Bool) → 8 ≤ max (cond a 10 8) (modeNeed (t .mode))
+    go : (a : Bool) → 8 ≤ max (max (cond a 10 8) (modeNeed (t .mode))) (sizeNeed (t .size))
     go true = omega arith
     go false = omega arith
 
--- nor more than 11
-pub need-small : (t : Setting) → need t ≤ 11
-unfolding need widthNeed modeNeed
-need-small t = go (eqb (t .width) 64) (eqb (t .mode) 1) (eqb (t .mode) 2)
+-- nor more than 13
+pub need-small : (t : Setting) → need t ≤ 13
+unfolding need widthNeed modeNeed sizeNeed
+need-small t =
+    max-le (other-need-small (eqb (t .width) 64) (eqb (t .mode) 1) (eqb (t .mode) 2)) (go (eqb (t .size) 128))
   where
-    go : (a b c : Bool) → max (cond a 10 8) (cond b 9 (cond c 11 8)) ≤ 11
-    go true true c = lit≤ tt
-    go true false true = lit≤ tt
-    go true false false = lit≤ tt
-    go false true c = lit≤ tt
-    go false false true = lit≤ tt
-    go false false false = lit≤ tt
+    go : (b : Bool) → cond b 13 8 ≤ 13
+    go true = lit≤ tt
+    go false = lit≤ tt
 
 -- a stream needs no less than its setting
 pub need-most : (t : Setting) (high : Bool) → need t ≤ streamNeed t high

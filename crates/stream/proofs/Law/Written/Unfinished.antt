@@ -9,7 +9,7 @@ use lib.ListN.{length, take, drop, replicate, length-append, length-replicate}
 use lib.Seq.{take-at, drop-at, drop-drop, append-snoc}
 use borrow.Rule.Slice.PartMut.{putMid}
 use Rattle.blocks.specs.Bytes.{Below, digits}
-use Rattle.stream.specs.Setting.{knownWidth, need, kBits}
+use Rattle.stream.specs.Setting.{knownWidth, need, kBits, modeNumber}
 use Rattle.stream.specs.Header.{chunksIn}
 use Rattle.stream.specs.Stream.{joined}
 use Rattle.stream.specs.Writing.{spell, pieceBytes, dataOf, startsOf, headerNumbers, endOf, body, stream, unfinished}
@@ -35,14 +35,14 @@ piece-put P Y piece ys at r long room l is =
     ∙ ap (λ (l : List ℕ). P ++ piece ++ l) (sym (drop-drop r at base) ∙ ap (drop r) (drop-at P Y at long))
 
 -- the numbers that the code puts first are the header's
-pub front-spelled : (level : ℕ) (t : Setting) (n chunks needed bits : ℕ) (out : List ℕ) → chunks ≡ chunksIn n → needed ≡ need t → bits ≡ kBits t
-    → spell ((1 ∷ level ∷ needed ∷ t .width ∷ t .mode ∷ bits ∷ n ∷ chunks ∷ 48 ∷ (48 + 4 * chunks) ∷ 0 ∷ 0 ∷ []) ++ replicate (12 + chunks - 12) 0) ++ drop (4 * (12 + chunks)) out
+pub front-spelled : (level : ℕ) (t : Setting) (n chunks needed mode bits : ℕ) (out : List ℕ) → chunks ≡ chunksIn n → needed ≡ need t → mode ≡ modeNumber t → bits ≡ kBits t
+    → spell ((1 ∷ level ∷ needed ∷ t .width ∷ mode ∷ bits ∷ n ∷ chunks ∷ 48 ∷ (48 + 4 * chunks) ∷ 0 ∷ 0 ∷ []) ++ replicate (12 + chunks - 12) 0) ++ drop (4 * (12 + chunks)) out
     ≡ spell (headerNumbers level t n 0 0 ++ replicate (chunksIn n) 0) ++ drop (48 + 4 * chunksIn n) out
 unfolding headerNumbers
-front-spelled level t n chunks needed bits out counts needs are =
+front-spelled level t n chunks needed mode bits out counts needs says are =
     let all : 12 + chunks - 12 ≡ chunks = omega arith in
     let end : 4 * (12 + chunks) ≡ 48 + 4 * chunks = omega arith in
-    rw (all, end, needs, are, counts)
+    rw (all, end, needs, says, are, counts)
 
 -- where chunk j goes, and that there is room for it: `chunks` and `start` are those of the code
 pub record Turn (t : Setting) (vs : List ℕ) (j start chunks room : ℕ) : Type 0 where
@@ -159,7 +159,7 @@ module _ (level : ℕ) (t : Setting) (vs base : List ℕ) where
       let starts = startsOf t vs chunks in
       let zeros : List ℕ = replicate (chunks - chunks) 0 in
       let behind = dataOf t vs chunks ++ drop (endOf t vs chunks) base in
-      let known : List ℕ = 1 ∷ level ∷ need t ∷ t .width ∷ t .mode ∷ kBits t ∷ length vs ∷ chunks ∷ 48 ∷ (48 + 4 * chunks) ∷ 0 ∷ [] in
+      let known : List ℕ = 1 ∷ level ∷ need t ∷ t .width ∷ modeNumber t ∷ kBits t ∷ length vs ∷ chunks ∷ 48 ∷ (48 + 4 * chunks) ∷ 0 ∷ [] in
       ap (λ (l : List ℕ). take 44 l ++ digits 256 4 end ++ drop 48 l)
       (out-is ∙ append-assoc (spell (front chunks ++ zeros)) (dataOf t vs chunks) (drop (endOf t vs chunks) base))
       ∙ spell-put known (starts ++ zeros) behind 44 refl 0 end

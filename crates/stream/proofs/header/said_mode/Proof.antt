@@ -1,15 +1,16 @@
+-- `stream::header::said_mode` meets its contract.
+use borrow.Author.Tests.{lt-ltb, le-ltb}
+use Rattle.stream.specs.Header.{saidMode}
 use Rattle.stream.proofs.header.said_mode.Statement.{statement}
 use Rattle.stream.proofs.header.said_mode.Tie as tie
-use Rattle.stream.proofs.header.said_mode.Reads as reads
-use Rattle.stream.proofs.header.said_mode.Lts as lts
 
--- src/header.rt:83:1
 returns : tie.Need-returns
-returns c = ?
+unfolding saidMode
+returns c = rw (lt-ltb (c .before .args .number) 256 (c .if1 .taken))
 
--- src/header.rt:83:1
 returns-2 : tie.Need-returns-2
-returns-2 c = ?
+unfolding saidMode
+returns-2 c = rw (le-ltb (c .before .args .number) 256 (c .if1 .left))
 
 pub said-mode-spec : {M : Type 1} → statement M
 said-mode-spec = tie.close (tie.spec returns returns-2)

@@ -25,7 +25,7 @@ unfolding chosen
 returns c =
     let s = c .before .before .before .before .before in
     let a = s .args in
-    c .before .measured-or-refused .ensures ∙ ap (λ (z : ℤ). lengthAnswer 64 (a .level) (a .mode) z (a .values .now)) (toZ-ofZ (s .fits .k))
+    c .before .measured-or-refused .ensures ∙ ap (λ (z : ℤ). lengthAnswer 64 (a .level) (a .mode) z (a .size) (a .values .now)) (toZ-ofZ (s .fits .k))
 
 pub length64-spec : {M : Type 1} → statement M
 length64-spec =

@@ -7,6 +7,7 @@ use borrow.Author.Needs.{needs}
 use borrow.Author.Tests.{not-true, not-false, lt-ltb, le-ltb}
 use mathlib.Core.Bool.{true}
 use mathlib.Core.Path.{_≡_, sym, ap, _∙_}
+use lib.IntN.{ℤ}
 use mir.Facts.{toZ-ofZ}
 use Rattle.stream.proofs.pack.length_step.Statement.{statement}
 use Rattle.stream.proofs.pack.length_step.Tie as tie
@@ -14,14 +15,14 @@ use Rattle.stream.proofs.pack.length_step.Tie as tie
 known : (c : tie.Else1) → knownLevel (c .before .before .args .level) ≡ true
 known c = sym (c .before .known-level .ensures) ∙ not-false (c .before .known-level .result) (c .if1 .left)
 
-allowed-is : (c : tie.After-allowed) → let a = c .before .before .before .args in allowedSetting (a .width) (a .mode) (a .k) ≡ c .allowed .result
-allowed-is c = let s = c .before .before .before in let a = s .args in ap (allowedSetting (a .width) (a .mode)) (sym (toZ-ofZ (s .fits .k))) ∙ sym (c .allowed .ensures)
+allowed-is : (c : tie.After-allowed) → let a = c .before .before .before .args in allowedSetting (a .width) (a .mode) (a .k) (a .size) ≡ c .allowed .result
+allowed-is c = let s = c .before .before .before in let a = s .args in ap (λ (z : ℤ). allowedSetting (a .width) (a .mode) z (a .size)) (sym (toZ-ofZ (s .fits .k))) ∙ sym (c .allowed .ensures)
 
-allowed : (c : tie.Else2) → let a = c .before .before .before .before .args in allowedSetting (a .width) (a .mode) (a .k) ≡ true
+allowed : (c : tie.Else2) → let a = c .before .before .before .before .args in allowedSetting (a .width) (a .mode) (a .k) (a .size) ≡ true
 allowed c = allowed-is (c .before) ∙ not-false (c .before .allowed .result) (c .if2 .left)
 
-need-is : (c : tie.After-need-of) → let a = c .before .before .before .before .before .before .args in need (settingOf (a .width) (a .mode) (a .k)) ≡ c .need-of .result
-need-is c = let s = c .before .before .before .before .before .before in let a = s .args in sym (c .need-of .ensures ∙ ap need (c .before .setting-of .ensures .0 ∙ ap (settingOf (a .width) (a .mode)) (toZ-ofZ (s .fits .k))))
+need-is : (c : tie.After-need-of) → let a = c .before .before .before .before .before .before .args in need (settingOf (a .width) (a .mode) (a .k) (a .size)) ≡ c .need-of .result
+need-is c = let s = c .before .before .before .before .before .before in let a = s .args in sym (c .need-of .ensures ∙ ap need (c .before .setting-of .ensures .0 ∙ ap (λ (z : ℤ). settingOf (a .width) (a .mode) z (a .size)) (toZ-ofZ (s .fits .k))))
 
 known-level-requires : tie.Need-known-level-requires
 known-level-requires c κs = search needs
@@ -38,7 +39,7 @@ unfolding first lengthRows
 returns-2 c = rw (known (c .before .before), allowed-is (c .before) ∙ not-true (c .before .allowed .result) (c .if2 .taken))
 
 setting-of-requires : tie.Need-setting-of-requires
-setting-of-requires c κs = let s = c .before .before .before .before in let a = s .args in (s .pre, ap (allowedSetting (a .width) (a .mode)) (toZ-ofZ (s .fits .k)) ∙ allowed c)
+setting-of-requires c κs = let s = c .before .before .before .before in let a = s .args in (s .pre, ap (λ (z : ℤ). allowedSetting (a .width) (a .mode) z (a .size)) (toZ-ofZ (s .fits .k)) ∙ allowed c)
 
 need-of-requires : tie.Need-need-of-requires
 need-of-requires c κs = search needs

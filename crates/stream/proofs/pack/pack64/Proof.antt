@@ -30,8 +30,8 @@ returns c =
     let s = c .before .before .before .before .before .before .before .before .before in
     let a = s .args in
     let r = c .before .before .before .packed-or-refused in (
-      r .ensures .0 ∙ ap (λ (z : ℤ). packAnswer 64 (a .level) (a .mode) z (a .values .now) (length (a .out .now))) (toZ-ofZ (s .fits .k)),
-      r .ensures .1 ∙ ap (λ (z : ℤ). packOut 64 (a .level) (a .mode) z (a .values .now) (a .out .now)) (toZ-ofZ (s .fits .k)),
+      r .ensures .0 ∙ ap (λ (z : ℤ). packAnswer 64 (a .level) (a .mode) z (a .size) (a .values .now) (length (a .out .now))) (toZ-ofZ (s .fits .k)),
+      r .ensures .1 ∙ ap (λ (z : ℤ). packOut 64 (a .level) (a .mode) z (a .size) (a .values .now) (a .out .now)) (toZ-ofZ (s .fits .k)),
     )
 
 pub pack64-spec : {M : Type 1} → statement M

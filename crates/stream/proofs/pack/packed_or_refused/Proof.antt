@@ -24,20 +24,20 @@ values s = chosen (s .args .width) (s .args .v32 .now) (s .args .v64 .now)
 
 -- the setting, as the call's numbers make it
 abbrev made : tie.Start → Setting
-made s = settingOf (s .args .width) (s .args .mode) (s .args .k)
+made s = settingOf (s .args .width) (s .args .mode) (s .args .k) (s .args .size)
 
 rows : (c : tie.After-length-step) → let s = c .before .before .before .before .before in
-    first (lengthRows (s .args .width) (s .args .level) (s .args .mode) (s .args .k) (length (values s))) ≡ c .length-step .result
+    first (lengthRows (s .args .width) (s .args .level) (s .args .mode) (s .args .k) (s .args .size) (length (values s))) ≡ c .length-step .result
 rows c =
     let s = c .before .before .before .before .before in
-    ap₂ (λ (z : ℤ) (n : ℕ). first (lengthRows (s .args .width) (s .args .level) (s .args .mode) z n)) (sym (toZ-ofZ (s .fits .k))) (sym (s .pre .1))
+    ap₂ (λ (z : ℤ) (n : ℕ). first (lengthRows (s .args .width) (s .args .level) (s .args .mode) z (s .args .size) n)) (sym (toZ-ofZ (s .fits .k))) (sym (s .pre .1))
     ∙ sym (c .length-step .ensures)
 
-passed : (c : tie.After-enum-told) → let s = c .before .before .before .before .before .before .before in Passed (s .args .width) (s .args .level) (s .args .mode) (s .args .k) (length (values s))
-passed c = let s = c .before .before .before .before .before .before .before in length-passed (s .args .width) (s .args .level) (s .args .mode) (s .args .k) (length (values s)) (rows (c .before .before) ∙ c .enum-told .given .1)
+passed : (c : tie.After-enum-told) → let s = c .before .before .before .before .before .before .before in Passed (s .args .width) (s .args .level) (s .args .mode) (s .args .k) (s .args .size) (length (values s))
+passed c = let s = c .before .before .before .before .before .before .before in length-passed (s .args .width) (s .args .level) (s .args .mode) (s .args .k) (s .args .size) (length (values s)) (rows (c .before .before) ∙ c .enum-told .given .1)
 
 setting-is : (c : tie.After-setting-of) → c .setting-of .result ≡ made (c .before .before .before .before .before .before .before .before)
-setting-is c = let s = c .before .before .before .before .before .before .before .before in c .setting-of .ensures .0 ∙ ap (settingOf (s .args .width) (s .args .mode)) (toZ-ofZ (s .fits .k))
+setting-is c = let s = c .before .before .before .before .before .before .before .before in c .setting-of .ensures .0 ∙ ap (λ (z : ℤ). settingOf (s .args .width) (s .args .mode) z (s .args .size)) (toZ-ofZ (s .fits .k))
 
 -- the list of the setting's width is the call's
 list-is : (c : tie.After-setting-of) → let s = c .before .before .before .before .before .before .before .before in chosen (c .setting-of .result .width) (s .args .v32 .now) (s .args .v64 .now) ≡ values s
@@ -55,13 +55,13 @@ enum-known-refused : tie.Need-enum-known-refused
 enum-known-refused c = search needs
 
 returns : tie.Need-returns
-returns c = let s = c .before .before .before .before .before .before .before .before in let a = s .args in pack-refused (a .width) (a .level) (a .mode) (a .k) (values s) (a .out .now) _ _ (rows (c .before .before .before) ∙ c .before .refused .given .1)
+returns c = let s = c .before .before .before .before .before .before .before .before in let a = s .args in pack-refused (a .width) (a .level) (a .mode) (a .k) (a .size) (values s) (a .out .now) _ _ (rows (c .before .before .before) ∙ c .before .refused .given .1)
 
 enum-told : tie.Need-enum-told
 enum-told c = search needs
 
 setting-of-requires : tie.Need-setting-of-requires
-setting-of-requires c κs = let s = c .before .before .before .before .before .before .before in (s .pre .0, ap (allowedSetting (s .args .width) (s .args .mode)) (toZ-ofZ (s .fits .k)) ∙ passed c .allowed)
+setting-of-requires c κs = let s = c .before .before .before .before .before .before .before in (s .pre .0, ap (λ (z : ℤ). allowedSetting (s .args .width) (s .args .mode) z (s .args .size)) (toZ-ofZ (s .fits .k)) ∙ passed c .allowed)
 
 room-step-requires : tie.Need-room-step-requires
 room-step-requires c κs =
@@ -79,7 +79,7 @@ returns-2 c =
     let r = c .before .before .before .before .before in
     let s = r .before .before .before .before .before .before .before .before .before .before in
     let a = s .args in
-    pack-short (a .width) (a .level) (a .mode) (a .k) (values s) (a .out .now) (rows (r .before .before .before .before .before) ∙ r .before .before .before .enum-told .given .1) _ _ (short r ∙ c .before .short .given .1)
+    pack-short (a .width) (a .level) (a .mode) (a .k) (a .size) (values s) (a .out .now) (rows (r .before .before .before .before .before) ∙ r .before .before .before .enum-told .given .1) _ _ (short r ∙ c .before .short .given .1)
 
 enum-told-2 : tie.Need-enum-told-2
 enum-told-2 c = search needs
@@ -108,7 +108,7 @@ returns-3 c =
     let s = r .before .before .before .before .before .before .before .before .before .before in
     let a = s .args in
     let k = r .before .before in
-    pack-done (a .width) (a .level) (a .mode) (a .k) (values s) (a .out .now) (rows (r .before .before .before .before .before) ∙ r .before .before .before .enum-told .given .1) (w .result) _
+    pack-done (a .width) (a .level) (a .mode) (a .k) (a .size) (values s) (a .out .now) (rows (r .before .before .before .before .before) ∙ r .before .before .before .enum-told .given .1) (w .result) _
     (short r ∙ c .before .before .before .before .before .before .before .enum-told2 .given .1)
     (w .ensures .0 ∙ ap₂ (λ (t : Setting) (vs : List ℕ). length (stream (a .level) t vs)) (setting-is k) (list-is k))
     (w .ensures .1 ∙ ap₂ (λ (t : Setting) (vs : List ℕ). stream (a .level) t vs ++ drop (w .result) (a .out .now)) (setting-is k) (list-is k))

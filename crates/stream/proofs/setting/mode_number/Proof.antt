@@ -1,20 +1,20 @@
-use borrow.Author.Needs.{needs}
+-- `stream::setting::mode_number` meets its contract.
+use native.Mathlib.Omega.{arith}
+use borrow.Author.Tests.{eq-eqb, ne-eqb}
+use Rattle.stream.specs.Setting.{modeNumber}
 use Rattle.stream.proofs.setting.mode_number.Statement.{statement}
 use Rattle.stream.proofs.setting.mode_number.Tie as tie
-use Rattle.stream.proofs.setting.mode_number.Reads as reads
-use Rattle.stream.proofs.setting.mode_number.Lts as lts
 
--- src/setting.rt:134:16
 add-result : tie.Need-add-result
-add-result c = search needs
+add-result c = omega (arith, c .before .before .before .pre .mode)
 
--- src/setting.rt:134:9
 returns : tie.Need-returns
-returns c = ?
+unfolding modeNumber
+returns c = rw (eq-eqb (c .before .before .before .args .t .size) 128 (c .before .if1 .taken))
 
--- src/setting.rt:129:1
 returns-2 : tie.Need-returns-2
-returns-2 c = ?
+unfolding modeNumber
+returns-2 c = rw (ne-eqb (c .before .before .args .t .size) 128 (c .if1 .left))
 
 pub mode-number-spec : {M : Type 1} → statement M
 mode-number-spec = tie.close (tie.spec add-result returns returns-2)
