@@ -12,7 +12,7 @@ use Rattle.numbers.specs.Answers.{codeAnswer, patternAnswer}
 use Rattle.numbers.specs.Bound.{boundAnswer}
 use Rattle.blocks.specs.Bytes.{Below}
 use Rattle.blocks.proofs.Law.Truth.{le-or-lt}
-use Rattle.stream.specs.Setting.{knownLevel, knownWidth, settingOf, need, streamNeed, groupSize}
+use Rattle.stream.specs.Setting.{knownLevel, knownWidth, settingOf, need, streamNeed}
 use Rattle.stream.specs.Tables.{someHigh, firstHigh}
 use Rattle.stream.specs.Chunk.{groupsIn}
 use Rattle.stream.specs.Stream.{values}
@@ -39,8 +39,8 @@ unfolding probeOut32 probeOut64
 demand-1 =
     record {
       order = record { pack = pack-order; length-of = length-order; check = check-order; unpack = unpack-order; probe = probe-order; add = add-order; test = test-order; list = list-order };
-      pack = λ W level mode k vs out number detail.
-          (refused-pack W level mode k vs (length out) number detail, refused-pack-untouched W level mode k vs out number detail);
+      pack = λ W level mode k group vs out number detail.
+          (refused-pack W level mode k group vs (length out) number detail, refused-pack-untouched W level mode k group vs out number detail);
       length-of = refused-length;
       check = refused-check;
       unpack = λ W L s out number detail. (refused-unpack W L s (length out) number detail, refused-untouched W L s out number detail);
@@ -55,22 +55,22 @@ demand-1 =
     }
 
 -- what is unpacked of a packed stream
-module _ (W level mode : ℕ) (k : ℤ) (vs s : List ℕ) (width : knownWidth W ≡ true) (patterns : Below (2 ^ W) vs) (packed : Packed W level mode k vs s)
+module _ (W level mode : ℕ) (k : ℤ) (group : ℕ) (vs s : List ℕ) (width : knownWidth W ≡ true) (patterns : Below (2 ^ W) vs) (packed : Packed W level mode k group vs s)
     (L n : ℕ) (back : List ℕ) (done : unpackAnswer W L s (length back) ≡ Done n) where
   counted : n ≡ length vs
-  counted = sym (written-values W L s back n done .0) ∙ as-many W level mode k vs s width patterns packed
+  counted = sym (written-values W L s back n done .0) ∙ as-many W level mode k group vs s width patterns packed
 
   unpacked : (i : ℕ) → i < n → ComesBack W mode k (getD vs i 0) (getD (unpackOut W L s back) i 0)
   unpacked i below =
       subst (λ (q : ℕ). ComesBack W mode k (getD vs i 0) q) (sym (written-values W L s back n done .1 i below))
-      (come-back W level mode k vs s width patterns packed i (omega (arith, counted)))
+      (come-back W level mode k group vs s width patterns packed i (omega (arith, counted)))
 
 pub demand-2 : Demand2
 demand-2 =
     record {
       layout = accepted-leaves;
-      values = λ W level mode k vs s width patterns packed L n back done.
-          (counted W level mode k vs s width patterns packed L n back done, unpacked W level mode k vs s width patterns packed L n back done);
+      values = λ W level mode k group vs s width patterns packed L n back done.
+          (counted W level mode k group vs s width patterns packed L n back done, unpacked W level mode k group vs s width patterns packed L n back done);
       probe32 = λ L s back n i old bytes done below.
           (probe-as-unpack32 L s back n i done below, probe32-leaves-what-unpack-leaves L s bytes back n i old done below);
       probe64 = λ L s back n i old bytes done below.
@@ -83,34 +83,34 @@ demand-2 =
     }
 
 -- what a reader makes of it
-module _ (W level mode : ℕ) (k : ℤ) (vs s : List ℕ) (o : Offered W level mode k vs) (packed : Packed W level mode k vs s)
+module _ (W level mode : ℕ) (k : ℤ) (group : ℕ) (vs s : List ℕ) (o : Offered W level mode k group vs) (packed : Packed W level mode k group vs s)
     (L : ℕ) (known : knownLevel L ≡ true) (back : List ℕ) (room : length vs ≤ length back) where
-  read-back : ReadBack W mode k vs s L back
-  read-back = go (le-or-lt (need (settingOf W mode k)) L)
+  read-back : ReadBack W mode k group vs s L back
+  read-back = go (le-or-lt (need (settingOf W mode k group)) L)
     where
-      sent : (parts : List Side) × (someHigh (idsOf parts) ≡ false) × Sent level (settingOf W mode k) vs parts (need (settingOf W mode k)) s
-      sent = is-sent W level mode k vs s (o .width) (o .patterns) packed
+      sent : (parts : List Side) × (someHigh (idsOf parts) ≡ false) × Sent level (settingOf W mode k group) vs parts (need (settingOf W mode k group)) s
+      sent = is-sent W level mode k group vs s (o .width) (o .patterns) packed
 
-      go : (need (settingOf W mode k) ≤ L) ⊎ (L < need (settingOf W mode k)) → ReadBack W mode k vs s L back
+      go : (need (settingOf W mode k group) ≤ L) ⊎ (L < need (settingOf W mode k group)) → ReadBack W mode k group vs s L back
       go (inl reaches) =
-          let read = it-is-read W level mode k vs (offered W level mode k vs o) (sent .0) (need (settingOf W mode k)) s (sent .2) L known (sent .1) refl reaches back room in
+          let read = it-is-read W level mode k group vs (offered W level mode k group vs o) (sent .0) (need (settingOf W mode k group)) s (sent .2) L known (sent .1) refl reaches back room in
           given-back reaches (read .1)
-          (unpacked W level mode k vs s (o .width) (o .patterns) packed L (length vs) back (read .1))
-          (ap (drop (length vs)) (read .2) ∙ drop-at (values s) (drop (length vs) back) (length vs) (as-many W level mode k vs s (o .width) (o .patterns) packed))
+          (unpacked W level mode k group vs s (o .width) (o .patterns) packed L (length vs) back (read .1))
+          (ap (drop (length vs)) (read .2) ∙ drop-at (values s) (drop (length vs) back) (length vs) (as-many W level mode k group vs s (o .width) (o .patterns) packed))
       go (inr exceeds) =
-          let refused = it-is-too-new W level mode k vs (offered W level mode k vs o) (sent .0) (need (settingOf W mode k)) s (sent .2) L known exceeds .unpack W back in
+          let refused = it-is-too-new W level mode k group vs (offered W level mode k group vs o) (sent .0) (need (settingOf W mode k group)) s (sent .2) L known exceeds .unpack W back in
           too-new exceeds (refused .0) (refused .1)
 
 pub demand-3 : Demand3
-unfolding groupsIn groupSize
+unfolding groupsIn
 demand-3 =
     record {
-      packs = λ W level mode k vs o.
-          let p = offered W level mode k vs o in (
-            length (stream level (settingOf W mode k) vs),
-            length-is-answered W level mode k vs p (o .known),
-            packed-length-bound W level mode k vs p,
-            λ out room. the-stream-is-packed W level mode k vs p (o .known) out room .0,
+      packs = λ W level mode k group vs o.
+          let p = offered W level mode k group vs o in (
+            length (stream level (settingOf W mode k group) vs),
+            length-is-answered W level mode k group vs p (o .known),
+            packed-length-bound W level mode k group vs p,
+            λ out room. the-stream-is-packed W level mode k group vs p (o .known) out room .0,
           );
       reads = read-back;
       higher = λ level level′ s low l known. (
@@ -122,35 +122,35 @@ demand-3 =
     }
 
 -- side parts of any ids, and any two minors
-module _ (W level mode : ℕ) (k : ℤ) (vs : List ℕ) (parts : List Side) (written needed : ℕ) (s : List ℕ) (width : knownWidth W ≡ true) (patterns : Below (2 ^ W) vs)
-    (m : WithMinors W level mode k vs parts written needed s) where
-  p : Packable W written mode k vs
-  p = accepted-later W level mode k vs (m .out) (m .size) (m .done) width patterns written (m .later) (m .fit .0)
+module _ (W level mode : ℕ) (k : ℤ) (group : ℕ) (vs : List ℕ) (parts : List Side) (written needed : ℕ) (s : List ℕ) (width : knownWidth W ≡ true) (patterns : Below (2 ^ W) vs)
+    (m : WithMinors W level mode k group vs parts written needed s) where
+  p : Packable W written mode k group vs
+  p = accepted-later W level mode k group vs (m .out) (m .size) (m .done) width patterns written (m .later) (m .fit .0)
 
-  sent : Sent written (settingOf W mode k) vs parts needed s
-  sent = rw (m .bytes) (accepted-is-raised W level mode k vs (m .out) (m .size) (m .done) parts (m .well-formed) written needed (m .fit .1))
+  sent : Sent written (settingOf W mode k group) vs parts needed s
+  sent = rw (m .bytes) (accepted-is-raised W level mode k group vs (m .out) (m .size) (m .done) parts (m .well-formed) written needed (m .fit .1))
 
   module _ (L : ℕ) (known : knownLevel L ≡ true) where
     older : L < needed → TooNew L s needed
-    older = it-is-too-new W written mode k vs p parts needed s sent L known
+    older = it-is-too-new W written mode k group vs p parts needed s sent L known
 
-    wrong : needed ≤ L → (RightNeed W mode k parts written needed → ⊥) → RefusedBy W L s (length vs) 8 0
-    wrong = refused-by-8 W written mode k vs p parts needed s sent L known
+    wrong : needed ≤ L → (RightNeed W mode k group parts written needed → ⊥) → RefusedBy W L s (length vs) 8 0
+    wrong = refused-by-8 W written mode k group vs p parts needed s sent L known
 
-    newer : needed ≤ L → RightNeed W mode k parts written needed → someHigh (idsOf parts) ≡ true → RefusedBy W L s (length vs) 15 (firstHigh (idsOf parts))
+    newer : needed ≤ L → RightNeed W mode k group parts written needed → someHigh (idsOf parts) ≡ true → RefusedBy W L s (length vs) 15 (firstHigh (idsOf parts))
     newer reaches right high =
-        refused-by-15 W written mode k vs p parts needed s sent L known reaches high (right .0 ∙ ap (streamNeed (settingOf W mode k)) high) (right .1)
+        refused-by-15 W written mode k group vs p parts needed s sent L known reaches high (right .0 ∙ ap (streamNeed (settingOf W mode k group)) high) (right .1)
 
-    skipped : needed ≤ L → RightNeed W mode k parts written needed → someHigh (idsOf parts) ≡ false → checkAnswer L s ≡ Done (length vs)
+    skipped : needed ≤ L → RightNeed W mode k group parts written needed → someHigh (idsOf parts) ≡ false → checkAnswer L s ≡ Done (length vs)
     unfolding streamNeed
     skipped reaches right low =
-        it-is-read W written mode k vs p parts needed s sent L known low (right .0 ∙ ap (streamNeed (settingOf W mode k)) low) reaches vs (omega arith) .0
+        it-is-read W written mode k group vs p parts needed s sent L known low (right .0 ∙ ap (streamNeed (settingOf W mode k group)) low) reaches vs (omega arith) .0
 
 -- the minors as pack wrote them
-module _ (W level mode : ℕ) (k : ℤ) (vs out : List ℕ) (size : ℕ) (width : knownWidth W ≡ true) (patterns : Below (2 ^ W) vs) (done : packAnswer W level mode k vs (length out) ≡ Done size)
+module _ (W level mode : ℕ) (k : ℤ) (group : ℕ) (vs out : List ℕ) (size : ℕ) (width : knownWidth W ≡ true) (patterns : Below (2 ^ W) vs) (done : packAnswer W level mode k group vs (length out) ≡ Done size)
     (parts : List Side) (well : WellFormedSides (size + 12 * length parts) parts) (high : someHigh (idsOf parts) ≡ true)
-    (L : ℕ) (known : knownLevel L ≡ true) (reaches : need (settingOf W mode k) ≤ L) (small : need (settingOf W mode k) < 12) where
-  as-written : WithMinors W level mode k vs parts level (need (settingOf W mode k)) (addSides (take size (packOut W level mode k vs out)) parts)
+    (L : ℕ) (known : knownLevel L ≡ true) (reaches : need (settingOf W mode k group) ≤ L) (small : need (settingOf W mode k group) < 12) where
+  as-written : WithMinors W level mode k group vs parts level (need (settingOf W mode k group)) (addSides (take size (packOut W level mode k group vs out)) parts)
   as-written =
       record {
         out = out;
@@ -158,28 +158,28 @@ module _ (W level mode : ℕ) (k : ℤ) (vs out : List ℕ) (size : ℕ) (width 
         done = done;
         well-formed = well;
         later = omega arith;
-        fit = (accepted-list W level mode k vs out size done width patterns .minor, omega (arith, small));
-        bytes = sym (the-minors-as-they-were W level mode k vs out size done parts);
+        fit = (accepted-list W level mode k group vs out size done width patterns .minor, omega (arith, small));
+        bytes = sym (the-minors-as-they-were W level mode k group vs out size done parts);
       }
 
-  too-small : streamNeed (settingOf W mode k) (someHigh (idsOf parts)) ≡ need (settingOf W mode k) → ⊥
+  too-small : streamNeed (settingOf W mode k group) (someHigh (idsOf parts)) ≡ need (settingOf W mode k group) → ⊥
   unfolding streamNeed
-  too-small e = let raised : streamNeed (settingOf W mode k) true ≡ need (settingOf W mode k) = rw high at e in omega (arith, raised, small)
+  too-small e = let raised : streamNeed (settingOf W mode k group) true ≡ need (settingOf W mode k group) = rw high at e in omega (arith, raised, small)
 
-  unraised : RefusedBy W L (addSides (take size (packOut W level mode k vs out)) parts) (length vs) 8 0
+  unraised : RefusedBy W L (addSides (take size (packOut W level mode k group vs out)) parts) (length vs) 8 0
   unraised =
-      wrong W level mode k vs parts level (need (settingOf W mode k)) (addSides (take size (packOut W level mode k vs out)) parts) width patterns as-written L known reaches
+      wrong W level mode k group vs parts level (need (settingOf W mode k group)) (addSides (take size (packOut W level mode k group vs out)) parts) width patterns as-written L known reaches
       (λ right. too-small (sym (right .0)))
 
 pub not-skipped : NotSkipped
 not-skipped =
     record {
       high = the-high-ids;
-      packed = λ W level mode k vs parts written needed s width patterns m L known. (
-        older W level mode k vs parts written needed s width patterns m L known,
-        wrong W level mode k vs parts written needed s width patterns m L known,
-        newer W level mode k vs parts written needed s width patterns m L known,
-        skipped W level mode k vs parts written needed s width patterns m L known,
+      packed = λ W level mode k group vs parts written needed s width patterns m L known. (
+        older W level mode k group vs parts written needed s width patterns m L known,
+        wrong W level mode k group vs parts written needed s width patterns m L known,
+        newer W level mode k group vs parts written needed s width patterns m L known,
+        skipped W level mode k group vs parts written needed s width patterns m L known,
       );
       unraised = unraised;
       never = a-high-id-is-never-skipped;

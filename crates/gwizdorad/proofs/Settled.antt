@@ -17,13 +17,13 @@ use Rattle.gwizdorad.specs.Result.{answerResult, probeResult32, probeOut
 
 -- ---- gwz_pack32, gwz_pack64, gwz_length32, gwz_length64
 
-module _ (W level mode : ℕ) (k : ℤ) (vs : List ℕ) where
-  pub gwz-length-is-settled : (r r′ : ℕ) → r ≡ answerResult (lengthAnswer W level mode k vs) → r′ ≡ answerResult (lengthAnswer W level mode k vs) → r ≡ r′
+module _ (W level mode : ℕ) (k : ℤ) (group : ℕ) (vs : List ℕ) where
+  pub gwz-length-is-settled : (r r′ : ℕ) → r ≡ answerResult (lengthAnswer W level mode k group vs) → r′ ≡ answerResult (lengthAnswer W level mode k group vs) → r ≡ r′
   gwz-length-is-settled r r′ = one
 
   pub gwz-pack-is-settled : (out : List ℕ) (r r′ : ℕ) (now now′ : List ℕ)
-      → Promised (answerResult (packAnswer W level mode k vs (length out))) (packOut W level mode k vs out) r now
-      → Promised (answerResult (packAnswer W level mode k vs (length out))) (packOut W level mode k vs out) r′ now′
+      → Promised (answerResult (packAnswer W level mode k group vs (length out))) (packOut W level mode k group vs out) r now
+      → Promised (answerResult (packAnswer W level mode k group vs (length out))) (packOut W level mode k group vs out) r′ now′
       → (r ≡ r′) × (now ≡ now′)
   gwz-pack-is-settled out r r′ now now′ = both
 

@@ -63,12 +63,12 @@ module _ (level : ℕ) (s : List ℕ) (bytes : Below 256 s) where
   pub list-is-spelled : (W x room : ℕ) → Spelled (listAnswer W level x s room)
   list-is-spelled W x room = answer-spelled (listAnswer W level x s room) (list-fits level s bytes W x room)
 
-module _ (W level mode : ℕ) (k : ℤ) (vs : List ℕ) (known : knownWidth W ≡ true) (patterns : Below (2 ^ W) vs) where
-  pub length-is-spelled : Spelled (lengthAnswer W level mode k vs)
-  length-is-spelled = answer-spelled (lengthAnswer W level mode k vs) (length-fits W level mode k vs known patterns)
+module _ (W level mode : ℕ) (k : ℤ) (group : ℕ) (vs : List ℕ) (known : knownWidth W ≡ true) (patterns : Below (2 ^ W) vs) where
+  pub length-is-spelled : Spelled (lengthAnswer W level mode k group vs)
+  length-is-spelled = answer-spelled (lengthAnswer W level mode k group vs) (length-fits W level mode k group vs known patterns)
 
-  pub pack-is-spelled : (room : ℕ) → Spelled (packAnswer W level mode k vs room)
-  pack-is-spelled room = answer-spelled (packAnswer W level mode k vs room) (pack-fits W level mode k vs known patterns room)
+  pub pack-is-spelled : (room : ℕ) → Spelled (packAnswer W level mode k group vs room)
+  pack-is-spelled room = answer-spelled (packAnswer W level mode k group vs room) (pack-fits W level mode k group vs known patterns room)
 
 -- ---- the same result of an operation but probe is the same answer
 

@@ -3,12 +3,13 @@
 -- They speak of what the operations answer and leave: `packAnswer` and `packOut` of specs/Operations.antt in the crate `stream`, and their
 -- like. The promise of each operation is an equation with these; C gets the answer as one number, of which nothing is cut (`Spelled`, and `Uncut`
 -- for probe and the number rules), and a pattern or a code in what it lent.
--- W is a width, 32 or 64; vs a list of values, patterns of W bits; s any bytes; `level` is the writer's level and L the reader's.
+-- W is a width, 32 or 64; `group` a group size, 32 or 128; vs a list of values, patterns of W bits; s any bytes; `level` is the writer's level and L the
+-- reader's.
 use mathlib.Core.Path.{_≡_}
 use mathlib.Core.Logic.{_↔_}
 use mathlib.Core.Bool.{true, false}
 use mathlib.Core.List.{List, [], _∷_, _++_}
-use Prim.Native.Nat.{ℕ, suc, _+_, _*_, _/_, _^_, _≤_, _<_}
+use Prim.Native.Nat.{ℕ, suc, _+_, _-_, _*_, _/_, _^_, _≤_, _<_}
 use lib.IntN.{ℤ, pos}
 use lib.Ieee.{ofBits, nan}
 use lib.ListN.{length, take, drop, getD, replicate}
@@ -51,8 +52,8 @@ use Rattle.gwizdorad.specs.Result.{probeOut32, probeOut64}
 -- with the rows of document 02, R-4: 15 "after 9 and after that late use of 8, before 10". 15 stands once for each side part, 10 once for each
 -- chunk, in probe for its own. Document 02, R-5: add 1 5 6 7 8 9 8 15 10 16 4, test 1 5 6 7 8 9 8 15 10 17, list 1 2 5 6 7 8 14 9 8 15 10 17 4.
 pub record StatedOrder : Type 0 where
-  pub pack : (W level mode : ℕ) (k : ℤ) (vs : List ℕ) (room : ℕ) → numbersOf (packRows W level mode k vs room) ≡ 1 ∷ 2 ∷ 3 ∷ 4 ∷ []
-  pub length-of : (W level mode : ℕ) (k : ℤ) (n : ℕ) → numbersOf (lengthRows W level mode k n) ≡ 1 ∷ 2 ∷ 3 ∷ []
+  pub pack : (W level mode : ℕ) (k : ℤ) (group : ℕ) (vs : List ℕ) (room : ℕ) → numbersOf (packRows W level mode k group vs room) ≡ 1 ∷ 2 ∷ 3 ∷ 4 ∷ []
+  pub length-of : (W level mode : ℕ) (k : ℤ) (group : ℕ) (n : ℕ) → numbersOf (lengthRows W level mode k group n) ≡ 1 ∷ 2 ∷ 3 ∷ []
   pub check : (L : ℕ) (s : List ℕ)
       → numbersOf (checkRows L s) ≡ 1 ∷ 5 ∷ 6 ∷ 7 ∷ 8 ∷ 9 ∷ 8 ∷ (replicate (headerOf s .sides) 15 ++ replicate (headerOf s .chunks) 10)
   pub unpack : (W L : ℕ) (s : List ℕ) (room : ℕ)
@@ -70,11 +71,11 @@ pub record StatedOrder : Type 0 where
 pub record Demand1 : Type 0 where
   pub order : StatedOrder
   -- the values vs, packed into `out`
-  pub pack : (W level mode : ℕ) (k : ℤ) (vs out : List ℕ) (number detail : ℕ)
-      → (packAnswer W level mode k vs (length out) ≡ Refused number detail ↔ Decides (packRows W level mode k vs (length out)) number detail)
-      × (packAnswer W level mode k vs (length out) ≡ Refused number detail → packOut W level mode k vs out ≡ out)
-  pub length-of : (W level mode : ℕ) (k : ℤ) (vs : List ℕ) (number detail : ℕ)
-      → lengthAnswer W level mode k vs ≡ Refused number detail ↔ Decides (lengthRows W level mode k (length vs)) number detail
+  pub pack : (W level mode : ℕ) (k : ℤ) (group : ℕ) (vs out : List ℕ) (number detail : ℕ)
+      → (packAnswer W level mode k group vs (length out) ≡ Refused number detail ↔ Decides (packRows W level mode k group vs (length out)) number detail)
+      × (packAnswer W level mode k group vs (length out) ≡ Refused number detail → packOut W level mode k group vs out ≡ out)
+  pub length-of : (W level mode : ℕ) (k : ℤ) (group : ℕ) (vs : List ℕ) (number detail : ℕ)
+      → lengthAnswer W level mode k group vs ≡ Refused number detail ↔ Decides (lengthRows W level mode k group (length vs)) number detail
   pub check : (L : ℕ) (s : List ℕ) (number detail : ℕ) → checkAnswer L s ≡ Refused number detail ↔ Decides (checkRows L s) number detail
   pub unpack : (W L : ℕ) (s out : List ℕ) (number detail : ℕ)
       → (unpackAnswer W L s (length out) ≡ Refused number detail ↔ Decides (unpackRows W L s (length out)) number detail)
@@ -122,18 +123,18 @@ pub data Sided (b s : List ℕ) : Type 0 where
   with-parts : (parts : List Side) → WellFormedSides (length b + 12 * length parts) parts → someHigh (idsOf parts) ≡ false → s ≡ addSides b parts → Sided b s
 
 -- s is what pack has left of the values vs, as it is or with side parts added that may be skipped
-pub record Packed (W level mode : ℕ) (k : ℤ) (vs s : List ℕ) : Type 0 where
+pub record Packed (W level mode : ℕ) (k : ℤ) (group : ℕ) (vs s : List ℕ) : Type 0 where
   pub out : List ℕ
   pub size : ℕ
-  pub done : packAnswer W level mode k vs (length out) ≡ Done size
-  pub given : Sided (take size (packOut W level mode k vs out)) s
+  pub done : packAnswer W level mode k group vs (length out) ≡ Done size
+  pub given : Sided (take size (packOut W level mode k group vs out)) s
 
 pub record Demand2 : Type 0 where
   -- pack leaves the stream that document 01 lays out (`stream`, with its codes), and past it nothing is altered
-  pub layout : (W level mode : ℕ) (k : ℤ) (vs out : List ℕ) (size : ℕ) → packAnswer W level mode k vs (length out) ≡ Done size
-      → (size ≡ length (stream level (settingOf W mode k) vs)) × (packOut W level mode k vs out ≡ stream level (settingOf W mode k) vs ++ drop size out)
+  pub layout : (W level mode : ℕ) (k : ℤ) (group : ℕ) (vs out : List ℕ) (size : ℕ) → packAnswer W level mode k group vs (length out) ≡ Done size
+      → (size ≡ length (stream level (settingOf W mode k group) vs)) × (packOut W level mode k group vs out ≡ stream level (settingOf W mode k group) vs ++ drop size out)
   -- what was packed and is unpacked, whatever the levels
-  pub values : (W level mode : ℕ) (k : ℤ) (vs s : List ℕ) → knownWidth W ≡ true → Below (2 ^ W) vs → Packed W level mode k vs s
+  pub values : (W level mode : ℕ) (k : ℤ) (group : ℕ) (vs s : List ℕ) → knownWidth W ≡ true → Below (2 ^ W) vs → Packed W level mode k group vs s
       → (L n : ℕ) (back : List ℕ) → unpackAnswer W L s (length back) ≡ Done n
       → (n ≡ length vs) × ((i : ℕ) → i < n → ComesBack W mode k (getD vs i 0) (getD (unpackOut W L s back) i 0))
   -- of any bytes that unpack accepts, probe shows the value that unpack leaves, and writes its pattern
@@ -154,39 +155,39 @@ pub record Demand2 : Type 0 where
 -- ---- Demand 3: "Pack a list within the limit at level 8, 9 or 10, with a setting that level allows and enough room, and give the stream any
 -- well-formed side parts. The reader for its width, told to act as level 8, 9 or 10 and lent room for the values, gives back what demand 2
 -- says, or refuses as too new and names the needed level: exactly when that, as a number, exceeds its own. And bytes accepted by one level are
--- accepted by each higher one with the same values." Since document 02, R-4, it speaks of the levels 8 to 12 (`knownLevel`), of side parts with ids
--- below 2^31, and of arbitrary bytes "without the high ids". The need is 11 in mode 2, else 10 for width 64, else 9 in mode 1, else 8; too new is
--- refusal 7.
+-- accepted by each higher one with the same values." Since document 02, R-6, it speaks of the levels 8 to 13 (`knownLevel`) and of groups of 32 and of 128;
+-- since R-4 of side parts with ids below 2^31, and of arbitrary bytes "without the high ids". The need is 13 in groups of 128, else 11 in mode 2, else 10 for
+-- width 64, else 9 in mode 1, else 8; too new is refusal 7.
 
 -- a list within the limit, of patterns of a width, and a level that allows the setting
-pub record Offered (W level mode : ℕ) (k : ℤ) (vs : List ℕ) : Type 0 where
+pub record Offered (W level mode : ℕ) (k : ℤ) (group : ℕ) (vs : List ℕ) : Type 0 where
   pub width : knownWidth W ≡ true
   pub patterns : Below (2 ^ W) vs
   pub few : length vs ≤ 1048576
   pub known : knownLevel level ≡ true
-  pub setting : allowedSetting W mode k ≡ true
-  pub allows : need (settingOf W mode k) ≤ level
+  pub setting : allowedSetting W mode k group ≡ true
+  pub allows : need (settingOf W mode k group) ≤ level
 
 -- what the reader at level L, which is lent `back`, makes of the stream s of the values vs
-pub data ReadBack (W mode : ℕ) (k : ℤ) (vs s : List ℕ) (L : ℕ) (back : List ℕ) : Type 0 where
-  given-back : need (settingOf W mode k) ≤ L
+pub data ReadBack (W mode : ℕ) (k : ℤ) (group : ℕ) (vs s : List ℕ) (L : ℕ) (back : List ℕ) : Type 0 where
+  given-back : need (settingOf W mode k group) ≤ L
       → unpackAnswer W L s (length back) ≡ Done (length vs)
       → ((i : ℕ) → i < length vs → ComesBack W mode k (getD vs i 0) (getD (unpackOut W L s back) i 0))
       → drop (length vs) (unpackOut W L s back) ≡ drop (length vs) back
-      → ReadBack W mode k vs s L back
-  too-new : L < need (settingOf W mode k)
-      → unpackAnswer W L s (length back) ≡ Refused 7 (need (settingOf W mode k))
+      → ReadBack W mode k group vs s L back
+  too-new : L < need (settingOf W mode k group)
+      → unpackAnswer W L s (length back) ≡ Refused 7 (need (settingOf W mode k group))
       → unpackOut W L s back ≡ back
-      → ReadBack W mode k vs s L back
+      → ReadBack W mode k group vs s L back
 
 pub record Demand3 : Type 0 where
-  -- enough room is what the length call answers, which is never above the limit that document 01 states
-  pub packs : (W level mode : ℕ) (k : ℤ) (vs : List ℕ) → Offered W level mode k vs
-      → (size : ℕ) × (lengthAnswer W level mode k vs ≡ Done size)
-      × (size ≤ 48 + 4 * chunksIn (length vs) + (length vs + 31) / 32 + length vs * W / 8)
-      × ((out : List ℕ) → size ≤ length out → packAnswer W level mode k vs (length out) ≡ Done size)
-  pub reads : (W level mode : ℕ) (k : ℤ) (vs s : List ℕ) → Offered W level mode k vs → Packed W level mode k vs s
-      → (L : ℕ) → knownLevel L ≡ true → (back : List ℕ) → length vs ≤ length back → ReadBack W mode k vs s L back
+  -- enough room is what the length call answers, which is never above the limit that document 01 states, with the group size "in place of 32"
+  pub packs : (W level mode : ℕ) (k : ℤ) (group : ℕ) (vs : List ℕ) → Offered W level mode k group vs
+      → (size : ℕ) × (lengthAnswer W level mode k group vs ≡ Done size)
+      × (size ≤ 48 + 4 * chunksIn (length vs) + (length vs + (group - 1)) / group + length vs * W / 8)
+      × ((out : List ℕ) → size ≤ length out → packAnswer W level mode k group vs (length out) ≡ Done size)
+  pub reads : (W level mode : ℕ) (k : ℤ) (group : ℕ) (vs s : List ℕ) → Offered W level mode k group vs → Packed W level mode k group vs s
+      → (L : ℕ) → knownLevel L ≡ true → (back : List ℕ) → length vs ≤ length back → ReadBack W mode k group vs s L back
   -- any bytes s without a high id. Today no level accepts bytes with one (`NotSkipped`), so the premise takes no bytes away that any reader accepts. It
   -- is there because a later level may define such an id and accept it, and what the values then are is for that level to say.
   pub higher : (L L′ : ℕ) (s : List ℕ) → someHigh (idsIn (headerOf s) s) ≡ false → L ≤ L′ → knownLevel L′ ≡ true
@@ -201,19 +202,19 @@ pub record Demand3 : Type 0 where
 
 -- s is what pack has left of the values vs, with these side parts added, whatever their ids, and with two minors put in their places: at 4 a written one
 -- that is not below the level of pack, and at 8 any needed one
-pub record WithMinors (W level mode : ℕ) (k : ℤ) (vs : List ℕ) (parts : List Side) (written needed : ℕ) (s : List ℕ) : Type 0 where
+pub record WithMinors (W level mode : ℕ) (k : ℤ) (group : ℕ) (vs : List ℕ) (parts : List Side) (written needed : ℕ) (s : List ℕ) : Type 0 where
   pub out : List ℕ
   pub size : ℕ
-  pub done : packAnswer W level mode k vs (length out) ≡ Done size
+  pub done : packAnswer W level mode k group vs (length out) ≡ Done size
   pub well-formed : WellFormedSides (size + 12 * length parts) parts
   pub later : level ≤ written
   pub fit : (written < 2 ^ 32) × (needed < 2 ^ 32)
-  pub bytes : s ≡ placed 8 needed (placed 4 written (addSides (take size (packOut W level mode k vs out)) parts))
+  pub bytes : s ≡ placed 8 needed (placed 4 written (addSides (take size (packOut W level mode k group vs out)) parts))
 
 -- the needed minor is the right one: what the stream needs, which with a high id is 12, or the setting's need if that is greater (`streamNeed`); and it is not
 -- above the written minor
-abbrev pub RightNeed : ℕ → ℕ → ℤ → List Side → ℕ → ℕ → Type 0
-RightNeed W mode k parts written needed = (needed ≡ streamNeed (settingOf W mode k) (someHigh (idsOf parts))) × (needed ≤ written)
+abbrev pub RightNeed : ℕ → ℕ → ℤ → ℕ → List Side → ℕ → ℕ → Type 0
+RightNeed W mode k group parts written needed = (needed ≡ streamNeed (settingOf W mode k group) (someHigh (idsOf parts))) × (needed ≤ written)
 
 pub record NotSkipped : Type 0 where
   -- "Ids from 2^31 up"
@@ -221,17 +222,17 @@ pub record NotSkipped : Type 0 where
   -- Below the needed minor every reader refuses such a stream by 7, with that minor (`TooNew`). From it on the readers of its width, lent room for the values,
   -- refuse it (`RefusedBy`): by 8 where the needed minor is not the right one, "compared for equality", and by 15 with the first high id where it is and some
   -- id is high. Where it is and none is, check accepts it.
-  pub packed : (W level mode : ℕ) (k : ℤ) (vs : List ℕ) (parts : List Side) (written needed : ℕ) (s : List ℕ) → knownWidth W ≡ true → Below (2 ^ W) vs
-      → WithMinors W level mode k vs parts written needed s → (L : ℕ) → knownLevel L ≡ true
+  pub packed : (W level mode : ℕ) (k : ℤ) (group : ℕ) (vs : List ℕ) (parts : List Side) (written needed : ℕ) (s : List ℕ) → knownWidth W ≡ true → Below (2 ^ W) vs
+      → WithMinors W level mode k group vs parts written needed s → (L : ℕ) → knownLevel L ≡ true
       → (L < needed → TooNew L s needed)
-      × (needed ≤ L → (RightNeed W mode k parts written needed → ⊥) → RefusedBy W L s (length vs) 8 0)
-      × (needed ≤ L → RightNeed W mode k parts written needed → someHigh (idsOf parts) ≡ true → RefusedBy W L s (length vs) 15 (firstHigh (idsOf parts)))
-      × (needed ≤ L → RightNeed W mode k parts written needed → someHigh (idsOf parts) ≡ false → checkAnswer L s ≡ Done (length vs))
+      × (needed ≤ L → (RightNeed W mode k group parts written needed → ⊥) → RefusedBy W L s (length vs) 8 0)
+      × (needed ≤ L → RightNeed W mode k group parts written needed → someHigh (idsOf parts) ≡ true → RefusedBy W L s (length vs) 15 (firstHigh (idsOf parts)))
+      × (needed ≤ L → RightNeed W mode k group parts written needed → someHigh (idsOf parts) ≡ false → checkAnswer L s ≡ Done (length vs))
   -- so who adds a part with a high id and leaves both minors as pack wrote them gets 8 at each level that reaches the needed one: it is the setting's, below 12
-  pub unraised : (W level mode : ℕ) (k : ℤ) (vs out : List ℕ) (size : ℕ) → knownWidth W ≡ true → Below (2 ^ W) vs → packAnswer W level mode k vs (length out) ≡ Done size
+  pub unraised : (W level mode : ℕ) (k : ℤ) (group : ℕ) (vs out : List ℕ) (size : ℕ) → knownWidth W ≡ true → Below (2 ^ W) vs → packAnswer W level mode k group vs (length out) ≡ Done size
       → (parts : List Side) → WellFormedSides (size + 12 * length parts) parts → someHigh (idsOf parts) ≡ true
-      → (L : ℕ) → knownLevel L ≡ true → need (settingOf W mode k) ≤ L → need (settingOf W mode k) < 12
-      → RefusedBy W L (addSides (take size (packOut W level mode k vs out)) parts) (length vs) 8 0
+      → (L : ℕ) → knownLevel L ≡ true → need (settingOf W mode k group) ≤ L → need (settingOf W mode k group) < 12
+      → RefusedBy W L (addSides (take size (packOut W level mode k group vs out)) parts) (length vs) 8 0
   -- of any bytes, whatever else they are, in whose side table an entry i has an id from 2^31 up, every reader at every level refuses to hand out a value
   pub never : (L : ℕ) (s : List ℕ) (i : ℕ) → i < headerOf s .sides → 2 ^ 31 ≤ sideId (headerOf s) s i → RefusedByAll L s
 

@@ -1,4 +1,4 @@
-// The known values of document 01 that concern streams, and some of mode 2 (document 02, R-2), run through the operations; `stdout` beside this folder has what they should be.
+// The known values of document 01 that concern streams, and some of mode 2 and of groups of 128 (document 02, R-2 and R-6), run through the operations; `stdout` beside this folder has what they should be.
 use libc::STDOUT_FILENO;
 use stream::answers::Answer;
 use stream::answers::Probe32;
@@ -197,10 +197,51 @@ fn differences_read(stream: &[u8]) {
     text(b"\n");
 }
 
+// The width byte of the last group, in a stream of 1,024 zeros in groups of 128: 33 is above the width.
+fn spoil(stream: &mut [u8]) {
+    if stream.len() == 60 {
+        stream[59] = 33;
+    }
+}
+
+// Groups of 128: the refusals of a call, and what the levels make of a stream, whole and with its last group spoiled.
+fn groups_of_128() {
+    let zeros: [u32; 1024] = [0; 1024];
+    told(b"groups of 64", pack::length32(13, 0, 0, 64, &zeros));
+    told(
+        b"groups of 128 at level 12",
+        pack::length32(12, 0, 0, 128, &zeros),
+    );
+    let mut out: [u8; 60] = [0; 60];
+    told(
+        b"1024 zeros in groups of 128",
+        pack::pack32(13, 0, 0, 128, &zeros, &mut out),
+    );
+    told(b"the same at level 12", reading::check(12, &out));
+    told(b"the same at level 13", reading::check(13, &out));
+    spoil(&mut out);
+    told(b"its last group spoiled", reading::check(13, &out));
+}
+
+// "Packed length is never above 48 + 4c + (n/32 rounded up) + n·W/8", with the size in place of 32: codes of 32 bits reach it, 48 + 8 + 33 + 4100 and 48 + 8 + 9 + 4100.
+fn longest() {
+    let noisy: [u32; 1025] = [0x0080_0000; 1025];
+    told(
+        b"1025 codes of 32 bits in groups of 32",
+        pack::length32(13, 0, 0, 32, &noisy),
+    );
+    told(
+        b"1025 codes of 32 bits in groups of 128",
+        pack::length32(13, 0, 0, 128, &noisy),
+    );
+}
+
 fn main() {
     example();
     example_too_short();
     lengths();
     largest_u();
     differences();
+    groups_of_128();
+    longest();
 }

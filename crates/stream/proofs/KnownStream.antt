@@ -2,7 +2,7 @@
 -- 1 8 8 32 0 0 3 1 48 52 0 55, the table 0, then bytes 03 10 01." Every level accepts it. Then a stream of mode 2, and what each setting needs.
 use mathlib.Core.Path.{_≡_, refl}
 use mathlib.Core.Bool.{true}
-use Prim.Native.Nat.{ℕ, _+_}
+use Prim.Native.Nat.{ℕ, _+_, _*_}
 use mathlib.Core.List.{List, [], _∷_, _++_, map}
 use lib.IntN.{pos}
 use lib.ListN.{length, replicate}
@@ -197,6 +197,12 @@ pub long-measured : length (stream 13 (settingOf 32 0 (pos 0) 128) (replicate 10
     ≡ (48 + 4 + 8) ∷ (48 + 8 + (65 + 7) + 2) ∷ []
 unfolding stream body spell headerNumbers modeNumber startsOf endOf dataOf joined pieceBytes piece chunksIn need kBits widthNeed modeNeed sizeNeed bitsOf binFor groupSize chunkBytes groupsBytes groupsIn codesAfter codeAt fractionBits losslessCode rotated stepped lowered minus field signedView folded groupBytes widthOf largest packed bytesFor digits number size differenceCode differenceCodes
 long-measured = refl
+
+-- The pattern 00800000 has a code of 32 bits: a list of it is as long as a stream of its length gets, in groups of either size.
+pub noisy-measured : map (λ (size : ℕ). length (stream 13 (settingOf 32 0 (pos 0) size) (replicate 130 0x0080_0000))) (32 ∷ 128 ∷ [])
+    ≡ (48 + 4 + 5 + 130 * 4) ∷ (48 + 4 + 2 + 130 * 4) ∷ []
+unfolding stream body spell headerNumbers modeNumber startsOf endOf dataOf joined pieceBytes piece chunksIn need kBits widthNeed modeNeed sizeNeed bitsOf binFor groupSize chunkBytes groupsBytes groupsIn codesAfter codeAt fractionBits losslessCode rotated stepped lowered minus field signedView folded groupBytes widthOf largest packed bytesFor digits number size differenceCode differenceCodes
+noisy-measured = refl
 
 -- "Lengths at level 8, mode 0: no values, 48 bytes; 1,024 zeros, 84; 1,025 values have two chunks."
 pub lengths : List ℕ

@@ -14,7 +14,7 @@ use lib.Seq.{take-at}
 use Rattle.bins.specs.Tolerance.{binOf, ordinal}
 use Rattle.numbers.specs.Theorem.{Within}
 use Rattle.blocks.specs.Bytes.{Below}
-use Rattle.stream.specs.Setting.{knownLevel, knownWidth, fractionBits, losslessMode, binFor, settingOf, need, streamNeed, groupSize}
+use Rattle.stream.specs.Setting.{knownLevel, knownWidth, fractionBits, losslessMode, binFor, settingOf, need, streamNeed}
 use Rattle.stream.specs.Chunk.{groupsIn}
 use Rattle.stream.specs.Rows.{row, first, Decides, numbersOf, answer, after}
 use Rattle.stream.specs.Header.{word, headerOf, chunksIn, settingRight, layoutRight}
@@ -36,7 +36,7 @@ use Rattle.stream.proofs.Law.Values.ThreeReaders.{done-pass, refused-st
 use Rattle.stream.proofs.Law.Written.Pieces.{end-most}
 use Rattle.stream.proofs.Law.Rows.Packing.{Passed, length-passed, rows-pass, room-enough, length-stream, length-done, pack-done}
 use Rattle.stream.proofs.Law.ReadBack.Readers.{same-need, rewritten, sided-sent, plain-sent, bytes-sent, header-words, header-read, setting-kept, layout-kept, chunk-table-kept, side-table-kept, ids-kept, chunks-kept, values-read, told-low, told-high, told-wrong, check-read, check-stop, unpack-read, unpack-stop, probe-read, probe-stop}
-use Rattle.stream.proofs.Law.Setting.Allowed.{level-small, made-allowed, storable}
+use Rattle.stream.proofs.Law.Setting.Allowed.{level-small, group-size-is, size-known, made-allowed, storable}
 use Rattle.stream.proofs.Law.ReadBack.Values.{lossless-back, length-back, tolerance-back, special-back}
 
 -- Demand 1: a refused pack leaves its output as it was.
@@ -157,9 +157,13 @@ module _ (W level mode : ℕ) (k : ℤ) (size : ℕ) (vs : List ℕ) (p : Packab
 
   -- "Packed length is never above 48 + 4c + (n/32 rounded up) + n·W/8."
   pub packed-length-bound :
-      length (stream level (settingOf W mode k size) vs) ≤ 48 + 4 * chunksIn (length vs) + groupsIn (groupSize (settingOf W mode k size)) (length vs) + length vs * W / 8
+      length (stream level (settingOf W mode k size) vs) ≤ 48 + 4 * chunksIn (length vs) + groupsIn size (length vs) + length vs * W / 8
   unfolding mostBytes
-  packed-length-bound = rw (length-stream level (settingOf W mode k size) vs) (end-most (settingOf W mode k size) vs (p .width) (p .patterns))
+  packed-length-bound =
+      let t = settingOf W mode k size in
+      subst (λ (z : ℕ). length (stream level t vs) ≤ 48 + 4 * chunksIn (length vs) + groupsIn z (length vs) + length vs * W / 8)
+      (group-size-is t (size-known W mode k size (p .allowed)))
+      (rw (length-stream level t vs) (end-most t vs (p .width) (p .patterns)))
 
   -- ---- what a reader meets: the plain stream, or one with side parts behind its data
 

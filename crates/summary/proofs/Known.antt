@@ -11,10 +11,10 @@ use Rattle.numbers.specs.Lossless.{plus, raised, unstepped, unrotated, lossless
 use Rattle.numbers.specs.Signed.{signedView, folded, unfolded, bitsOf}
 use Rattle.stream.specs.Chunk.{groupsIn, firstFault, chunkAnswer, groupsCodes, chunkCodes}
 use Rattle.stream.specs.Group.{bytesFor, widthOf, givenWidth, groupLength, groupNumber, groupCodes, within, goodGroup}
-use Rattle.stream.specs.Header.{word, headerOf, kOf, chunksIn, tooMany, needRight, settingRight, layoutRight}
+use Rattle.stream.specs.Header.{word, headerOf, kOf, chunksIn, tooMany, needRight, settingRight, layoutRight, saidMode, saidSize}
 use Rattle.stream.specs.Operations.{headerRows, openingRows, needRow, sideRows, tableRows, faultDetail, faultRow, chunkRow, chunkRows, contentRows, widthRow, idRow, checkRows, checkAnswer}
 use Rattle.stream.specs.Rows.{first, answer, rowsFrom}
-use Rattle.stream.specs.Setting.{highestLevel, knownLevel, knownWidth, fractionBits, widthNeed, modeNeed, need, streamNeed, losslessMode, isZero, allowedSetting, binFor, groupSize, limitOf, patternAt, patternsAfter}
+use Rattle.stream.specs.Setting.{highestLevel, knownLevel, knownWidth, fractionBits, widthNeed, modeNeed, need, streamNeed, losslessMode, isZero, allowedSetting, binFor, groupSize, limitOf, patternAt, patternsAfter, sizeNeed, allowedMode, knownSize}
 use Rattle.stream.specs.Stream.{joined, countOf, chunkOf, chunkState, chunkValues}
 use Rattle.stream.specs.Tables.{someHigh, every, startAt, startRight, chunkTableRight, partAt, sideTableRight, idsFrom, idsIn, highId, sideId, sidePlace, sideLength, idFloor, entryRight}
 use Rattle.stream.specs.Writing.{spell, entries, parts, placed, addSides}
@@ -92,20 +92,20 @@ theirMore =
     ++ spell (0 ∷ 91 ∷ 1 ∷ 1 ∷ 92 ∷ 12 ∷ 77 ∷ 104 ∷ 2 ∷ []) ++ (9 ∷ []) ++ spell (0 ∷ 0x8000_0000 ∷ 1 ∷ []) ++ (8 ∷ 7 ∷ [])
 
 pub copied-known : withSummary theirStream ≡ theirCopy
-unfolding size signedView folded unfolded bitsOf number digits plus raised unstepped unrotated losslessRestored field bytesFor group.largest widthOf givenWidth groupLength groupNumber groupCodes within goodGroup highestLevel knownLevel knownWidth fractionBits widthNeed modeNeed need someHigh streamNeed losslessMode isZero allowedSetting binFor groupSize limitOf patternAt patternsAfter groupsIn firstFault chunkAnswer groupsCodes chunkCodes first answer word headerOf kOf chunksIn tooMany needRight settingRight layoutRight every startAt startRight chunkTableRight partAt sideTableRight idsFrom idsIn joined countOf chunkOf chunkState chunkValues spell headerRows openingRows needRow sideRows tableRows faultDetail faultRow rowsFrom chunkRow chunkRows contentRows widthRow highId sideId sidePlace sideLength idFloor entryRight idRow checkRows checkAnswer entries parts placed addSides ordinal infinityOrdinal notANumber rank zeroOrMinusZero atLeast nansIn others smallestFrom largestFrom smallestIn largestIn smallest largest entryLength entryBytes summaryId chunkEntry summaryIn summary withSummary same summaryTrue numbersFrom holdsIn chunksFrom theirStream theirCopy
+unfolding size signedView folded unfolded bitsOf number digits plus raised unstepped unrotated losslessRestored field bytesFor group.largest widthOf givenWidth groupLength groupNumber groupCodes within goodGroup highestLevel knownLevel knownWidth fractionBits widthNeed modeNeed sizeNeed need someHigh streamNeed losslessMode isZero allowedSetting allowedMode knownSize binFor groupSize limitOf patternAt patternsAfter groupsIn firstFault chunkAnswer groupsCodes chunkCodes first answer word headerOf kOf chunksIn tooMany needRight settingRight saidMode saidSize layoutRight every startAt startRight chunkTableRight partAt sideTableRight idsFrom idsIn joined countOf chunkOf chunkState chunkValues spell headerRows openingRows needRow sideRows tableRows faultDetail faultRow rowsFrom chunkRow chunkRows contentRows widthRow highId sideId sidePlace sideLength idFloor entryRight idRow checkRows checkAnswer entries parts placed addSides ordinal infinityOrdinal notANumber rank zeroOrMinusZero atLeast nansIn others smallestFrom largestFrom smallestIn largestIn smallest largest entryLength entryBytes summaryId chunkEntry summaryIn summary withSummary same summaryTrue numbersFrom holdsIn chunksFrom theirStream theirCopy
 copied-known = refl
 
 -- add: accepted in room for 79 bytes, 4 in 78, and 16 where the summary is there already
 pub added-known :
     map (λ (room : ℕ). addAnswer 10 theirStream room) (79 ∷ 78 ∷ []) ++ map (λ (room : ℕ). addAnswer 10 theirCopy room) (200 ∷ 0 ∷ []) ≡ Done 79 ∷ Refused 4 79 ∷ Refused 16 0 ∷ Refused 16 0 ∷ []
-unfolding size signedView folded unfolded bitsOf number digits plus raised unstepped unrotated losslessRestored field bytesFor group.largest widthOf givenWidth groupLength groupNumber groupCodes within goodGroup highestLevel knownLevel knownWidth fractionBits widthNeed modeNeed need someHigh streamNeed losslessMode isZero allowedSetting binFor groupSize limitOf patternAt patternsAfter groupsIn firstFault chunkAnswer groupsCodes chunkCodes first answer word headerOf kOf chunksIn tooMany needRight settingRight layoutRight every startAt startRight chunkTableRight partAt sideTableRight idsFrom idsIn joined countOf chunkOf chunkState chunkValues spell headerRows openingRows needRow sideRows tableRows faultDetail faultRow rowsFrom chunkRow chunkRows contentRows widthRow highId sideId sidePlace sideLength idFloor entryRight idRow checkRows checkAnswer entries parts placed addSides ordinal infinityOrdinal notANumber rank zeroOrMinusZero atLeast nansIn others smallestFrom largestFrom smallestIn largestIn smallest largest entryLength entryBytes summaryId chunkEntry summaryIn summary withSummary same summaryTrue numbersFrom holdsIn chunksFrom sidesRow summaryRow roomFor addRows addAnswer testRows testAnswer xRow listRows listAnswer listOut hasId entryOf placeOf lengthOf sideBytes theirStream theirCopy
+unfolding size signedView folded unfolded bitsOf number digits plus raised unstepped unrotated losslessRestored field bytesFor group.largest widthOf givenWidth groupLength groupNumber groupCodes within goodGroup highestLevel knownLevel knownWidth fractionBits widthNeed modeNeed sizeNeed need someHigh streamNeed losslessMode isZero allowedSetting allowedMode knownSize binFor groupSize limitOf patternAt patternsAfter groupsIn firstFault chunkAnswer groupsCodes chunkCodes first answer word headerOf kOf chunksIn tooMany needRight settingRight saidMode saidSize layoutRight every startAt startRight chunkTableRight partAt sideTableRight idsFrom idsIn joined countOf chunkOf chunkState chunkValues spell headerRows openingRows needRow sideRows tableRows faultDetail faultRow rowsFrom chunkRow chunkRows contentRows widthRow highId sideId sidePlace sideLength idFloor entryRight idRow checkRows checkAnswer entries parts placed addSides ordinal infinityOrdinal notANumber rank zeroOrMinusZero atLeast nansIn others smallestFrom largestFrom smallestIn largestIn smallest largest entryLength entryBytes summaryId chunkEntry summaryIn summary withSummary same summaryTrue numbersFrom holdsIn chunksFrom sidesRow summaryRow roomFor addRows addAnswer testRows testAnswer xRow listRows listAnswer listOut hasId entryOf placeOf lengthOf sideBytes theirStream theirCopy
 added-known = refl
 
 -- test at levels 7 to 13; of a stream without a summary, of one that lies, and of one with further side parts
 pub tested-known :
     map (λ (level : ℕ). testAnswer level theirCopy) (7 ∷ 8 ∷ 9 ∷ 10 ∷ 11 ∷ 12 ∷ 13 ∷ []) ++ map (testAnswer 10) (theirStream ∷ theirLie ∷ theirMore ∷ [])
     ≡ Refused 1 0 ∷ Done 3 ∷ Done 3 ∷ Done 3 ∷ Done 3 ∷ Done 3 ∷ Refused 1 0 ∷ Refused 17 0 ∷ Refused 17 0 ∷ Done 3 ∷ []
-unfolding size signedView folded unfolded bitsOf number digits plus raised unstepped unrotated losslessRestored field bytesFor group.largest widthOf givenWidth groupLength groupNumber groupCodes within goodGroup highestLevel knownLevel knownWidth fractionBits widthNeed modeNeed need someHigh streamNeed losslessMode isZero allowedSetting binFor groupSize limitOf patternAt patternsAfter groupsIn firstFault chunkAnswer groupsCodes chunkCodes first answer word headerOf kOf chunksIn tooMany needRight settingRight layoutRight every startAt startRight chunkTableRight partAt sideTableRight idsFrom idsIn joined countOf chunkOf chunkState chunkValues spell headerRows openingRows needRow sideRows tableRows faultDetail faultRow rowsFrom chunkRow chunkRows contentRows widthRow highId sideId sidePlace sideLength idFloor entryRight idRow checkRows checkAnswer entries parts placed addSides ordinal infinityOrdinal notANumber rank zeroOrMinusZero atLeast nansIn others smallestFrom largestFrom smallestIn largestIn smallest largest entryLength entryBytes summaryId chunkEntry summaryIn summary withSummary same summaryTrue numbersFrom holdsIn chunksFrom sidesRow summaryRow roomFor addRows addAnswer testRows testAnswer xRow listRows listAnswer listOut hasId entryOf placeOf lengthOf sideBytes theirStream theirCopy theirLie theirMore
+unfolding size signedView folded unfolded bitsOf number digits plus raised unstepped unrotated losslessRestored field bytesFor group.largest widthOf givenWidth groupLength groupNumber groupCodes within goodGroup highestLevel knownLevel knownWidth fractionBits widthNeed modeNeed sizeNeed need someHigh streamNeed losslessMode isZero allowedSetting allowedMode knownSize binFor groupSize limitOf patternAt patternsAfter groupsIn firstFault chunkAnswer groupsCodes chunkCodes first answer word headerOf kOf chunksIn tooMany needRight settingRight saidMode saidSize layoutRight every startAt startRight chunkTableRight partAt sideTableRight idsFrom idsIn joined countOf chunkOf chunkState chunkValues spell headerRows openingRows needRow sideRows tableRows faultDetail faultRow rowsFrom chunkRow chunkRows contentRows widthRow highId sideId sidePlace sideLength idFloor entryRight idRow checkRows checkAnswer entries parts placed addSides ordinal infinityOrdinal notANumber rank zeroOrMinusZero atLeast nansIn others smallestFrom largestFrom smallestIn largestIn smallest largest entryLength entryBytes summaryId chunkEntry summaryIn summary withSummary same summaryTrue numbersFrom holdsIn chunksFrom sidesRow summaryRow roomFor addRows addAnswer testRows testAnswer xRow listRows listAnswer listOut hasId entryOf placeOf lengthOf sideBytes theirStream theirCopy theirLie theirMore
 tested-known = refl
 
 -- list from 2^-149, from twice that, from 0, -0 and -infinity, and of a not-a-number; without room; by the other width; and of the one that lies, without room
@@ -113,5 +113,5 @@ pub listed-known :
     map (λ (x : ℕ). listAnswer 32 8 x theirCopy 1) (1 ∷ 2 ∷ 0 ∷ 0x8000_0000 ∷ 0xFF80_0000 ∷ 0x7FC0_0000 ∷ [])
     ++ (listAnswer 32 8 1 theirCopy 0 ∷ listAnswer 64 8 1 theirCopy 1 ∷ listAnswer 32 8 1 theirLie 0 ∷ listAnswer 32 7 0x7FC0_0000 theirCopy 1 ∷ [])
     ≡ Done 1 ∷ Done 0 ∷ Done 1 ∷ Done 1 ∷ Done 1 ∷ Refused 2 0 ∷ Refused 4 1 ∷ Refused 14 0 ∷ Refused 17 0 ∷ Refused 1 0 ∷ []
-unfolding size signedView folded unfolded bitsOf number digits plus raised unstepped unrotated losslessRestored field bytesFor group.largest widthOf givenWidth groupLength groupNumber groupCodes within goodGroup highestLevel knownLevel knownWidth fractionBits widthNeed modeNeed need someHigh streamNeed losslessMode isZero allowedSetting binFor groupSize limitOf patternAt patternsAfter groupsIn firstFault chunkAnswer groupsCodes chunkCodes first answer word headerOf kOf chunksIn tooMany needRight settingRight layoutRight every startAt startRight chunkTableRight partAt sideTableRight idsFrom idsIn joined countOf chunkOf chunkState chunkValues spell headerRows openingRows needRow sideRows tableRows faultDetail faultRow rowsFrom chunkRow chunkRows contentRows widthRow highId sideId sidePlace sideLength idFloor entryRight idRow checkRows checkAnswer entries parts placed addSides ordinal infinityOrdinal notANumber rank zeroOrMinusZero atLeast nansIn others smallestFrom largestFrom smallestIn largestIn smallest largest entryLength entryBytes holds summaryId chunkEntry summaryIn summary withSummary same summaryTrue numbersFrom holdsIn chunksFrom sidesRow summaryRow roomFor addRows addAnswer testRows testAnswer xRow listRows listAnswer listOut hasId entryOf placeOf lengthOf sideBytes theirStream theirCopy theirLie
+unfolding size signedView folded unfolded bitsOf number digits plus raised unstepped unrotated losslessRestored field bytesFor group.largest widthOf givenWidth groupLength groupNumber groupCodes within goodGroup highestLevel knownLevel knownWidth fractionBits widthNeed modeNeed sizeNeed need someHigh streamNeed losslessMode isZero allowedSetting allowedMode knownSize binFor groupSize limitOf patternAt patternsAfter groupsIn firstFault chunkAnswer groupsCodes chunkCodes first answer word headerOf kOf chunksIn tooMany needRight settingRight saidMode saidSize layoutRight every startAt startRight chunkTableRight partAt sideTableRight idsFrom idsIn joined countOf chunkOf chunkState chunkValues spell headerRows openingRows needRow sideRows tableRows faultDetail faultRow rowsFrom chunkRow chunkRows contentRows widthRow highId sideId sidePlace sideLength idFloor entryRight idRow checkRows checkAnswer entries parts placed addSides ordinal infinityOrdinal notANumber rank zeroOrMinusZero atLeast nansIn others smallestFrom largestFrom smallestIn largestIn smallest largest entryLength entryBytes holds summaryId chunkEntry summaryIn summary withSummary same summaryTrue numbersFrom holdsIn chunksFrom sidesRow summaryRow roomFor addRows addAnswer testRows testAnswer xRow listRows listAnswer listOut hasId entryOf placeOf lengthOf sideBytes theirStream theirCopy theirLie
 listed-known = refl

@@ -21,7 +21,7 @@ use Rattle.numbers.specs.declared.tolerance.CodeAnswer.the-variants as code
 use Rattle.numbers.specs.declared.tolerance.PatternAnswer.the-variants as pattern
 use Rattle.numbers.proofs.Theorems.{format-32, format-64, every-pattern-is-restored, every-list-is-restored, a-coded-k-is-allowed, an-allowed-k-has-a-bin, a-code-is-restored, binary32-returned, binary64-returned, bound-for-binary32, bound-for-binary64}
 use Rattle.blocks.specs.Bytes.{Below}
-use Rattle.stream.specs.Setting.{knownWidth, fractionBits, allowedSetting, settingOf, need}
+use Rattle.stream.specs.Setting.{knownWidth, fractionBits, allowedMode, allowedSetting, settingOf, need}
 use Rattle.stream.specs.Tables.{someHigh}
 use Rattle.stream.specs.Stream.{values}
 use Rattle.stream.specs.Writing.{Side, idsOf, WellFormedSides}
@@ -29,7 +29,7 @@ use Rattle.stream.specs.Packing.{Packable, Sent}
 use Rattle.stream.specs.Operations.{packAnswer, packOut}
 use Rattle.stream.specs.declared.answers.Answer.the-variants.{Done}
 use Rattle.stream.proofs.Law.Plain.Truth.{either, or-false}
-use Rattle.stream.proofs.Law.Setting.Allowed.{level-small, width-some}
+use Rattle.stream.proofs.Law.Setting.Allowed.{level-small, width-some, mode-allowed}
 use Rattle.stream.proofs.Written.{accepted-list, accepted-bytes, accepted-leaves, accepted-is-sent, the-plain-stream, as-many-values, lossless-values, tolerance-values}
 use Rattle.summary.specs.Theorem.{formatOf}
 use Rattle.gwizdorad.specs.Demands.{ComesBack, Sided, plain, with-parts, Packed, Offered}
@@ -130,14 +130,14 @@ pub unknown-width : (W t : ℕ) → knownWidth W ≡ false → boundAnswer W t �
 unfolding knownWidth boundAnswer
 unknown-width W t e = let neither = or-false (eqb W 32) (eqb W 64) e in rw (neither .0, neither .1)
 
-allowed-in-mode-1 : (W mode : ℕ) (k : ℤ) → mode ≡ 1 → allowedSetting W mode k ≡ true → allowedK W (fractionBits W) k ≡ true
-unfolding allowedSetting
-allowed-in-mode-1 W mode k is e = rw is at e
+allowed-in-mode-1 : (W mode : ℕ) (k : ℤ) (group : ℕ) → mode ≡ 1 → allowedSetting W mode k group ≡ true → allowedK W (fractionBits W) k ≡ true
+unfolding allowedMode
+allowed-in-mode-1 W mode k group is e = rw is at (mode-allowed W mode k group e)
 
 -- ---- demand 3
 
-pub offered : (W level mode : ℕ) (k : ℤ) (vs : List ℕ) → Offered W level mode k vs → Packable W level mode k vs
-offered W level mode k vs o =
+pub offered : (W level mode : ℕ) (k : ℤ) (group : ℕ) (vs : List ℕ) → Offered W level mode k group vs → Packable W level mode k group vs
+offered W level mode k group vs o =
     record {
       width = o .width;
       minor = level-small level (o .known);
@@ -149,39 +149,39 @@ offered W level mode k vs o =
 
 -- ---- the values of a packed stream
 
-module _ (W level mode : ℕ) (k : ℤ) (vs out : List ℕ) (size : ℕ) (done : packAnswer W level mode k vs (length out) ≡ Done size)
-    (packable : Packable W level mode k vs) where
-  whole : length (take size (packOut W level mode k vs out)) ≡ size
-  whole = ap length (accepted-bytes W level mode k vs out size done) ∙ sym (accepted-leaves W level mode k vs out size done .0)
+module _ (W level mode : ℕ) (k : ℤ) (group : ℕ) (vs out : List ℕ) (size : ℕ) (done : packAnswer W level mode k group vs (length out) ≡ Done size)
+    (packable : Packable W level mode k group vs) where
+  whole : length (take size (packOut W level mode k group vs out)) ≡ size
+  whole = ap length (accepted-bytes W level mode k group vs out size done) ∙ sym (accepted-leaves W level mode k group vs out size done .0)
 
-  sided-is-sent : (s : List ℕ) → Sided (take size (packOut W level mode k vs out)) s
-      → (parts : List Side) × (someHigh (idsOf parts) ≡ false) × Sent level (settingOf W mode k) vs parts (need (settingOf W mode k)) s
+  sided-is-sent : (s : List ℕ) → Sided (take size (packOut W level mode k group vs out)) s
+      → (parts : List Side) × (someHigh (idsOf parts) ≡ false) × Sent level (settingOf W mode k group) vs parts (need (settingOf W mode k group)) s
   unfolding idsOf someHigh
   sided-is-sent s (plain is) = (
     [],
     refl,
-    subst (Sent level (settingOf W mode k) vs [] (need (settingOf W mode k))) (sym (is ∙ accepted-bytes W level mode k vs out size done)) (the-plain-stream W level mode k vs packable),
+    subst (Sent level (settingOf W mode k group) vs [] (need (settingOf W mode k group))) (sym (is ∙ accepted-bytes W level mode k group vs out size done)) (the-plain-stream W level mode k group vs packable),
   )
   sided-is-sent s (with-parts parts well low is) = (
     parts,
     low,
-    subst (Sent level (settingOf W mode k) vs parts (need (settingOf W mode k))) (sym is)
-        (accepted-is-sent W level mode k vs out size done parts (subst (λ (n : ℕ). WellFormedSides (n + 12 * length parts) parts) whole well)),
+    subst (Sent level (settingOf W mode k group) vs parts (need (settingOf W mode k group))) (sym is)
+        (accepted-is-sent W level mode k group vs out size done parts (subst (λ (n : ℕ). WellFormedSides (n + 12 * length parts) parts) whole well)),
   )
 
-module _ (W level mode : ℕ) (k : ℤ) (vs s : List ℕ) (width : knownWidth W ≡ true) (patterns : Below (2 ^ W) vs) (packed : Packed W level mode k vs s) where
-  packable : Packable W level mode k vs
-  packable = accepted-list W level mode k vs (packed .out) (packed .size) (packed .done) width patterns
+module _ (W level mode : ℕ) (k : ℤ) (group : ℕ) (vs s : List ℕ) (width : knownWidth W ≡ true) (patterns : Below (2 ^ W) vs) (packed : Packed W level mode k group vs s) where
+  packable : Packable W level mode k group vs
+  packable = accepted-list W level mode k group vs (packed .out) (packed .size) (packed .done) width patterns
 
-  pub is-sent : (parts : List Side) × (someHigh (idsOf parts) ≡ false) × Sent level (settingOf W mode k) vs parts (need (settingOf W mode k)) s
-  is-sent = sided-is-sent W level mode k vs (packed .out) (packed .size) (packed .done) packable s (packed .given)
+  pub is-sent : (parts : List Side) × (someHigh (idsOf parts) ≡ false) × Sent level (settingOf W mode k group) vs parts (need (settingOf W mode k group)) s
+  is-sent = sided-is-sent W level mode k group vs (packed .out) (packed .size) (packed .done) packable s (packed .given)
 
   pub as-many : length (values s) ≡ length vs
-  as-many = as-many-values W level mode k vs packable (is-sent .0) (need (settingOf W mode k)) s (is-sent .2)
+  as-many = as-many-values W level mode k group vs packable (is-sent .0) (need (settingOf W mode k group)) s (is-sent .2)
 
   pub come-back : (i : ℕ) → i < length vs → ComesBack W mode k (getD vs i 0) (getD (values s) i 0)
   come-back i below =
       record {
-        lossless = λ e. ap (λ (l : List ℕ). getD l i 0) (lossless-values W level mode k vs packable (is-sent .0) (need (settingOf W mode k)) s (is-sent .2) e);
-        within = λ e. returned k (getD vs i 0) (getD (values s) i 0) W width (allowed-in-mode-1 W mode k e (packable .allowed)) (tolerance-values W level mode k vs packable (is-sent .0) (need (settingOf W mode k)) s (is-sent .2) e i below);
+        lossless = λ e. ap (λ (l : List ℕ). getD l i 0) (lossless-values W level mode k group vs packable (is-sent .0) (need (settingOf W mode k group)) s (is-sent .2) e);
+        within = λ e. returned k (getD vs i 0) (getD (values s) i 0) W width (allowed-in-mode-1 W mode k group e (packable .allowed)) (tolerance-values W level mode k group vs packable (is-sent .0) (need (settingOf W mode k group)) s (is-sent .2) e i below);
       }

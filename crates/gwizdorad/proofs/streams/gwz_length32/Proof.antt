@@ -16,7 +16,7 @@ result-of-answer-requires : tie.Need-result-of-answer-requires
 result-of-answer-requires c κs = search needs
 
 returns : tie.Need-returns
-returns c = c .result-of-answer .ensures ∙ ap answerResult (c .before .length32 .ensures ∙ ap (λ (k : ℤ). lengthAnswer 32 (c .before .before .before .args .level) (c .before .before .before .args .mode) k (now (c .before .before .before .args .values))) (toZ-ofZ (c .before .before .before .fits .k)))
+returns c = c .result-of-answer .ensures ∙ ap answerResult (c .before .length32 .ensures ∙ ap (λ (k : ℤ). lengthAnswer 32 (c .before .before .before .args .level) (c .before .before .before .args .mode) k (c .before .before .before .args .group) (now (c .before .before .before .args .values))) (toZ-ofZ (c .before .before .before .fits .k)))
 
 pub gwz-length32-spec : {M : Type 1} → statement M
 gwz-length32-spec = tie.close (tie.spec length32-requires result-of-answer-requires returns)

@@ -25,9 +25,9 @@ returns c =
       c .result-of-answer .ensures
           ∙ ap answerResult
           (c .before .before .before .pack64 .ensures .0
-          ∙ ap (λ (k : ℤ). packAnswer 64 (c .before .before .before .before .before .before .before .args .level) (c .before .before .before .before .before .before .before .args .mode) k (now (c .before .before .before .before .before .before .before .args .values)) (length (now (c .before .before .before .before .before .before .before .args .out)))) same),
+          ∙ ap (λ (k : ℤ). packAnswer 64 (c .before .before .before .before .before .before .before .args .level) (c .before .before .before .before .before .before .before .args .mode) k (c .before .before .before .before .before .before .before .args .group) (now (c .before .before .before .before .before .before .before .args .values)) (length (now (c .before .before .before .before .before .before .before .args .out)))) same),
       c .before .before .before .pack64 .ensures .1
-          ∙ ap (λ (k : ℤ). packOut 64 (c .before .before .before .before .before .before .before .args .level) (c .before .before .before .before .before .before .before .args .mode) k (now (c .before .before .before .before .before .before .before .args .values)) (now (c .before .before .before .before .before .before .before .args .out))) same,
+          ∙ ap (λ (k : ℤ). packOut 64 (c .before .before .before .before .before .before .before .args .level) (c .before .before .before .before .before .before .before .args .mode) k (c .before .before .before .before .before .before .before .args .group) (now (c .before .before .before .before .before .before .before .args .values)) (now (c .before .before .before .before .before .before .before .args .out))) same,
     )
 
 pub gwz-pack64-spec : {M : Type 1} → statement M

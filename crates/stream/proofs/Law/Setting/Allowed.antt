@@ -135,6 +135,14 @@ pub one-block : (t : Setting) → (t .size ≡ 128 → ⊥) → groupSize t ≡ 
 unfolding groupSize
 one-block t n = rw (ne-eqb (t .size) 128 n)
 
+pub group-size-is : (t : Setting) → knownSize (t .size) ≡ true → groupSize t ≡ t .size
+unfolding groupSize
+group-size-is t e = go (size-cases (t .size) e)
+  where
+    go : (t .size ≡ 32) ⊎ (t .size ≡ 128) → cond (eqb (t .size) 128) 128 32 ≡ t .size
+    go (inl a) = rw a
+    go (inr a) = rw a
+
 pub size-most : (t : Setting) → groupSize t ≤ 128
 unfolding groupSize
 size-most t = go (eqb (t .size) 128)
