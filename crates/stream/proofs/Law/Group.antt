@@ -5,6 +5,7 @@
 --   Whole: groups of whole bytes
 --   Width: the bit length of the largest code
 --   Reading: where the codes stand in the bytes
+--   Blocks: a group's codes block by block
 --   Checking: the rules of refusal 10
 pub mod RoundTrip
 pub mod Exact
@@ -13,4 +14,5 @@ pub mod Whole
 pub mod Width
 pub mod Writing
 pub mod Reading
+pub mod Blocks
 pub mod Checking

@@ -13,16 +13,16 @@ use lib.Ieee.{size}
 use lib.Ieee.Digits.{size-lt}
 use lib.ListN.{length, take, drop, getD}
 use lib.Pow.{pow-pos, pow-mono, shr-shr, shl-exact, field}
-use Rattle.blocks.specs.Bytes.{Below, number, digits}
+use Rattle.blocks.specs.Bytes.{Below, number}
 use Rattle.stream.specs.Group.{groupAnswer}
 use Rattle.stream.specs.declared.group.GroupAnswer.the-variants as answers
 use Rattle.stream.specs.Group.{bytesFor, widthOf, givenWidth, groupLength, groupNumber, groupCodes, goodGroup}
+use Rattle.stream.specs.Block.{blockCodes}
 use Rattle.stream.specs.Theorem.{Limited}
 use Rattle.blocks.proofs.Law.Digits.{byte, everywhere, number-at, number-part, digit-at}
 use Rattle.blocks.proofs.Law.Truth.{le-or-lt}
 use Rattle.stream.proofs.Law.Group.RoundTrip.{bytes-none, bytes-tight, width-least, codes-below}
 use Rattle.stream.proofs.Law.Group.Exact.{Good, good-true, true-good}
-use Rattle.stream.proofs.Law.Group.Reading.{codes-from}
 use Rattle.blocks.proofs.Law.Reading.{in-word}
 use Rattle.blocks.proofs.Law.Words.{pow-pow, masked}
 
@@ -40,18 +40,18 @@ flat w cs pos short e =
 or-field : (a b p w : ℕ) → bitOr a b / 2 ^ p % 2 ^ w ≡ bitOr (a / 2 ^ p % 2 ^ w) (b / 2 ^ p % 2 ^ w)
 or-field a b p w = ap (λ (x : ℕ). x % 2 ^ w) (or-shr a b p) ∙ or-mod (a / 2 ^ p) (b / 2 ^ p) w
 
-module _ (s : List ℕ) (n w : ℕ) (bytes : Below 256 s) (is : w ≡ givenWidth s) where
-  -- code j, by the bit that it starts at
-  code-is : (j bit : ℕ) → j < n → bit ≡ 8 + w * j → number 256 s / 2 ^ bit % 2 ^ w ≡ getD (groupCodes n s) j 0
+module _ (s : List ℕ) (n w : ℕ) (bytes : Below 256 s) where
+  -- code j of a block, by the bit that it starts at
+  code-is : (j bit : ℕ) → j < n → bit ≡ 8 + w * j → number 256 s / 2 ^ bit % 2 ^ w ≡ getD (blockCodes w n s) j 0
+  unfolding blockCodes
   code-is j bit there at =
-      sym (ap (λ (cs : List ℕ). getD cs j 0) (codes-from n s bytes ∙ ap (λ (k : ℕ). digits (2 ^ k) n (number 256 s / 256)) (sym is))
-      ∙ digit-at (2 ^ w) (pow-pos w) n (number 256 s / 256) j there
+      sym (digit-at (2 ^ w) (pow-pos w) n (number 256 s / 256) j there
       ∙ ap (λ (m : ℕ). m % 2 ^ w)
       (ap (λ (p : ℕ). number 256 s / 256 / p) (pow-pow 2 w j) ∙ shr-shr (number 256 s) 8 (w * j) ∙ ap (λ (k : ℕ). number 256 s / 2 ^ k) (sym at)))
 
   -- and in the word that starts at its byte
   code-loaded : (j byte skip x : ℕ) → j < n → w ≤ 64 → skip < 8 → skip + w ≤ 64 → 8 * byte + skip ≡ 8 + w * j → x ≡ number 256 (take 8 (drop byte s))
-      → x / 2 ^ skip % 2 ^ w ≡ getD (groupCodes n s) j 0
+      → x / 2 ^ skip % 2 ^ w ≡ getD (blockCodes w n s) j 0
   code-loaded j byte skip x there most near fits at e =
       let bit : ℕ = 8 * byte + skip in
       let same : skip ≡ bit % 8 = omega arith in
@@ -61,13 +61,13 @@ module _ (s : List ℕ) (n w : ℕ) (bytes : Below 256 s) (is : w ≡ givenWidth
       ∙ in-word s bytes bit w most (omega arith)
       ∙ code-is j bit there at
 
--- Four codes of a full group that are eight apart: eight codes are w whole bytes, so these start at the same bit of bytes that are w apart.
-module _ (s : List ℕ) (i w x₀ x₁ x₂ x₃ : ℕ) (bytes : Below 256 s) (is : w ≡ givenWidth s) (most : w ≤ 64) (there : i < 8) where
+-- Four codes of a full block that are eight apart: eight codes are w whole bytes, so these start at the same bit of bytes that are w apart.
+module _ (s : List ℕ) (i w x₀ x₁ x₂ x₃ : ℕ) (bytes : Below 256 s) (most : w ≤ 64) (there : i < 8) where
   abbrev bit : ℕ
   bit = 8 + i * w
 
   abbrev code : ℕ → ℕ
-  code j = getD (groupCodes 32 s) j 0
+  code j = getD (blockCodes w 32 s) j 0
 
   abbrev Joined : ℕ → Type 0
   Joined x = x ≡ bitOr (bitOr (code i) (code (i + 8))) (bitOr (code (i + 16)) (code (i + 24)))
@@ -80,10 +80,10 @@ module _ (s : List ℕ) (i w x₀ x₁ x₂ x₃ : ℕ) (bytes : Below 256 s) (i
       → x₂ ≡ number 256 s / 2 ^ (bit + 16 * w) % 2 ^ w → x₃ ≡ number 256 s / 2 ^ (bit + 24 * w) % 2 ^ w → Joined (bitOr (bitOr x₀ x₁) (bitOr x₂ x₃))
   four-read e₀ e₁ e₂ e₃ =
       ap₂ bitOr
-      (ap₂ bitOr (e₀ ∙ code-is s 32 w bytes is i bit (omega arith) (omega (arith, mul-comm w i)))
-      (e₁ ∙ code-is s 32 w bytes is (i + 8) (bit + 8 * w) (omega arith) (omega (arith, place 8))))
-      (ap₂ bitOr (e₂ ∙ code-is s 32 w bytes is (i + 16) (bit + 16 * w) (omega arith) (omega (arith, place 16)))
-      (e₃ ∙ code-is s 32 w bytes is (i + 24) (bit + 24 * w) (omega arith) (omega (arith, place 24))))
+      (ap₂ bitOr (e₀ ∙ code-is s 32 w bytes i bit (omega arith) (omega (arith, mul-comm w i)))
+      (e₁ ∙ code-is s 32 w bytes (i + 8) (bit + 8 * w) (omega arith) (omega (arith, place 8))))
+      (ap₂ bitOr (e₂ ∙ code-is s 32 w bytes (i + 16) (bit + 16 * w) (omega arith) (omega (arith, place 16)))
+      (e₃ ∙ code-is s 32 w bytes (i + 24) (bit + 24 * w) (omega arith) (omega (arith, place 24))))
 
   -- where eight bytes hold a code: the OR of the words, shifted and masked once
   pub four-loaded : bit % 8 + w ≤ 64 → x₀ ≡ number 256 (take 8 (drop (bit / 8) s)) → x₁ ≡ number 256 (take 8 (drop (bit / 8 + w) s))
@@ -96,11 +96,11 @@ module _ (s : List ℕ) (i w x₀ x₁ x₂ x₃ : ℕ) (bytes : Below 256 s) (i
       ∙ or-field (bitOr x₀ x₁) (bitOr x₂ x₃) skip w
       ∙ ap₂ bitOr
       (or-field x₀ x₁ skip w
-      ∙ ap₂ bitOr (code-loaded s 32 w bytes is i (bit / 8) skip x₀ (omega arith) most near fits (omega (arith, mul-comm w i)) e₀)
-      (code-loaded s 32 w bytes is (i + 8) (bit / 8 + w) skip x₁ (omega arith) most near fits (omega (arith, place 8)) e₁))
+      ∙ ap₂ bitOr (code-loaded s 32 w bytes i (bit / 8) skip x₀ (omega arith) most near fits (omega (arith, mul-comm w i)) e₀)
+      (code-loaded s 32 w bytes (i + 8) (bit / 8 + w) skip x₁ (omega arith) most near fits (omega (arith, place 8)) e₁))
       (or-field x₂ x₃ skip w
-      ∙ ap₂ bitOr (code-loaded s 32 w bytes is (i + 16) (bit / 8 + 2 * w) skip x₂ (omega arith) most near fits (omega (arith, place 16)) e₂)
-      (code-loaded s 32 w bytes is (i + 24) (bit / 8 + 3 * w) skip x₃ (omega arith) most near fits (omega (arith, place 24)) e₃))
+      ∙ ap₂ bitOr (code-loaded s 32 w bytes (i + 16) (bit / 8 + 2 * w) skip x₂ (omega arith) most near fits (omega (arith, place 16)) e₂)
+      (code-loaded s 32 w bytes (i + 24) (bit / 8 + 3 * w) skip x₃ (omega arith) most near fits (omega (arith, place 24)) e₃))
 
 -- what holds of four indices that are eight apart, from each of the first eight on, holds of the first 32
 abbrev pub Four : (ℕ → Type 0) → ℕ → Type 0

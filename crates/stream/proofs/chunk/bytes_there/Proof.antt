@@ -32,7 +32,7 @@ shared-slice-read-w c = search needs
 cast-w : tie.Need-cast-w
 cast-w c = omega (arith, c .shared-slice-known .given 0)
 
-small : (c : tie.Else2) → getD (c .before .before .before .args .s .now) 0 0 * c .before .before .before .args .n ≤ 256 * 32
+small : (c : tie.Else2) → getD (c .before .before .before .args .s .now) 0 0 * c .before .before .before .args .n ≤ 256 * 128
 small c = mul-le-mul (le-of-lt (c .before .shared-slice-known .given 0 .fits)) (c .before .before .before .pre)
 
 returns-2 : tie.Need-returns-2

@@ -15,7 +15,7 @@ shared-slice-read-w c = omega (arith, c .before .pre .1)
 cast-w : tie.Need-cast-w
 cast-w c = omega (arith, c .shared-slice-known .given 0)
 
-small : (c : tie.After-shared-slice-known) → getD (c .before .args .s .now) 0 0 * c .before .args .n ≤ 256 * 32
+small : (c : tie.After-shared-slice-known) → getD (c .before .args .s .now) 0 0 * c .before .args .n ≤ 256 * 128
 small c = mul-le-mul (le-of-lt (c .shared-slice-known .given 0 .fits)) (c .before .pre .0)
 
 mul-result : tie.Need-mul-result

@@ -28,7 +28,7 @@ width-is : (c : tie.After-wide) → c .wide .result ≡ givenWidth (entry c .arg
 unfolding givenWidth
 width-is c = c .wide .ensures .0
 
-small : (c : tie.Else2) → (c .before .wide .result ≤ 64) × (c .before .wide .result * entry (c .before) .args .n ≤ 64 * 32)
+small : (c : tie.Else2) → (c .before .wide .result ≤ 64) × (c .before .wide .result * entry (c .before) .args .n ≤ 64 * 128)
 small c =
     let narrow : c .before .wide .result ≤ 64 = omega (arith, entry (c .before) .pre .1, c .if2 .left) in
     (narrow, mul-le-mul narrow (entry (c .before) .pre .0))

@@ -52,7 +52,7 @@ returns : tie.Need-returns
 returns c =
     let k = c .before .before .before .before .before in
     let f = k .before in
-    four-read (f .args .s .now) (f .args .i) (f .args .w) _ _ _ _ (λ i. k .shared-slice-known .given i .fits) (f .pre .3) (f .pre .2) (f .pre .0)
+    four-read (f .args .s .now) (f .args .i) (f .args .w) _ _ _ _ (λ i. k .shared-slice-known .given i .fits) (f .pre .2) (f .pre .0)
     (c .before .before .before .code-at .ensures) (c .before .before .code-at2 .ensures) (c .before .code-at3 .ensures) (c .code-at4 .ensures)
 
 load-requires : tie.Need-load-requires
@@ -95,7 +95,7 @@ returns-2 : tie.Need-returns-2
 returns-2 c =
     let k = c .before .before .before .before .before in
     let f = k .before in
-    four-loaded (f .args .s .now) (f .args .i) (f .args .w) _ _ _ _ (λ i. k .shared-slice-known .given i .fits) (f .pre .3) (f .pre .2) (f .pre .0)
+    four-loaded (f .args .s .now) (f .args .i) (f .args .w) _ _ _ _ (λ i. k .shared-slice-known .given i .fits) (f .pre .2) (f .pre .0)
     (omega (arith, c .before .before .before .before .if1 .left))
     (c .before .before .before .load .ensures) (c .before .before .load2 .ensures) (c .before .load3 .ensures) (c .load4 .ensures)
 

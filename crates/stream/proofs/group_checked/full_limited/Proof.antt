@@ -1,19 +1,19 @@
--- `stream::group_checked::full_limited` meets its contract: the block opened is the group's codes.
+-- `stream::group_checked::full_limited` meets its contract: what is opened is the block's codes.
 -- Assumes nothing.
-use mathlib.Core.Path.{_≡_, sym, ap, _∙_}
+use mathlib.Core.Path.{_≡_, ap, _∙_}
 use mathlib.Core.List.{List, [], _++_, append-nil}
 use Prim.Native.Nat.{ℕ, _/_, _^_}
-use Rattle.blocks.specs.Bytes.{Below, number, digits}
-use Rattle.stream.specs.Group.{givenWidth, within, groupCodes}
-use Rattle.stream.proofs.Law.Group.Reading.{codes-from}
+use Rattle.blocks.specs.Bytes.{number, digits}
+use Rattle.stream.specs.Group.{within}
+use Rattle.stream.specs.Block.{blockCodes}
 use borrow.Author.Needs.{needs}
 use Rattle.stream.proofs.group_checked.full_limited.Statement.{statement}
 use Rattle.stream.proofs.group_checked.full_limited.Tie as tie
 
 -- a block's codes, with nothing behind them
-codes : (s : List ℕ) (w : ℕ) → Below 256 s → w ≡ givenWidth s → digits (2 ^ w) 32 (number 256 s / 2 ^ 8) ++ [] ≡ groupCodes 32 s
-codes s w bytes is =
-    append-nil (digits (2 ^ w) 32 (number 256 s / 256)) ∙ ap (λ (k : ℕ). digits (2 ^ k) 32 (number 256 s / 256)) is ∙ sym (codes-from 32 s bytes)
+codes : (s : List ℕ) (w : ℕ) → digits (2 ^ w) 32 (number 256 s / 2 ^ 8) ++ [] ≡ blockCodes w 32 s
+unfolding blockCodes
+codes s w = append-nil (digits (2 ^ w) 32 (number 256 s / 256))
 
 slice-aggregate-opened32 : tie.Need-slice-aggregate-opened32
 slice-aggregate-opened32 c = search needs
@@ -29,10 +29,9 @@ limited32-requires c κs = search needs
 
 returns : tie.Need-returns
 returns c =
-    let k = c .before .before .before .before .before .before in
-    let f = k .before in
+    let f = c .before .before .before .before .before .before .before in
     c .limited32 .ensures
-    ∙ ap (within (f .args .limit)) (c .before .before .before .opened32 .ensures ∙ codes (f .args .s .now) (f .args .w) (λ i. k .shared-slice-known .given i .fits) (f .pre .2))
+    ∙ ap (within (f .args .limit)) (c .before .before .before .opened32 .ensures ∙ codes (f .args .s .now) (f .args .w))
 
 slice-aggregate-opened64 : tie.Need-slice-aggregate-opened64
 slice-aggregate-opened64 c = search needs
@@ -48,10 +47,9 @@ limited-requires c κs = search needs
 
 returns-2 : tie.Need-returns-2
 returns-2 c =
-    let k = c .before .before .before .before .before .before in
-    let f = k .before in
+    let f = c .before .before .before .before .before .before .before in
     c .limited .ensures
-    ∙ ap (within (f .args .limit)) (c .before .before .before .opened64 .ensures ∙ codes (f .args .s .now) (f .args .w) (λ i. k .shared-slice-known .given i .fits) (f .pre .2))
+    ∙ ap (within (f .args .limit)) (c .before .before .before .opened64 .ensures ∙ codes (f .args .s .now) (f .args .w))
 
 pub full-limited-spec : {M : Type 1} → statement M
 full-limited-spec =

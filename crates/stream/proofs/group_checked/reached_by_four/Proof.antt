@@ -1,18 +1,19 @@
 -- `stream::group_checked::reached_by_four` meets its contract. The invariant: no code passed, nor the three that are 8, 16 and 24 further on,
 -- is as wide as w.
 -- Assumes nothing.
-use mathlib.Core.Path.{_≡_, sym, ap, _∙_, subst⁻¹}
+use mathlib.Core.Path.{_≡_, sym, ap, _∙_}
 use mathlib.Core.List.{List}
-use Prim.Native.Nat.{ℕ, _+_, _-_, _^_, _≤_, _<_, max}
+use Prim.Native.Nat.{ℕ, _+_, _-_, _≤_, _<_, max}
 use native.Mathlib.Omega.{arith}
 use borrow.Author.Count.{below-none, below-more}
 use borrow.Author.Tests.{eq-eqb, ne-eqb, eqb-true, eqb-false}
 use borrow.Author.Needs.{needs}
 use lib.Ieee.{size}
 use lib.ListN.{getD}
-use Rattle.blocks.specs.Bytes.{Below}
-use Rattle.stream.specs.Group.{widthOf, groupCodes}
-use Rattle.stream.proofs.Law.Group.RoundTrip.{width-least, length-codes, codes-below}
+use Rattle.stream.specs.Group.{widthOf}
+use Rattle.stream.specs.Block.{blockCodes}
+use Rattle.stream.proofs.Law.Group.RoundTrip.{width-least}
+use Rattle.stream.proofs.Law.Group.Blocks.{length-block, block-below}
 use Rattle.stream.proofs.Law.Group.Width.{size-at, size-four}
 use Rattle.stream.proofs.Law.Group.Checking.{flat, Four, four-all}
 use Rattle.stream.proofs.group_checked.reached_by_four.Statement.{statement}
@@ -20,7 +21,7 @@ use Rattle.stream.proofs.group_checked.reached_by_four.Tie as tie
 
 -- code j is not as wide as w
 abbrev Short : List ℕ → ℕ → ℕ → Type 0
-Short s w j = size (getD (groupCodes 32 s) j 0) < w
+Short s w j = size (getD (blockCodes w 32 s) j 0) < w
 
 abbrev Inv-loop : tie.InvT-loop
 Inv-loop s w i₀ i = (i ≤ 8) × ((k : ℕ) → k < i → Four (Short s w) k)
@@ -39,7 +40,7 @@ abbrev entry : tie.After-four-codes Inv-loop μ-loop → tie.Start Inv-loop μ-l
 entry c = turn c .before .before
 
 abbrev codes : tie.After-four-codes Inv-loop μ-loop → List ℕ
-codes c = groupCodes 32 (entry c .args .s .now)
+codes c = blockCodes (entry c .args .w) 32 (entry c .args .s .now)
 
 -- the OR is as wide as the widest of the four
 widest : (c : tie.After-four-codes Inv-loop μ-loop)
@@ -55,7 +56,7 @@ no-wider c =
     let i : ℕ = turn c .loop .i in
     let cs : List ℕ = codes c in (
       omega (arith, widest c, size-at cs i, size-at cs (i + 8), size-at cs (i + 16), size-at cs (i + 24)),
-      width-least (f .args .w) cs (subst⁻¹ (λ (w : ℕ). Below (2 ^ w) cs) (f .pre .2) (codes-below 32 (f .args .s .now))),
+      width-least (f .args .w) cs (block-below (f .args .w) 32 (f .args .s .now)),
     )
 
 four-codes-requires : tie.Need-four-codes-requires Inv-loop μ-loop
@@ -93,9 +94,9 @@ returns-2 c =
     let f = c .before .before .before in
     let s = f .args .s .now in
     let w : ℕ = f .args .w in
-    sym (ne-eqb w (widthOf (groupCodes 32 s))
-    (flat w (groupCodes 32 s) (f .pre .0)
-    (λ k h. four-all (Short s w) (λ j g. c .before .loop .inv .1 j (omega arith)) k (omega (arith, length-codes 32 s)))))
+    sym (ne-eqb w (widthOf (blockCodes w 32 s))
+    (flat w (blockCodes w 32 s) (f .pre .0)
+    (λ k h. four-all (Short s w) (λ j g. c .before .loop .inv .1 j (omega arith)) k (omega (arith, length-block w 32 s)))))
 
 pub reached-by-four-spec : {M : Type 1} → statement M
 reached-by-four-spec =

@@ -1,67 +1,141 @@
+-- `stream::group_checked::smallest` meets its contract. The invariant: whether w is the width of the group is whether it is that of the blocks left.
+-- Assumes nothing.
+use mathlib.Core.Path.{_≡_, sym, ap, _∙_}
+use mathlib.Core.List.{List, _++_}
+use Prim.Native.Nat.{ℕ, _+_, _*_, _-_, _≤_}
+use native.Mathlib.Omega.{arith}
+use lib.Dec.{eqb}
+use lib.ListN.{length, drop}
+use Rattle.blocks.specs.Bytes.{Below}
+use Rattle.stream.specs.Group.{widthOf, groupCodes}
+use Rattle.stream.specs.Block.{blockCodes}
+use Rattle.stream.proofs.Law.Chunk.Checking.{part-is}
+use Rattle.stream.proofs.Law.Group.Blocks.{codes-are, block-below, no-block, next-block, Along, group-along, here, block-there, next-small, goes-along, reached-here, reached-later, none-reached}
+use borrow.Author.Needs.{needs}
 use Rattle.stream.proofs.group_checked.smallest.Statement.{statement}
 use Rattle.stream.proofs.group_checked.smallest.Tie as tie
-use Rattle.stream.proofs.group_checked.smallest.Reads as reads
-use Rattle.stream.proofs.group_checked.smallest.Lts as lts
-use Rattle.stream.proofs.group_checked.block_reached.Reads as block-reached-reads
-use Rattle.stream.proofs.group_read.block_count.Reads as block-count-reads
 
 abbrev Inv-loop : tie.InvT-loop
-Inv-loop s n w from₀ left₀ from left = ?
+Inv-loop s n w from₀ left₀ from left = Along w s left from × (eqb w (widthOf (groupCodes n s)) ≡ eqb w (widthOf (blockCodes w left (drop from s))))
 
 abbrev μ-loop : tie.MeasureT-loop
-μ-loop s n w from₀ left₀ from left = ?
+μ-loop s n w from₀ left₀ from left = left
 
--- src/group_checked.rt:97:5
+-- the loop's place
+module _ (l : tie.At-loop Inv-loop μ-loop) where
+  abbrev start : tie.Start Inv-loop μ-loop
+  start = l .before .before
+
+  abbrev s : List ℕ
+  s = start .args .s .now
+
+  abbrev w : ℕ
+  w = start .args .w
+
+  bytes : Below 256 s
+  bytes i = l .before .shared-slice-known .given i .fits
+
+-- the block that comes next
+module _ (c : tie.After-block-count Inv-loop μ-loop) where
+  abbrev turn : tie.At-loop Inv-loop μ-loop
+  turn = c .before .before
+
+  abbrev left : ℕ
+  left = turn .loop .left
+
+  abbrev from : ℕ
+  from = turn .loop .from
+
+  abbrev count : ℕ
+  count = c .block-count .result
+
+  inside : from ≤ length (s turn)
+  inside = here (w turn) left count from (s turn) (turn .loop .inv .0) (c .before .loop-test .taken) (c .block-count .ensures)
+
+  abbrev codes : List ℕ
+  codes = blockCodes (w turn) count (drop from (s turn))
+
+  abbrev rest : List ℕ
+  rest = blockCodes (w turn) (left - count) (drop (from + 4 * w turn) (s turn))
+
+  -- what is asked of the block and of the rest
+  asked : eqb (w turn) (widthOf (groupCodes (start turn .args .n) (s turn))) ≡ eqb (w turn) (widthOf (codes ++ rest))
+  asked = turn .loop .inv .1 ∙ ap (λ (cs : List ℕ). eqb (w turn) (widthOf cs)) (next-block (w turn) left count from (s turn) (bytes turn) (c .block-count .ensures))
+
+-- what was found of it
+found : (c : tie.After-block-reached Inv-loop μ-loop) → let b = c .before .before in c .block-reached .result ≡ eqb (w (turn b)) (widthOf (codes b))
+found c =
+    let b = c .before .before in
+    c .block-reached .ensures ∙ ap (λ (r : List ℕ). eqb (w (turn b)) (widthOf (blockCodes (w (turn b)) (count b) r))) (part-is (s (turn b)) (from b))
+
 loop-holds : tie.Need-loop-holds Inv-loop μ-loop
-loop-holds c = ?
+loop-holds c =
+    let f = c .before in
+    let a = f .args in (
+      group-along (a .w) (a .n) (a .s .now) (f .pre .0) (f .pre .3) (f .pre .4),
+      ap (λ (cs : List ℕ). eqb (a .w) (widthOf cs)) (codes-are (a .n) (a .w) (a .s .now) (λ i. c .shared-slice-known .given i .fits) (f .pre .3)),
+    )
 
--- src/group_checked.rt:98:13
 block-count-requires : tie.Need-block-count-requires Inv-loop μ-loop
-block-count-requires c κs = ?
+block-count-requires c κs = search needs
 
--- src/group_checked.rt:99:26
 sub-block-reached : tie.Need-sub-block-reached Inv-loop μ-loop
-sub-block-reached c = ?
+sub-block-reached c = inside c
 
--- src/group_checked.rt:99:26
 part-block-reached-start : tie.Need-part-block-reached-start Inv-loop μ-loop
-part-block-reached-start c = ?
+part-block-reached-start c = inside c
 
--- src/group_checked.rt:99:26
 part-block-reached-end : tie.Need-part-block-reached-end Inv-loop μ-loop
-part-block-reached-end c = ?
+part-block-reached-end c = search needs
 
--- src/group_checked.rt:99:12
 block-reached-requires : tie.Need-block-reached-requires Inv-loop μ-loop
-block-reached-requires c κs = ?
+block-reached-requires c κs =
+    let b = c .before in
+    let l = turn b in (
+      omega (arith, b .block-count .ensures),
+      start l .pre .1,
+      start l .pre .2,
+      rw (part-is (s l) (from b)) (block-there (w l) (left b) (count b) (from b) (s l) (l .loop .inv .0) (b .before .loop-test .taken) (b .block-count .ensures)),
+    )
 
--- src/group_checked.rt:100:13
 returns : tie.Need-returns Inv-loop μ-loop
-returns c = ?
+returns c =
+    let b = c .before .before .before in
+    let l = turn b in
+    sym (asked b
+    ∙ reached-here (w l) (codes b) (rest b) (block-below (w l) (count b) (drop (from b) (s l))) (block-below (w l) (left b - count b) (drop (from b + 4 * w l) (s l)))
+    (sym (found (c .before)) ∙ c .if1 .taken))
 
--- src/group_checked.rt:102:17
 mul-from : tie.Need-mul-from Inv-loop μ-loop
-mul-from c = ?
+mul-from c = omega (arith, start (turn (c .before .before .before)) .pre .2)
 
--- src/group_checked.rt:102:9
 add-from : tie.Need-add-from Inv-loop μ-loop
-add-from c = ?
+add-from c =
+    let b = c .before .before .before in
+    let l = turn b in
+    omega (arith, next-small (w l) (left b) (count b) (from b) (s l) (l .loop .inv .0) (b .before .loop-test .taken) (b .block-count .ensures) (start l .pre .2))
 
--- src/group_checked.rt:103:9
 sub-left : tie.Need-sub-left Inv-loop μ-loop
-sub-left c = ?
+sub-left c = let b = c .before .before .before in omega (arith, b .block-count .ensures)
 
--- src/group_checked.rt:97:5
 loop-less : tie.Need-loop-less Inv-loop μ-loop
-loop-less c = ?
+loop-less c = let b = c .before .before .before in omega (arith, b .block-count .ensures, b .before .loop-test .taken)
 
--- src/group_checked.rt:97:5
 loop-again : tie.Need-loop-again Inv-loop μ-loop
-loop-again c = ?
+loop-again c =
+    let b = c .before .before .before in
+    let l = turn b in (
+      goes-along (w l) (left b) (count b) (from b) (s l) (l .loop .inv .0) (b .before .loop-test .taken) (b .block-count .ensures) (start l .pre .2),
+      asked b ∙ reached-later (w l) (codes b) (rest b) (block-below (w l) (count b) (drop (from b) (s l))) (sym (found (c .before)) ∙ c .if1 .left),
+    )
 
--- src/group_checked.rt:91:1
 returns-2 : tie.Need-returns-2 Inv-loop μ-loop
-returns-2 c = ?
+returns-2 c =
+    let l = c .before in
+    let none : l .loop .left ≡ 0 = omega (arith, c .loop-test .left) in
+    sym (l .loop .inv .1
+    ∙ ap (λ (cs : List ℕ). eqb (w l) (widthOf cs)) (ap (λ (k : ℕ). blockCodes (w l) k (drop (l .loop .from) (s l))) none ∙ no-block (w l) (drop (l .loop .from) (s l)))
+    ∙ none-reached (w l) (start l .pre .1))
 
 pub smallest-spec : {M : Type 1} → statement M
 smallest-spec =

@@ -8,6 +8,7 @@ use native.Mathlib.Numerals.{add-one}
 use native.Mathlib.Omega.{arith}
 use lib.ListN.{length, take, set, length-set}
 use Rattle.blocks.specs.Bytes.{number, digits}
+use Rattle.stream.specs.Block.{blockCodes}
 use Rattle.stream.proofs.Law.Group.Reading.{one-code}
 use Rattle.stream.proofs.group_read.opened.Statement.{statement}
 use Rattle.stream.proofs.group_read.opened.Tie as tie
@@ -62,6 +63,7 @@ loop-again c =
     )
 
 returns : tie.Need-returns Inv-loop μ-loop
+unfolding blockCodes
 returns c =
     let f = c .before .before .before in
     let l = c .before .loop in

@@ -1,0 +1,170 @@
+-- A group's codes block by block: 32 codes of w bits are 4w whole bytes, so what follows them is read from there on as if it were the start. Over the width,
+-- the counts and the place.
+-- Assumes nothing.
+use mathlib.Core.Path.{_≡_, refl, sym, ap, ap₂, _∙_, subst}
+use mathlib.Core.Bool.{Bool, true, false, _&&_}
+use mathlib.Core.Logic.{_⊎_, inl, inr}
+use mathlib.Core.List.{List, [], _∷_, _++_, append-nil}
+use Prim.Native.Nat.{ℕ, zero, suc, _+_, _-_, _*_, _/_, _^_, _≤_, _<_, min, max}
+use native.Mathlib.Nat.{le-antisymm, le-max-left, le-max-right, max-le, lt-of-lt-of-le, mul-add, mul-comm, mul-le-mul-left}
+use native.Mathlib.Omega.{arith}
+use borrow.Author.Tests.{eq-eqb, ne-eqb, eqb-true, eqb-false}
+use lib.Dec.{leb, eqb}
+use lib.ListN.{length, drop, getD, replicate, length-drop, List·getD-append}
+use lib.Pow.{pow-pos, pow-mono, shr-shr}
+use lib.Seq.{drop-drop, getD-append-add}
+use Rattle.blocks.specs.Bytes.{Below, number, digits}
+use Rattle.stream.specs.Block.{blockCodes}
+use Rattle.stream.specs.Group.{bytesFor, largest, widthOf, givenWidth, groupLength, groupCodes, within}
+use Rattle.blocks.proofs.Law.Digits.{byte, everywhere, below-append, below-drop, length-digits, digits-below, digits-append, number-drop}
+use Rattle.blocks.proofs.Law.Truth.{le-or-lt}
+use Rattle.blocks.proofs.Law.Words.{pow-pow}
+use Rattle.stream.proofs.Law.Group.Reading.{codes-from, no-bits}
+use Rattle.stream.proofs.Law.Group.RoundTrip.{width-holds, width-least}
+
+-- ---- the codes of a block
+
+-- a group's codes are read behind its first byte, which says their width
+pub codes-are : (n w : ℕ) (s : List ℕ) → Below 256 s → w ≡ givenWidth s → groupCodes n s ≡ blockCodes w n s
+unfolding blockCodes
+codes-are n w s bytes is = codes-from n s bytes ∙ ap (λ (k : ℕ). digits (2 ^ k) n (number 256 s / 256)) (sym is)
+
+module _ (w n : ℕ) (s : List ℕ) where
+  pub length-block : length (blockCodes w n s) ≡ n
+  unfolding blockCodes
+  length-block = length-digits (2 ^ w) n (number 256 s / 256)
+
+  pub block-below : Below (2 ^ w) (blockCodes w n s)
+  unfolding blockCodes
+  block-below i = digits-below (2 ^ w) (pow-pos w) n (number 256 s / 256) i
+
+pub no-block : (w : ℕ) (s : List ℕ) → blockCodes w 0 s ≡ []
+unfolding blockCodes digits
+no-block w s = refl
+
+-- codes of no bits are zeros
+pub zero-block : (n : ℕ) (s : List ℕ) → blockCodes 0 n s ≡ replicate n 0
+unfolding blockCodes
+zero-block n s = no-bits n (number 256 s / 256)
+
+-- ---- what follows some codes that are whole bytes
+
+pub block-split : (w p n f : ℕ) (s : List ℕ) → Below 256 s → w * p ≡ 8 * f → blockCodes w (p + n) s ≡ blockCodes w p s ++ blockCodes w n (drop f s)
+unfolding blockCodes
+block-split w p n f s bytes whole =
+    let N : ℕ = number 256 s in
+    digits-append (2 ^ w) (pow-pos w) p n (N / 256)
+    ∙ ap (λ (m : ℕ). digits (2 ^ w) p (N / 256) ++ digits (2 ^ w) n m)
+    (ap (λ (q : ℕ). N / 256 / q) (pow-pow 2 w p)
+    ∙ shr-shr N 8 (w * p)
+    ∙ ap (λ (k : ℕ). N / 2 ^ k) (let e : 8 + w * p ≡ 8 * f + 8 = omega arith in e)
+    ∙ sym (ap (λ (m : ℕ). m / 256) (number-drop 256 byte f s bytes ∙ ap (λ (q : ℕ). N / q) (pow-pow 2 8 f)) ∙ shr-shr N (8 * f) 8))
+
+-- the bytes of some codes, and of more
+pub bytes-fewer : (w m n : ℕ) → m ≤ n → bytesFor w m ≤ bytesFor w n
+unfolding bytesFor
+bytes-fewer w m n h = omega (arith, mul-le-mul-left w h)
+
+pub bytes-split : (w p n f : ℕ) → w * p ≡ 8 * f → bytesFor w (p + n) ≡ f + bytesFor w n
+unfolding bytesFor
+bytes-split w p n f whole = omega (arith, mul-add w p n)
+
+-- 32 codes are 4w bytes
+pub full : (w : ℕ) → w * 32 ≡ 8 * (4 * w)
+full w = omega arith
+
+-- ---- block by block: `left` codes stand from the byte `from` on
+
+module _ (w left count from : ℕ) (s : List ℕ) (bytes : Below 256 s) (is : count ≡ min 32 left) where
+  pub next-block : blockCodes w left (drop from s) ≡ blockCodes w count (drop from s) ++ blockCodes w (left - count) (drop (from + 4 * w) s)
+  next-block = go (le-or-lt left 32)
+    where
+      go : (left ≤ 32) ⊎ (32 < left) → blockCodes w left (drop from s) ≡ blockCodes w count (drop from s) ++ blockCodes w (left - count) (drop (from + 4 * w) s)
+      go (inl h) =
+          let all : left ≡ count = omega arith in
+          let none : left - count ≡ 0 = omega arith in
+          sym (append-nil (blockCodes w left (drop from s)))
+          ∙ ap₂ (λ (k : ℕ) (r : List ℕ). blockCodes w k (drop from s) ++ r) all
+          (sym (ap (λ (k : ℕ). blockCodes w k (drop (from + 4 * w) s)) none ∙ no-block w (drop (from + 4 * w) s)))
+      go (inr h) =
+          let more : left ≡ 32 + (left - count) = omega arith in
+          let first : 32 ≡ count = omega arith in
+          ap (λ (k : ℕ). blockCodes w k (drop from s)) more
+          ∙ block-split w 32 (left - count) (4 * w) (drop from s) (below-drop 256 from s bytes) (full w)
+          ∙ ap₂ (λ (k : ℕ) (r : List ℕ). blockCodes w k (drop from s) ++ blockCodes w (left - count) r) first (drop-drop (4 * w) from s)
+
+-- where the walk stands: the codes that are left are there. Behind the last block nothing is said of the place.
+pub record Along (w : ℕ) (s : List ℕ) (left from : ℕ) : Type 0 where
+  pub few : 0 < left → from + 8 * left ≤ 1024
+  pub there : 0 < left → from + bytesFor w left < length s
+
+pub starts-along : (w n : ℕ) (s : List ℕ) → n ≤ 128 → bytesFor w n < length s → Along w s n 0
+starts-along w n s most there = record { few = λ h. omega arith; there = λ h. omega arith }
+
+-- from a group's own words
+pub group-along : (w n : ℕ) (s : List ℕ) → n ≤ 128 → w ≡ givenWidth s → groupLength n s ≤ length s → Along w s n 0
+unfolding groupLength
+group-along w n s most is whole = starts-along w n s most (rw is whole)
+
+module _ (w left count from : ℕ) (s : List ℕ) (a : Along w s left from) (some : 0 < left) (is : count ≡ min 32 left) where
+  pub here : from ≤ length s
+  here = omega (arith, a .there some)
+
+  pub block-there : bytesFor w count < length (drop from s)
+  block-there = rw (length-drop from s) (omega (arith, a .there some, bytes-fewer w count left (omega arith)))
+
+  pub next-small : w ≤ 64 → from + 4 * w ≤ 1280
+  next-small narrow = omega (arith, a .few some)
+
+  pub goes-along : w ≤ 64 → Along w s (left - count) (from + 4 * w)
+  goes-along narrow = record { few = λ h. omega (arith, a .few some); there = far }
+    where
+      far : 0 < left - count → from + 4 * w + bytesFor w (left - count) < length s
+      far h =
+          let more : 32 + (left - count) ≡ left = omega arith in
+          omega (arith, a .there some, ap (bytesFor w) (sym more) ∙ bytes-split w 32 (left - count) (4 * w) (full w))
+
+-- ---- the width, and the limit, of two lists of codes
+
+pub width-append : (xs ys : List ℕ) → widthOf (xs ++ ys) ≡ max (widthOf xs) (widthOf ys)
+width-append xs ys =
+    let m : ℕ = max (widthOf xs) (widthOf ys) in
+    let w : ℕ = widthOf (xs ++ ys) in
+    le-antisymm
+    (width-least m (xs ++ ys)
+    (below-append (2 ^ m) xs ys (λ i. lt-of-lt-of-le (width-holds xs i) (pow-mono (le-max-left (widthOf xs) (widthOf ys))))
+    (λ i. lt-of-lt-of-le (width-holds ys i) (pow-mono (le-max-right (widthOf xs) (widthOf ys))))))
+    (max-le
+    (width-least w xs (everywhere (λ (x : ℕ). x < 2 ^ w) xs (pow-pos w) (λ k h. subst (λ (x : ℕ). x < 2 ^ w) (List·getD-append xs ys 0 k h) (width-holds (xs ++ ys) k))))
+    (width-least w ys (λ i. subst (λ (x : ℕ). x < 2 ^ w) (getD-append-add xs ys i 0) (width-holds (xs ++ ys) (length xs + i)))))
+
+pub within-append : (U : ℕ) (xs ys : List ℕ) → within U (xs ++ ys) ≡ (within U xs && within U ys)
+unfolding within
+within-append U [] ys = refl
+within-append U (x ∷ xs) ys = ap (λ (b : Bool). leb (x / 2) U && b) (within-append U xs ys) ∙ go (leb (x / 2) U)
+  where
+    go : (b : Bool) → (b && (within U xs && within U ys)) ≡ ((b && within U xs) && within U ys)
+    go true = refl
+    go false = refl
+
+-- w is the width of codes of w bits: the first block that needs it settles it, and one that does not leaves it to the rest
+module _ (w : ℕ) (xs ys : List ℕ) (below : Below (2 ^ w) xs) where
+  pub reached-here : Below (2 ^ w) ys → eqb w (widthOf xs) ≡ true → eqb w (widthOf (xs ++ ys)) ≡ true
+  reached-here rest e =
+      eq-eqb w (widthOf (xs ++ ys)) (omega (arith, eqb-true w (widthOf xs) e, width-append xs ys, width-least w ys rest))
+
+  pub reached-later : eqb w (widthOf xs) ≡ false → eqb w (widthOf (xs ++ ys)) ≡ eqb w (widthOf ys)
+  reached-later e = go (eqb w (widthOf ys)) refl
+    where
+      less : widthOf xs < w
+      less = let ne = eqb-false w (widthOf xs) e in omega (arith, ne, width-least w xs below)
+
+      go : (b : Bool) → eqb w (widthOf ys) ≡ b → eqb w (widthOf (xs ++ ys)) ≡ eqb w (widthOf ys)
+      go true q = eq-eqb w (widthOf (xs ++ ys)) (omega (arith, less, eqb-true w (widthOf ys) q, width-append xs ys)) ∙ sym q
+      go false q =
+          let ne = eqb-false w (widthOf ys) q in
+          ne-eqb w (widthOf (xs ++ ys)) (λ z. omega (arith, less, ne, width-append xs ys)) ∙ sym q
+
+-- no codes have no width
+pub none-reached : (w : ℕ) → 1 ≤ w → eqb w (widthOf []) ≡ false
+none-reached w some = ne-eqb w (widthOf []) (λ z. omega (arith, width-least 0 [] (λ i. pow-pos 0)))
