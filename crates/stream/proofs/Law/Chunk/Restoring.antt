@@ -42,6 +42,23 @@ pattern-first t before cs ds i h =
     ap (λ (ps : List ℕ). getD ps i 0) (patterns-append t before cs ds)
     ∙ List·getD-append (patternsAfter t before cs) (patternsAfter t (lastOf before (patternsAfter t before cs)) ds) 0 i (rw (length-patterns t before cs) h)
 
+pub pattern-upto : (t : Setting) (before : ℕ) (cs ds : List ℕ) (i : ℕ) → i < length cs
+    → getD (patternsAfter t before (cs ++ ds)) i 0 ≡ getD (patternsAfter t before (take (i + 1) cs)) i 0
+pattern-upto t before cs ds i h =
+    pattern-first t before cs ds i h
+    ∙ ap (λ (xs : List ℕ). getD (patternsAfter t before xs) i 0) (sym (take-append-drop (i + 1) cs))
+    ∙ pattern-first t before (take (i + 1) cs) (drop (i + 1) cs) i (rw (length-take-le (i + 1) cs (omega arith)) (omega arith))
+
+-- and of the codes before it only the pattern that they end with
+pub pattern-behind : (t : Setting) (before after : ℕ) (cs ds : List ℕ) (i k : ℕ) → i ≡ length cs + k → SameBehind t after (lastOf before (patternsAfter t before cs))
+    → getD (patternsAfter t before (cs ++ ds)) i 0 ≡ getD (patternsAfter t after ds) k 0
+pattern-behind t before after cs ds i k e same =
+    let first = patternsAfter t before cs in
+    let more = patternsAfter t (lastOf before first) ds in
+    ap₂ (λ (ps : List ℕ) (n : ℕ). getD ps n 0) (patterns-append t before cs ds) (let q : i ≡ length first + k = omega (arith, length-patterns t before cs) in q)
+    ∙ getD-append-add first more k 0
+    ∙ ap (λ (ps : List ℕ). getD ps k 0) (sym (same ds))
+
 -- the codes of the next group stand first among those that are left
 module _ (size : ℕ) (some : 0 < size) (s : List ℕ) (left at count k : ℕ) (h : 0 < left) (is : count ≡ min size left) (l : k ≡ groupLength count (drop at s)) where
   codes-next : chunkCodes size left (drop at s) ≡ groupCodes count (drop at s) ++ chunkCodes size (left - count) (drop (at + k) s)
@@ -99,25 +116,16 @@ module _ (size : ℕ) (some : 0 < size) (W : ℕ) (s : List ℕ) where
     abbrev codes : List ℕ
     codes = groupCodes count (drop at s)
 
-    length-next : length (patternsAfter t before codes) ≡ count
-    length-next = length-patterns t before codes ∙ length-codes count (drop at s)
-
     pub behind-next : (i after : ℕ) → count ≤ i → SameBehind t after (lastOf before (patternsAfter t before codes))
         → getD (patternsAfter t before (chunkCodes size left (drop at s))) i 0 ≡ getD (patternsAfter t after (chunkCodes size (left - count) (drop (at + k) s))) (i - count) 0
     behind-next i after b same =
-        let first = patternsAfter t before codes in
-        let more = patternsAfter t (lastOf before first) (chunkCodes size (left - count) (drop (at + k) s)) in
-        ap₂ (λ (ps : List ℕ) (n : ℕ). getD ps n 0) (patterns-next size some s left at count k h is l t before) (let q : i ≡ length first + (i - count) = omega (arith, length-next) in q)
-        ∙ getD-append-add first more (i - count) 0
-        ∙ ap (λ (ps : List ℕ). getD ps (i - count) 0) (sym (same (chunkCodes size (left - count) (drop (at + k) s))))
+        ap (λ (cs : List ℕ). getD (patternsAfter t before cs) i 0) (codes-next size some s left at count k h is l)
+        ∙ pattern-behind t before after codes (chunkCodes size (left - count) (drop (at + k) s)) i (i - count) (let q : i ≡ length codes + (i - count) = omega (arith, length-codes count (drop at s)) in q) same
 
-    pub within-next : (i : ℕ) → i < count
-        → getD (patternsAfter t before (chunkCodes size left (drop at s))) i 0 ≡ getD (patternsAfter t before (take (i + 1) codes)) i 0
+    pub within-next : (i : ℕ) → i < count → getD (patternsAfter t before (chunkCodes size left (drop at s))) i 0 ≡ getD (patternsAfter t before codes) i 0
     within-next i b =
         ap (λ (cs : List ℕ). getD (patternsAfter t before cs) i 0) (codes-next size some s left at count k h is l)
         ∙ pattern-first t before codes (chunkCodes size (left - count) (drop (at + k) s)) i (rw (length-codes count (drop at s)) b)
-        ∙ ap (λ (cs : List ℕ). getD (patternsAfter t before cs) i 0) (sym (take-append-drop (i + 1) codes))
-        ∙ pattern-first t before (take (i + 1) codes) (drop (i + 1) codes) i (rw (length-take-le (i + 1) codes (rw (length-codes count (drop at s)) (omega arith))) (omega arith))
 
 pub length-restored : (size : ℕ) (some : 0 < size) (t : Setting) (n : ℕ) (s : List ℕ) → length (patternsOf t (chunkCodes size n s)) ≡ n
 length-restored size some t n s = length-patterns t 0 (chunkCodes size n s) ∙ length-chunk-codes size some n s

@@ -14,6 +14,8 @@ use lib.ListN.{length, drop, getD, replicate, length-drop, List·getD-append}
 use lib.Pow.{pow-pos, pow-mono, shr-shr}
 use lib.Seq.{drop-drop, getD-append-add}
 use Rattle.blocks.specs.Bytes.{Below, number, digits}
+use Rattle.numbers.specs.Difference.{runningSums, lastOf}
+use Rattle.numbers.proofs.Theorems.{an-append-carries-on, sums-of-an-append}
 use Rattle.stream.specs.Block.{blockCodes}
 use Rattle.stream.specs.Group.{bytesFor, largest, widthOf, givenWidth, groupLength, groupCodes, within}
 use Rattle.blocks.proofs.Law.Digits.{byte, everywhere, below-append, below-drop, length-digits, digits-below, digits-append, number-drop}
@@ -168,3 +170,12 @@ module _ (w : ℕ) (xs ys : List ℕ) (below : Below (2 ^ w) xs) where
 -- no codes have no width
 pub none-reached : (w : ℕ) → 1 ≤ w → eqb w (widthOf []) ≡ false
 none-reached w some = ne-eqb w (widthOf []) (λ z. omega (arith, width-least 0 [] (λ i. pow-pos 0)))
+
+-- ---- the carry of two lists of codes in mode 2
+
+pub carry-append : (W before after : ℕ) (xs ys : List ℕ) → after ≡ lastOf before (runningSums W before xs)
+    → lastOf before (runningSums W before (xs ++ ys)) ≡ lastOf after (runningSums W after ys)
+carry-append W before after xs ys is =
+    ap (lastOf before) (sums-of-an-append W before xs ys)
+    ∙ an-append-carries-on before (runningSums W before xs) (runningSums W (lastOf before (runningSums W before xs)) ys)
+    ∙ ap (λ (b : ℕ). lastOf b (runningSums W b ys)) (sym is)

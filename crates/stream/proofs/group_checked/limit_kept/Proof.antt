@@ -128,7 +128,7 @@ returns-2 : tie.Need-returns-2 Inv-loop μ-loop
 returns-2 c =
     let b = c .before .before .before in
     let l = turn b in
-    sym (asked (c .before) ∙ ap (λ (x : Bool). x && within (limit l) (blockCodes (w l) (left b - count b) (drop (from b + 4 * w l) (s l)))) (not-true _ (c .if2 .taken)))
+    sym (asked (c .before) ∙ ap (λ (x : Bool). x && within (limit l) (blockCodes (w l) (left b - count b) (drop (from b + 4 * w l) (s l)))) (not-true (c .before .block-limited .result) (c .if2 .taken)))
 
 mul-from : tie.Need-mul-from Inv-loop μ-loop
 mul-from c = omega (arith, start (turn (c .before .before .before)) .pre .2)
@@ -150,7 +150,7 @@ loop-again c =
     let b = c .before .before .before in
     let l = turn b in (
       goes-along (w l) (left b) (count b) (from b) (s l) (l .loop .inv .0) (b .before .loop-test .taken) (b .block-count .ensures) (start l .pre .2),
-      asked (c .before) ∙ ap (λ (x : Bool). x && within (limit l) (blockCodes (w l) (left b - count b) (drop (from b + 4 * w l) (s l)))) (not-false _ (c .if2 .left)),
+      asked (c .before) ∙ ap (λ (x : Bool). x && within (limit l) (blockCodes (w l) (left b - count b) (drop (from b + 4 * w l) (s l)))) (not-false (c .before .block-limited .result) (c .if2 .left)),
     )
 
 returns-3 : tie.Need-returns-3 Inv-loop μ-loop

@@ -1,54 +1,184 @@
--- `stream::lent::carried` meets its contract: in mode 2 the last sum of the group, else anything goes.
-use Prim.Native.Nat.{ℕ, _^_}
+-- `stream::lent::carried` meets its contract: in mode 2 the last sum of the group, else anything goes. The invariant: the last sum of the blocks left,
+-- behind the last sum so far, is that of the group.
 use mathlib.Core.List.{List}
-use mathlib.Core.Path.{sym, ap, _∙_}
-use native.Mathlib.Nat.{le-trans, lt-of-lt-of-le}
-use lib.Pow.{pow-mono}
+use mathlib.Core.Path.{_≡_, sym, ap, _∙_}
+use Prim.Native.Nat.{ℕ, _+_, _*_, _-_, _^_, _≤_, _<_}
+use native.Mathlib.Nat.{le-trans}
+use native.Mathlib.Omega.{arith}
+use lib.ListN.{length, drop}
+use Rattle.blocks.specs.Bytes.{Below}
 use Rattle.numbers.specs.Difference.{runningSums, lastOf}
-use Rattle.numbers.proofs.Theorems.{the-last-is-below, running-sums-have-W-bits}
-use Rattle.stream.specs.Group.{groupCodes}
+use Rattle.numbers.proofs.Theorems.{no-sums, nothing-carries-on}
+use Rattle.stream.specs.Group.{givenWidth, groupLength, groupCodes}
+use Rattle.stream.specs.Block.{blockCodes}
 use Rattle.stream.specs.Setting.{patternsAfter}
-use Rattle.stream.proofs.Law.Group.RoundTrip.{codes-below, length-codes}
-use Rattle.stream.proofs.Law.Chunk.Restoring.{long-enough}
-use Rattle.stream.proofs.Law.Setting.Allowed.{width-some, width-most}
+use Rattle.stream.proofs.Law.Chunk.Checking.{part-is}
+use Rattle.stream.proofs.Law.Group.Blocks.{codes-are, no-block, next-block, Along, group-along, here, block-there, next-small, goes-along, carry-append}
+use Rattle.stream.proofs.Law.Setting.Allowed.{width-most}
 use Rattle.stream.proofs.Law.Setting.Codes.{any-before, patterns-by-sum}
 use borrow.Author.Needs.{needs}
 use Rattle.stream.proofs.lent.carried.Statement.{statement}
 use Rattle.stream.proofs.lent.carried.Tie as tie
 
-returns : tie.Need-returns
-returns c = let s = c .before .before .before in (s .pre .1, λ cs. any-before (s .args .t) _ _ cs (c .if1 .taken))
+abbrev Inv-loop : tie.InvT-loop
+Inv-loop t before s n w last₀ from₀ left₀ last from left =
+    Along w s left from × (last < 2 ^ t .width)
+    × (lastOf before (runningSums (t .width) before (groupCodes n s)) ≡ lastOf last (runningSums (t .width) last (blockCodes w left (drop from s))))
 
-codes-of-requires : tie.Need-codes-of-requires
-codes-of-requires c κs = let p = c .before .before .before .pre in (p .2, le-trans (p .3) (width-most (c .before .before .before .args .t .width) (p .0 .known)), p .4)
+abbrev μ-loop : tie.MeasureT-loop
+μ-loop t before s n w last₀ from₀ left₀ last from left = left
 
-slice-aggregate-last-sum : tie.Need-slice-aggregate-last-sum
-slice-aggregate-last-sum c = search needs
+width-is : (c : tie.After-wide Inv-loop μ-loop) → c .wide .result ≡ givenWidth (c .before .before .before .before .before .args .s .now)
+unfolding givenWidth
+width-is c = c .wide .ensures .0
 
-last-sum-requires : tie.Need-last-sum-requires
-last-sum-requires c κs =
-    let s = c .before .before .before .before .before .before in
-    let a = s .args in
-    let g = c .before .before .codes-of in (
-      s .pre .0,
-      s .pre .1,
-      long-enough (a .n) (g .result .codes) (groupCodes (a .n) (a .s .now)) (g .ensures .1) (length-codes (a .n) (a .s .now)),
-      λ i. rw (g .ensures .1) (lt-of-lt-of-le (codes-below (a .n) (a .s .now) i) (pow-mono (s .pre .3))),
+-- the loop's place
+module _ (l : tie.At-loop Inv-loop μ-loop) where
+  abbrev start : tie.Start Inv-loop μ-loop
+  start = l .before .before .before .before .before .before
+
+  abbrev s : List ℕ
+  s = start .args .s .now
+
+  abbrev w : ℕ
+  w = l .before .wide .result
+
+  abbrev W : ℕ
+  W = start .args .t .width
+
+  under : w ≤ W
+  under = omega (arith, width-is (l .before), start .pre .3)
+
+  narrow : w ≤ 64
+  narrow = le-trans under (width-most W (start .pre .0 .known))
+
+  bytes : Below 256 s
+  bytes i = l .before .before .before .before .before .shared-slice-known .given i .fits
+
+-- the block that comes next
+module _ (c : tie.After-block-count Inv-loop μ-loop) where
+  abbrev turn : tie.At-loop Inv-loop μ-loop
+  turn = c .before .before
+
+  abbrev left : ℕ
+  left = turn .loop .left
+
+  abbrev from : ℕ
+  from = turn .loop .from
+
+  abbrev count : ℕ
+  count = c .block-count .result
+
+  inside : from ≤ length (s turn)
+  inside = here (w turn) left count from (s turn) (turn .loop .inv .0) (c .before .loop-test .taken) (c .block-count .ensures)
+
+returns : tie.Need-returns Inv-loop μ-loop
+returns c = let f = c .before .before .before in (f .pre .1, λ cs. any-before (f .args .t) _ _ cs (c .if1 .taken))
+
+shared-slice-read-wide : tie.Need-shared-slice-read-wide Inv-loop μ-loop
+unfolding groupLength
+shared-slice-read-wide c = omega (arith, c .before .before .before .before .pre .4)
+
+wide-requires : tie.Need-wide-requires Inv-loop μ-loop
+wide-requires c κs = search needs
+
+loop-holds : tie.Need-loop-holds Inv-loop μ-loop
+loop-holds c =
+    let f = c .before .before .before .before .before in
+    let a = f .args in (
+      group-along (c .wide .result) (a .n) (a .s .now) (f .pre .2) (width-is c) (f .pre .4),
+      f .pre .1,
+      ap (λ (cs : List ℕ). lastOf (a .before) (runningSums (a .t .width) (a .before) cs))
+          (codes-are (a .n) (c .wide .result) (a .s .now) (λ i. c .before .before .before .before .shared-slice-known .given i .fits) (width-is c)),
     )
 
-returns-2 : tie.Need-returns-2
+block-count-requires : tie.Need-block-count-requires Inv-loop μ-loop
+block-count-requires c κs = search needs
+
+sub-block-sum : tie.Need-sub-block-sum Inv-loop μ-loop
+sub-block-sum c = inside c
+
+part-block-sum-start : tie.Need-part-block-sum-start Inv-loop μ-loop
+part-block-sum-start c = inside c
+
+part-block-sum-end : tie.Need-part-block-sum-end Inv-loop μ-loop
+part-block-sum-end c = search needs
+
+block-sum-requires : tie.Need-block-sum-requires Inv-loop μ-loop
+block-sum-requires c κs =
+    let b = c .before in
+    let l = turn b in (
+      start l .pre .0,
+      l .loop .inv .1,
+      omega (arith, b .block-count .ensures),
+      under l,
+      rw (part-is (s l) (from b)) (block-there (w l) (left b) (count b) (from b) (s l) (l .loop .inv .0) (b .before .loop-test .taken) (b .block-count .ensures)),
+    )
+
+mul-from : tie.Need-mul-from Inv-loop μ-loop
+mul-from c = omega (arith, narrow (turn (c .before .before)))
+
+add-from : tie.Need-add-from Inv-loop μ-loop
+add-from c =
+    let b = c .before .before in
+    let l = turn b in
+    omega (arith, next-small (w l) (left b) (count b) (from b) (s l) (l .loop .inv .0) (b .before .loop-test .taken) (b .block-count .ensures) (narrow l))
+
+sub-left : tie.Need-sub-left Inv-loop μ-loop
+sub-left c = let b = c .before .before in omega (arith, b .block-count .ensures)
+
+loop-less : tie.Need-loop-less Inv-loop μ-loop
+loop-less c = let b = c .before .before in omega (arith, b .block-count .ensures, b .before .loop-test .taken)
+
+loop-again : tie.Need-loop-again Inv-loop μ-loop
+loop-again c =
+    let b = c .before .before in
+    let l = turn b in
+    let last = l .loop .last in
+    let codes = blockCodes (w l) (count b) (drop (from b) (s l)) in
+    let rest = blockCodes (w l) (left b - count b) (drop (from b + 4 * w l) (s l)) in (
+      goes-along (w l) (left b) (count b) (from b) (s l) (l .loop .inv .0) (b .before .loop-test .taken) (b .block-count .ensures) (narrow l),
+      c .block-sum .ensures .0,
+      l .loop .inv .2
+          ∙ ap (λ (cs : List ℕ). lastOf last (runningSums (W l) last cs)) (next-block (w l) (left b) (count b) (from b) (s l) (bytes l) (b .block-count .ensures))
+          ∙ carry-append (W l) last (c .block-sum .result) codes rest
+          (c .block-sum .ensures .1 ∙ ap (λ (r : List ℕ). lastOf last (runningSums (W l) last (blockCodes (w l) (count b) r))) (part-is (s l) (from b))),
+    )
+
+returns-2 : tie.Need-returns-2 Inv-loop μ-loop
 returns-2 c =
-    let s = c .before .before .before .before .before .before .before in
-    let a = s .args in
-    let g = c .before .before .before .codes-of in
-    let W = a .t .width in
-    let cs = groupCodes (a .n) (a .s .now) in
-    let is = c .last-sum .ensures ∙ ap (λ (l : List ℕ). lastOf (a .before) (runningSums W (a .before) l)) (g .ensures .1) in (
-      rw is (the-last-is-below (2 ^ W) (a .before) (runningSums W (a .before) cs) (s .pre .1) (running-sums-have-W-bits W (width-some W (s .pre .0 .known)) (a .before) cs)),
-      λ ds. ap (λ (b : ℕ). patternsAfter (a .t) b ds) (is ∙ ap (lastOf (a .before)) (sym (patterns-by-sum (a .t) (a .before) cs (c .before .before .before .before .if1 .left)))),
+    let l = c .before in
+    let a = start l .args in
+    let last = l .loop .last in
+    let none : l .loop .left ≡ 0 = omega (arith, c .loop-test .left) in
+    let rest = drop (l .loop .from) (s l) in
+    let is : last ≡ lastOf (a .before) (runningSums (W l) (a .before) (groupCodes (a .n) (s l))) =
+    sym (l .loop .inv .2
+    ∙ ap (λ (cs : List ℕ). lastOf last (runningSums (W l) last cs)) (ap (λ (k : ℕ). blockCodes (w l) k rest) none ∙ no-block (w l) rest)
+    ∙ ap (lastOf last) (no-sums (W l) last) ∙ nothing-carries-on last) in (
+      l .loop .inv .1,
+      λ ds. ap (λ (b : ℕ). patternsAfter (a .t) b ds)
+          (is ∙ ap (lastOf (a .before)) (sym (patterns-by-sum (a .t) (a .before) (groupCodes (a .n) (s l)) (l .before .before .before .if1 .left)))),
     )
 
 pub carried-spec : {M : Type 1} → statement M
 carried-spec =
     tie.close
-    (tie.spec returns codes-of-requires slice-aggregate-last-sum last-sum-requires returns-2)
+    (tie.spec
+    Inv-loop
+    μ-loop
+    returns
+    shared-slice-read-wide
+    wide-requires
+    loop-holds
+    block-count-requires
+    sub-block-sum
+    part-block-sum-start
+    part-block-sum-end
+    block-sum-requires
+    mul-from
+    add-from
+    sub-left
+    loop-less
+    loop-again
+    returns-2)
