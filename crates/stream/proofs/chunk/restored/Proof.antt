@@ -52,7 +52,7 @@ module _ (l : tie.At-loop Inv-loop μ-loop) where
 count-is : (c : tie.After-group-count Inv-loop μ-loop) → let l = c .before .before in c .group-count .result ≡ min (groupSize (t l)) (l .loop .left)
 count-is c = omega (arith, c .group-count .ensures, c .before .before .before .group-size .ensures .0)
 
-count-most : (c : tie.After-group-count Inv-loop μ-loop) → c .group-count .result ≤ 32
+count-most : (c : tie.After-group-count Inv-loop μ-loop) → c .group-count .result ≤ 128
 count-most c = omega (arith, c .group-count .ensures, c .before .before .before .group-size .ensures .2)
 
 count-some : (c : tie.After-group-count Inv-loop μ-loop) → 0 < c .group-count .result

@@ -1,20 +1,17 @@
 -- `stream::chunk::value` meets its contract. The invariant: the value at `index` of what is left is the value that is asked for.
 use Prim.Native.Nat.{ℕ, _+_, _-_, _^_, _≤_, _<_, min}
-use Rattle.stream.proofs.Law.Chunk.Restoring.{Onward, starts-onward, long-enough, part-opens, next-wide, next-below, goes-on, behind-next, within-next}
+use Rattle.stream.proofs.Law.Chunk.Restoring.{Onward, starts-onward, part-opens, next-wide, goes-on, behind-next, within-next}
 use Rattle.stream.proofs.Law.Chunk.Whole.{good-whole}
 use Rattle.stream.proofs.Law.Setting.Allowed.{size-some, width-most}
 use Rattle.stream.proofs.Law.Chunk.Checking.{part-is}
-use Rattle.stream.proofs.Law.Group.RoundTrip.{length-codes}
-use Rattle.blocks.proofs.Law.Digits.{below-take}
 use Rattle.stream.specs.Chunk.{chunkCodes}
 use Rattle.stream.specs.Lent.{SameBehind}
 use Rattle.stream.specs.Group.{groupLength, groupCodes}
 use Rattle.stream.specs.Setting.{groupSize, patternsAfter, patternsOf, limitOf}
 use Rattle.stream.specs.declared.setting.Setting.{Setting}
 use borrow.Author.Needs.{needs}
-use lib.ListN.{length, take, drop, getD}
+use lib.ListN.{drop, getD}
 use lib.Pow.{pow-pos}
-use lib.Seq.{take-take}
 use Rattle.numbers.specs.Difference.{lastOf}
 use mathlib.Core.List.{List}
 use mathlib.Core.Path.{_≡_, refl, sym, ap, _∙_}
@@ -134,66 +131,37 @@ loop-again c =
       k .ensures .0,
     )
 
-sub-codes-of : tie.Need-sub-codes-of Inv-loop μ-loop
-sub-codes-of c = c .before .loop .inv .2 .inside
+sub-value : tie.Need-sub-value Inv-loop μ-loop
+sub-value c = c .before .loop .inv .2 .inside
 
-part-codes-of-start : tie.Need-part-codes-of-start Inv-loop μ-loop
-part-codes-of-start c = c .before .loop .inv .2 .inside
+part-value-start : tie.Need-part-value-start Inv-loop μ-loop
+part-value-start c = c .before .loop .inv .2 .inside
 
-part-codes-of-end : tie.Need-part-codes-of-end Inv-loop μ-loop
-part-codes-of-end c = search needs
+part-value-end : tie.Need-part-value-end Inv-loop μ-loop
+part-value-end c = search needs
 
 group-count-requires : tie.Need-group-count-requires Inv-loop μ-loop
 group-count-requires c κs = search needs
 
-codes-of-requires : tie.Need-codes-of-requires Inv-loop μ-loop
-codes-of-requires c κs =
-    let l = c .before .before .before in
-    let opens = part-opens (groupSize (t l)) (size-some (t l)) (t l .width) (bytes l) (l .loop .left) (l .loop .at) (c .group-count .result) (l .loop .inv .2) (some-left l) (count-is c) (width-most (t l .width) (start l .pre .0 .known)) in
-    (omega (arith, c .group-count .ensures, c .before .before .before .before .group-size .ensures .2), opens .0, opens .1)
-
-slice-aggregate-value : tie.Need-slice-aggregate-value Inv-loop μ-loop
-slice-aggregate-value c = search needs
-
--- the codes up to the index are the group's
-module _ (c : tie.After-codes-of Inv-loop μ-loop) where
-  abbrev here : tie.At-loop Inv-loop μ-loop
-  here = c .before .before .before .before
-
-  abbrev many : ℕ
-  many = c .before .group-count .result
-
-  abbrev codes : List ℕ
-  codes = groupCodes many (drop (here .loop .at) (bytes here))
-
-  group : take many (c .codes-of .result .codes) ≡ codes
-  group = c .codes-of .ensures .1 ∙ ap (groupCodes many) (part-is (bytes here) (here .loop .at))
-
-  upto : take (here .loop .index + 1) (c .codes-of .result .codes) ≡ take (here .loop .index + 1) codes
-  upto = sym (take-take (here .loop .index + 1) many (c .codes-of .result .codes) (omega (arith, within (c .before)))) ∙ ap (take (here .loop .index + 1)) group
-
-  long : many ≤ length (c .codes-of .result .codes)
-  long = long-enough many (c .codes-of .result .codes) codes group (length-codes many (drop (here .loop .at) (bytes here)))
-
 value-requires : tie.Need-value-requires Inv-loop μ-loop
 value-requires c κs =
-    let g = c .before .before in
-    let l = here g in
-    let below = next-below (groupSize (t l)) (size-some (t l)) (t l .width) (bytes l) (l .loop .left) (l .loop .at) (many g) (l .loop .inv .2) (some-left l) (count-is (g .before)) in (
-      start l .pre .0,
+    let l = c .before .before .before in
+    let p = start l .pre .0 in (
+      p,
       l .loop .inv .4,
-      omega (arith, long g, within (g .before)),
-      omega (arith, l .loop .inv .0, l .loop .inv .1, start l .pre .1),
-      rw (upto g) (below-take (2 ^ t l .width) (l .loop .index + 1) (codes g) below),
+      within c,
+      omega (arith, c .group-count .ensures, l .before .group-size .ensures .2),
+      rw (part-is (bytes l) (l .loop .at)) (next-wide (groupSize (t l)) (size-some (t l)) (t l .width) (bytes l) (l .loop .left) (l .loop .at) (c .group-count .result) (l .loop .inv .2) (some-left l) (count-is c)),
+      part-opens (groupSize (t l)) (size-some (t l)) (t l .width) (bytes l) (l .loop .left) (l .loop .at) (c .group-count .result) (l .loop .inv .2) (some-left l) (count-is c) (width-most (t l .width) (p .known)) .1,
     )
 
 returns : tie.Need-returns Inv-loop μ-loop
 returns c =
-    let g = c .before .before .before in
-    let l = here g in
+    let g = c .before in
+    let l = g .before .before .before in
     c .value .ensures
-    ∙ ap (λ (cs : List ℕ). getD (patternsAfter (t l) (l .loop .before) cs) (l .loop .index) 0) (upto g)
-    ∙ sym (within-next (groupSize (t l)) (size-some (t l)) (t l .width) (bytes l) (l .loop .left) (l .loop .at) (many g) (l .loop .inv .2) (some-left l) (count-is (g .before)) (t l) (l .loop .before) _ refl (l .loop .index) (within (g .before)))
+    ∙ ap (λ (r : List ℕ). getD (patternsAfter (t l) (l .loop .before) (groupCodes (g .group-count .result) r)) (l .loop .index) 0) (part-is (bytes l) (l .loop .at))
+    ∙ sym (within-next (groupSize (t l)) (size-some (t l)) (t l .width) (bytes l) (l .loop .left) (l .loop .at) (g .group-count .result) (l .loop .inv .2) (some-left l) (count-is g) (t l) (l .loop .before) _ refl (l .loop .index) (within g))
     ∙ l .loop .inv .3
 
 pub value-spec : {M : Type 1} → statement M
@@ -216,11 +184,9 @@ value-spec =
     sub-left
     loop-less
     loop-again
-    sub-codes-of
-    part-codes-of-start
-    part-codes-of-end
+    sub-value
+    part-value-start
+    part-value-end
     group-count-requires
-    codes-of-requires
-    slice-aggregate-value
     value-requires
     returns)

@@ -1,77 +1,204 @@
+-- `stream::lent::value` meets its contract: the codes before the index's block count by the pattern that they end with, and those behind the index for nothing.
+use mathlib.Core.List.{List}
+use mathlib.Core.Path.{_≡_, sym, ap, _∙_}
+use Prim.Native.Nat.{ℕ, _+_, _*_, _-_, _/_, _^_, _≤_, _<_, min}
+use native.Mathlib.Nat.{le-trans, lt-of-lt-of-le, mul-comm, mul-assoc, mul-le-mul}
+use native.Mathlib.Omega.{arith}
+use lib.ListN.{length, take, drop, getD, length-drop}
+use lib.Pow.{pow-mono}
+use lib.Seq.{take-take}
+use Rattle.blocks.specs.Bytes.{Below}
+use Rattle.blocks.proofs.Law.Digits.{below-take}
+use Rattle.numbers.specs.Difference.{lastOf}
+use Rattle.stream.specs.Group.{bytesFor, givenWidth, groupLength, groupCodes}
+use Rattle.stream.specs.Block.{blockCodes}
+use Rattle.stream.specs.Lent.{SameBehind}
+use Rattle.stream.specs.Setting.{patternsAfter}
+use Rattle.stream.proofs.Law.Chunk.Checking.{part-is}
+use Rattle.stream.proofs.Law.Chunk.Restoring.{long-enough, pattern-upto, pattern-behind}
+use Rattle.stream.proofs.Law.Group.Blocks.{codes-are, length-block, block-below, block-split, bytes-fewer, bytes-split, next-block}
+use Rattle.stream.proofs.Law.Setting.Allowed.{width-most}
 use borrow.Author.Needs.{needs}
 use Rattle.stream.proofs.lent.value.Statement.{statement}
 use Rattle.stream.proofs.lent.value.Tie as tie
-use Rattle.stream.proofs.lent.value.Reads as reads
-use Rattle.stream.proofs.lent.value.Lts as lts
-use Rattle.blocks.proofs.bytes.wide.Reads as wide-reads
-use Rattle.stream.proofs.group_read.block_count.Reads as block-count-reads
-use Rattle.stream.proofs.group_read.codes_of.Reads as codes-of-reads
-use Rattle.stream.proofs.lent.carried.Reads as carried-reads
-use Rattle.stream.proofs.lent.picked.Reads as picked-reads
 
--- src/lent.rt:607:25
+-- the blocks before the index's: how many codes they have, and where they end
+module _ (c : tie.After-wide) where
+  abbrev start : tie.Start
+  start = c .before .before .before
+
+  abbrev s : List ℕ
+  s = start .args .s .now
+
+  abbrev n : ℕ
+  n = start .args .n
+
+  abbrev i : ℕ
+  i = start .args .i
+
+  abbrev w : ℕ
+  w = c .wide .result
+
+  abbrev block : ℕ
+  block = i / 32
+
+  abbrev passed : ℕ
+  passed = 32 * block
+
+  abbrev from : ℕ
+  from = 4 * w * block
+
+  abbrev rest : ℕ
+  rest = n - passed
+
+  width-is : w ≡ givenWidth s
+  unfolding givenWidth
+  width-is = c .wide .ensures .0
+
+  narrow : w ≤ 64
+  narrow = omega (arith, width-is, start .pre .4, width-most (start .args .t .width) (start .pre .0 .known))
+
+  bytes : Below 256 s
+  bytes k = c .before .before .shared-slice-known .given k .fits
+
+  -- they are whole bytes
+  whole : w * passed ≡ 8 * from
+  whole = omega (arith, mul-comm w passed ∙ mul-assoc 32 block w, mul-assoc 4 w block, mul-comm block w)
+
+  split : passed + rest ≡ n
+  split = omega (arith, start .pre .2)
+
+  few : passed ≤ n
+  few = omega (arith, start .pre .2)
+
+  -- and what follows is there
+  there : from + bytesFor w rest < length s
+  unfolding groupLength
+  there = omega (arith, start .pre .5, ap (λ (k : ℕ). bytesFor k n) width-is, ap (bytesFor w) (sym split) ∙ bytes-split w passed rest from whole)
+
+  first-there : groupLength passed s ≤ length s
+  unfolding groupLength
+  first-there = omega (arith, start .pre .5, bytes-fewer (givenWidth s) passed n few)
+
+-- the index's block
+module _ (c : tie.After-block-count) where
+  abbrev at : tie.After-wide
+  at = c .before .before .before
+
+  abbrev count : ℕ
+  count = c .block-count .result
+
+  abbrev index : ℕ
+  index = i at - passed at
+
+  within : index < count
+  within = omega (arith, c .block-count .ensures, start at .pre .2)
+
+  abbrev codes : List ℕ
+  codes = blockCodes (w at) count (drop (from at) (s at))
+
+module _ (c : tie.After-codes-of) where
+  abbrev here : tie.After-block-count
+  here = c .before
+
+  opened : take (count here) (c .codes-of .result .codes) ≡ codes here
+  opened = c .codes-of .ensures .1 ∙ ap (blockCodes (w (at here)) (count here)) (part-is (s (at here)) (from (at here)))
+
+  upto : take (index here + 1) (c .codes-of .result .codes) ≡ take (index here + 1) (codes here)
+  upto =
+      sym (take-take (index here + 1) (count here) (c .codes-of .result .codes) (omega (arith, within here))) ∙ ap (take (index here + 1)) opened
+
+  long : count here ≤ length (c .codes-of .result .codes)
+  long = long-enough (count here) (c .codes-of .result .codes) (codes here) opened (length-block (w (at here)) (count here) (drop (from (at here)) (s (at here))))
+
 shared-slice-read-wide : tie.Need-shared-slice-read-wide
-shared-slice-read-wide c = ?
+unfolding groupLength
+shared-slice-read-wide c = omega (arith, c .before .before .pre .5)
 
--- src/lent.rt:607:13
 wide-requires : tie.Need-wide-requires
 wide-requires c κs = search needs
 
--- src/lent.rt:609:18
 mul-passed : tie.Need-mul-passed
 mul-passed c = search needs
 
--- src/lent.rt:610:9
 carried-requires : tie.Need-carried-requires
-carried-requires c κs = ?
+carried-requires c κs = let p = start c .pre in (p .0, p .1, omega (arith, few c, p .3), p .4, first-there c)
 
--- src/lent.rt:611:16
 mul-from : tie.Need-mul-from
-mul-from c = search needs
+mul-from c = omega (arith, narrow (c .before))
 
--- src/lent.rt:611:16
 mul-from-2 : tie.Need-mul-from-2
-mul-from-2 c = ?
+mul-from-2 c =
+    let b = c .before in
+    let four : 4 * w b ≤ 256 = omega (arith, narrow b) in
+    let blocks : block b ≤ 4 = omega (arith, start b .pre .2, start b .pre .3) in
+    omega (arith, mul-le-mul four blocks)
 
--- src/lent.rt:612:34
 sub-codes-of : tie.Need-sub-codes-of
-sub-codes-of c = ?
+sub-codes-of c = omega (arith, there (c .before))
 
--- src/lent.rt:612:34
 part-codes-of-start : tie.Need-part-codes-of-start
-part-codes-of-start c = ?
+part-codes-of-start c = omega (arith, there (c .before))
 
--- src/lent.rt:612:34
 part-codes-of-end : tie.Need-part-codes-of-end
 part-codes-of-end c = search needs
 
--- src/lent.rt:612:73
 sub-block-count : tie.Need-sub-block-count
 sub-block-count c = search needs
 
--- src/lent.rt:612:49
 block-count-requires : tie.Need-block-count-requires
 block-count-requires c κs = search needs
 
--- src/lent.rt:612:9
 codes-of-requires : tie.Need-codes-of-requires
-codes-of-requires c κs = ?
+codes-of-requires c κs =
+    let b = at c in (
+      omega (arith, c .block-count .ensures),
+      narrow b,
+      rw (part-is (s b) (from b), length-drop (from b) (s b))
+          (omega (arith, there b, bytes-fewer (w b) (count c) (rest b) (omega (arith, c .block-count .ensures)))),
+    )
 
--- src/lent.rt:614:21
 slice-aggregate-picked : tie.Need-slice-aggregate-picked
 slice-aggregate-picked c = search needs
 
--- src/lent.rt:614:29
 sub-picked : tie.Need-sub-picked
 sub-picked c = search needs
 
--- src/lent.rt:614:5
 picked-requires : tie.Need-picked-requires
-picked-requires c κs = ?
+picked-requires c κs =
+    let g = c .before .before in
+    let h = here g in
+    let b = at h in
+    let p = start b .pre in
+    let W = start b .args .t .width in
+    let below : Below (2 ^ W) (codes h) = λ k. lt-of-lt-of-le (block-below (w b) (count h) (drop (from b) (s b)) k) (pow-mono (let l : w b ≤ W = omega (arith, width-is b, p .4) in l)) in (
+      p .0,
+      h .before .before .carried .ensures .0,
+      omega (arith, long g, within h),
+      omega (arith, p .2, p .3),
+      rw (upto g) (below-take (2 ^ W) (index h + 1) (codes h) below),
+    )
 
--- src/lent.rt:603:1
 returns : tie.Need-returns
-returns c = ?
+returns c =
+    let g = c .before .before .before in
+    let h = here g in
+    let b = at h in
+    let t = start b .args .t in
+    let before = start b .args .before in
+    let call = h .before .before .carried in
+    let first = blockCodes (w b) (passed b) (s b) in
+    let behind = blockCodes (w b) (rest b) (drop (from b) (s b)) in
+    let more = blockCodes (w b) (rest b - count h) (drop (from b + 4 * w b) (s b)) in
+    let same : SameBehind t (call .result) (lastOf before (patternsAfter t before first)) =
+    λ ds. call .ensures .1 ds ∙ ap (λ (cs : List ℕ). patternsAfter t (lastOf before (patternsAfter t before cs)) ds) (codes-are (passed b) (w b) (s b) (bytes b) (width-is b)) in
+    c .picked .ensures
+    ∙ ap (λ (cs : List ℕ). getD (patternsAfter t (call .result) cs) (index h) 0) (upto g)
+    ∙ sym (ap (λ (cs : List ℕ). getD (patternsAfter t before cs) (i b) 0)
+    (codes-are (n b) (w b) (s b) (bytes b) (width-is b) ∙ ap (λ (k : ℕ). blockCodes (w b) k (s b)) (sym (split b)) ∙ block-split (w b) (passed b) (rest b) (from b) (s b) (bytes b) (whole b))
+    ∙ pattern-behind t before (call .result) first behind (i b) (index h) (let q : i b ≡ length first + index h = omega (arith, length-block (w b) (passed b) (s b)) in q) same
+    ∙ ap (λ (cs : List ℕ). getD (patternsAfter t (call .result) cs) (index h) 0) (next-block (w b) (rest b) (count h) (from b) (s b) (bytes b) (h .block-count .ensures))
+    ∙ pattern-upto t (call .result) (codes h) more (index h) (rw length-block (within h)))
 
 pub value-spec : {M : Type 1} → statement M
 value-spec =

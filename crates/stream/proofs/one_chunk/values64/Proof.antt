@@ -17,7 +17,7 @@ slice-aggregate-read-3 c = search needs
 
 read-requires : tie.Need-read-requires
 unfolding chosen
-read-requires c κs = (refl, le-refl 32)
+read-requires c κs = (refl, le-refl 128)
 
 same-length : tie.Need-same-length
 same-length c = search needs

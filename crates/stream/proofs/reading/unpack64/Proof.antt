@@ -17,7 +17,7 @@ slice-aggregate-unpacked-or-refused-3 c = search needs
 
 unpacked-or-refused-requires : tie.Need-unpacked-or-refused-requires
 unfolding chosen
-unpacked-or-refused-requires c κs = (refl, le-refl 32)
+unpacked-or-refused-requires c κs = (refl, le-refl 128)
 
 same-length : tie.Need-same-length
 same-length c = search needs
