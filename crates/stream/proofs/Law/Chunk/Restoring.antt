@@ -3,22 +3,19 @@
 use mathlib.Core.Path.{_≡_, refl, sym, ap, ap₂, _∙_}
 use mathlib.Core.Bool.{Bool, true, false, cond, false≢true}
 use mathlib.Core.List.{List, [], _++_, map}
-use Prim.Native.Nat.{ℕ, _+_, _-_, _^_, _≤_, _<_, min}
-use native.Mathlib.Nat.{lt-of-lt-of-le, le-trans}
+use Prim.Native.Nat.{ℕ, _+_, _-_, _≤_, _<_, min}
 use native.Mathlib.Omega.{arith}
 use lib.Dec.{eqb}
 use lib.ListN.{length, take, drop, getD, length-take, length-drop, List·getD-append, take-append-drop}
 use lib.Seq.{drop-drop, getD-append-add, length-take-le}
 use Rattle.numbers.specs.Difference.{runningSums, lastOf}
-use lib.Pow.{pow-mono}
-use Rattle.blocks.specs.Bytes.{Below}
 use Rattle.numbers.proofs.Theorems.{no-sums}
 use Rattle.stream.specs.Group.{givenWidth, groupLength, groupCodes, wholeGroup}
 use Rattle.stream.specs.Setting.{patternAt, patternsAfter, patternsOf}
 use Rattle.stream.specs.Lent.{SameBehind}
 use Rattle.stream.specs.Chunk.{chunkCodes, wholeChunk}
 use Rattle.stream.specs.declared.setting.Setting.{Setting}
-use Rattle.stream.proofs.Law.Group.RoundTrip.{codes-below, length-codes}
+use Rattle.stream.proofs.Law.Group.RoundTrip.{length-codes}
 use Rattle.stream.proofs.Law.Chunk.Groups.{codes-step, length-chunk-codes}
 use Rattle.stream.proofs.Law.Setting.Codes.{length-patterns, patterns-append}
 use Rattle.stream.proofs.Law.Chunk.Checking.{part-is}
@@ -98,12 +95,9 @@ module _ (size : ℕ) (some : 0 < size) (W : ℕ) (s : List ℕ) where
     pub next-whole : groupLength count (drop at s) ≤ length (drop at s)
     next-whole = whole-facts W count (drop at s) next-is-there .1
 
-    pub next-below : Below (2 ^ W) (groupCodes count (drop at s))
-    next-below i = lt-of-lt-of-le (codes-below count (drop at s) i) (pow-mono next-wide)
-
     -- the same of the part that is handed on
-    pub part-opens : W ≤ 64 → (givenWidth (take (length s - at) (drop at s)) ≤ 64) × (groupLength count (take (length s - at) (drop at s)) ≤ length (take (length s - at) (drop at s)))
-    part-opens h64 = rw (part-is s at) (le-trans next-wide h64, next-whole)
+    pub part-opens : (givenWidth (take (length s - at) (drop at s)) ≤ W) × (groupLength count (take (length s - at) (drop at s)) ≤ length (take (length s - at) (drop at s)))
+    part-opens = rw (part-is s at) (next-wide, next-whole)
 
     pub goes-on : (k : ℕ) → k ≡ groupLength count (drop at s) → Onward (left - count) (at + k)
     goes-on k l = record {

@@ -5,19 +5,19 @@ use mathlib.Core.Path.{_≡_, refl, sym, ap, ap₂, _∙_, subst}
 use mathlib.Core.Bool.{Bool, true, false, _&&_}
 use mathlib.Core.Logic.{_⊎_, inl, inr}
 use mathlib.Core.List.{List, [], _∷_, _++_, append-nil}
-use Prim.Native.Nat.{ℕ, zero, suc, _+_, _-_, _*_, _/_, _^_, _≤_, _<_, min, max}
-use native.Mathlib.Nat.{le-antisymm, le-max-left, le-max-right, max-le, lt-of-lt-of-le, mul-add, mul-comm, mul-le-mul-left}
+use Prim.Native.Nat.{ℕ, _+_, _-_, _*_, _/_, _^_, _≤_, _<_, min, max}
+use native.Mathlib.Nat.{le-antisymm, le-max-left, le-max-right, max-le, lt-of-lt-of-le, mul-add, mul-le-mul-left}
 use native.Mathlib.Omega.{arith}
 use borrow.Author.Tests.{eq-eqb, ne-eqb, eqb-true, eqb-false}
 use lib.Dec.{leb, eqb}
-use lib.ListN.{length, drop, getD, replicate, length-drop, List·getD-append}
+use lib.ListN.{length, take, drop, replicate, length-take, length-drop, List·getD-append}
 use lib.Pow.{pow-pos, pow-mono, shr-shr}
-use lib.Seq.{drop-drop, getD-append-add}
+use lib.Seq.{take-all, drop-drop, getD-append-add}
 use Rattle.blocks.specs.Bytes.{Below, number, digits}
 use Rattle.numbers.specs.Difference.{runningSums, lastOf}
 use Rattle.numbers.proofs.Theorems.{an-append-carries-on, sums-of-an-append}
 use Rattle.stream.specs.Block.{blockCodes}
-use Rattle.stream.specs.Group.{bytesFor, largest, widthOf, givenWidth, groupLength, groupCodes, within}
+use Rattle.stream.specs.Group.{bytesFor, widthOf, givenWidth, groupLength, groupCodes, within}
 use Rattle.blocks.proofs.Law.Digits.{byte, everywhere, below-append, below-drop, length-digits, digits-below, digits-append, number-drop}
 use Rattle.blocks.proofs.Law.Truth.{le-or-lt}
 use Rattle.blocks.proofs.Law.Words.{pow-pow}
@@ -72,59 +72,60 @@ unfolding bytesFor
 bytes-split w p n f whole = omega (arith, mul-add w p n)
 
 -- 32 codes are 4w bytes
-pub full : (w : ℕ) → w * 32 ≡ 8 * (4 * w)
+full : (w : ℕ) → w * 32 ≡ 8 * (4 * w)
 full w = omega arith
 
--- ---- block by block: `left` codes stand from the byte `from` on
+-- ---- block by block: `left` codes stand from the byte `from` on, and the next `count` of them are a block
 
-module _ (w left count from : ℕ) (s : List ℕ) (bytes : Below 256 s) (is : count ≡ min 32 left) where
-  pub next-block : blockCodes w left (drop from s) ≡ blockCodes w count (drop from s) ++ blockCodes w (left - count) (drop (from + 4 * w) s)
-  next-block = go (le-or-lt left 32)
-    where
-      go : (left ≤ 32) ⊎ (32 < left) → blockCodes w left (drop from s) ≡ blockCodes w count (drop from s) ++ blockCodes w (left - count) (drop (from + 4 * w) s)
-      go (inl h) =
-          let all : left ≡ count = omega arith in
-          let none : left - count ≡ 0 = omega arith in
-          sym (append-nil (blockCodes w left (drop from s)))
-          ∙ ap₂ (λ (k : ℕ) (r : List ℕ). blockCodes w k (drop from s) ++ r) all
-          (sym (ap (λ (k : ℕ). blockCodes w k (drop (from + 4 * w) s)) none ∙ no-block w (drop (from + 4 * w) s)))
-      go (inr h) =
-          let more : left ≡ 32 + (left - count) = omega arith in
-          let first : 32 ≡ count = omega arith in
-          ap (λ (k : ℕ). blockCodes w k (drop from s)) more
-          ∙ block-split w 32 (left - count) (4 * w) (drop from s) (below-drop 256 from s bytes) (full w)
-          ∙ ap₂ (λ (k : ℕ) (r : List ℕ). blockCodes w k (drop from s) ++ blockCodes w (left - count) r) first (drop-drop (4 * w) from s)
+-- The block is read from the part that is lent, which is all from there on. Behind the last block no codes are left, wherever they would stand.
+pub next-block : (w left count from : ℕ) (s : List ℕ) → Below 256 s → count ≡ min 32 left
+    → blockCodes w left (drop from s) ≡ blockCodes w count (take (length s - from) (drop from s)) ++ blockCodes w (left - count) (drop (from + 4 * w) s)
+next-block w left count from s bytes is =
+    go (le-or-lt left 32)
+    ∙ ap (λ (r : List ℕ). blockCodes w count r ++ blockCodes w (left - count) (drop (from + 4 * w) s)) (sym (take-all (length s - from) (drop from s) (rw (length-drop from s) (omega arith))))
+  where
+    go : (left ≤ 32) ⊎ (32 < left) → blockCodes w left (drop from s) ≡ blockCodes w count (drop from s) ++ blockCodes w (left - count) (drop (from + 4 * w) s)
+    go (inl h) =
+        let all : left ≡ count = omega arith in
+        let none : left - count ≡ 0 = omega arith in
+        sym (append-nil (blockCodes w left (drop from s)))
+        ∙ ap₂ (λ (k : ℕ) (r : List ℕ). blockCodes w k (drop from s) ++ r) all
+        (sym (ap (λ (k : ℕ). blockCodes w k (drop (from + 4 * w) s)) none ∙ no-block w (drop (from + 4 * w) s)))
+    go (inr h) =
+        let more : left ≡ 32 + (left - count) = omega arith in
+        let first : 32 ≡ count = omega arith in
+        ap (λ (k : ℕ). blockCodes w k (drop from s)) more
+        ∙ block-split w 32 (left - count) (4 * w) (drop from s) (below-drop 256 from s bytes) (full w)
+        ∙ ap₂ (λ (k : ℕ) (r : List ℕ). blockCodes w k (drop from s) ++ blockCodes w (left - count) r) first (drop-drop (4 * w) from s)
 
--- where the walk stands: the codes that are left are there. Behind the last block nothing is said of the place.
+-- where a walk stands: the codes that are left are there
 pub record Along (w : ℕ) (s : List ℕ) (left from : ℕ) : Type 0 where
   pub few : 0 < left → from + 8 * left ≤ 1024
   pub there : 0 < left → from + bytesFor w left < length s
 
-pub starts-along : (w n : ℕ) (s : List ℕ) → n ≤ 128 → bytesFor w n < length s → Along w s n 0
-starts-along w n s most there = record { few = λ h. omega arith; there = λ h. omega arith }
-
--- from a group's own words
-pub group-along : (w n : ℕ) (s : List ℕ) → n ≤ 128 → w ≡ givenWidth s → groupLength n s ≤ length s → Along w s n 0
+pub starts-along : {w : ℕ} (n : ℕ) {s : List ℕ} → n ≤ 128 → w ≡ givenWidth s → groupLength n s ≤ length s → Along w s n 0
 unfolding groupLength
-group-along w n s most is whole = starts-along w n s most (rw is whole)
+starts-along n most is whole = record { few = λ h. omega arith; there = λ h. rw is (omega arith) }
 
-module _ (w left count from : ℕ) (s : List ℕ) (a : Along w s left from) (some : 0 < left) (is : count ≡ min 32 left) where
-  pub here : from ≤ length s
-  here = omega (arith, a .there some)
+-- what a turn takes: the block is there, and the walk goes on behind it
+pub record Next (w : ℕ) (s : List ℕ) (left count from : ℕ) : Type 0 where
+  pub inside : from ≤ length s
+  pub there : bytesFor w count < length (take (length s - from) (drop from s))
+  pub near : from + 4 * w ≤ 1280
+  pub on : Along w s (left - count) (from + 4 * w)
 
-  pub block-there : bytesFor w count < length (drop from s)
-  block-there = rw (length-drop from s) (omega (arith, a .there some, bytes-fewer w count left (omega arith)))
-
-  pub next-small : w ≤ 64 → from + 4 * w ≤ 1280
-  next-small narrow = omega (arith, a .few some)
-
-  pub goes-along : w ≤ 64 → Along w s (left - count) (from + 4 * w)
-  goes-along narrow = record { few = λ h. omega (arith, a .few some); there = far }
-    where
-      far : 0 < left - count → from + 4 * w + bytesFor w (left - count) < length s
-      far h =
-          let more : 32 + (left - count) ≡ left = omega arith in
-          omega (arith, a .there some, ap (bytesFor w) (sym more) ∙ bytes-split w 32 (left - count) (4 * w) (full w))
+pub next : {w left count from : ℕ} {s : List ℕ} → Along w s left from → 0 < left → count ≡ min 32 left → w ≤ 64 → Next w s left count from
+next {w = w} {left = left} {count = count} {from = from} {s = s} a some is narrow = record {
+  inside = omega (arith, a .there some);
+  there = simp (length-take, length-drop) (omega (arith, a .there some, bytes-fewer w count left (omega arith)));
+  near = omega (arith, a .few some);
+  on = record { few = λ h. omega (arith, a .few some); there = far };
+}
+  where
+    far : 0 < left - count → from + 4 * w + bytesFor w (left - count) < length s
+    far h =
+        let more : 32 + (left - count) ≡ left = omega arith in
+        omega (arith, a .there some, ap (bytesFor w) (sym more) ∙ bytes-split w 32 (left - count) (4 * w) (full w))
 
 -- ---- the width, and the limit, of two lists of codes
 

@@ -1,8 +1,8 @@
 -- `stream::chunk::value` meets its contract. The invariant: the value at `index` of what is left is the value that is asked for.
 use Prim.Native.Nat.{ℕ, _+_, _-_, _^_, _≤_, _<_, min}
-use Rattle.stream.proofs.Law.Chunk.Restoring.{Onward, starts-onward, part-opens, next-wide, goes-on, behind-next, within-next}
+use Rattle.stream.proofs.Law.Chunk.Restoring.{Onward, starts-onward, part-opens, goes-on, behind-next, within-next}
 use Rattle.stream.proofs.Law.Chunk.Whole.{good-whole}
-use Rattle.stream.proofs.Law.Setting.Allowed.{size-some, width-most}
+use Rattle.stream.proofs.Law.Setting.Allowed.{size-some}
 use Rattle.stream.proofs.Law.Chunk.Checking.{part-is}
 use Rattle.stream.specs.Chunk.{chunkCodes}
 use Rattle.stream.specs.Lent.{SameBehind}
@@ -96,18 +96,13 @@ carried-requires : tie.Need-carried-requires Inv-loop μ-loop
 carried-requires c κs =
     let l = c .before .before in
     let p = start l .pre .0 in
-    let far = full l (c .before .loop-test .taken) in (
-      p,
-      l .loop .inv .4,
-      l .before .group-size .ensures .2,
-      rw (part-is (bytes l) (l .loop .at)) (next-wide (groupSize (t l)) (size-some (t l)) (t l .width) (bytes l) (l .loop .left) (l .loop .at) (size l) (l .loop .inv .2) (some-left l) far),
-      part-opens (groupSize (t l)) (size-some (t l)) (t l .width) (bytes l) (l .loop .left) (l .loop .at) (size l) (l .loop .inv .2) (some-left l) far (width-most (t l .width) (p .known)) .1,
-    )
+    let opens = part-opens (groupSize (t l)) (size-some (t l)) (t l .width) (bytes l) (l .loop .left) (l .loop .at) (size l) (l .loop .inv .2) (some-left l) (full l (c .before .loop-test .taken)) in
+    (p, l .loop .inv .4, l .before .group-size .ensures .2, opens .0, opens .1)
 
 group-length-requires : tie.Need-group-length-requires Inv-loop μ-loop
 group-length-requires c κs =
     let l = c .before .before .before .before in
-    (l .before .group-size .ensures .2, part-opens (groupSize (t l)) (size-some (t l)) (t l .width) (bytes l) (l .loop .left) (l .loop .at) (size l) (l .loop .inv .2) (some-left l) (full l (c .before .before .before .loop-test .taken)) (width-most (t l .width) (start l .pre .0 .known)) .1)
+    (l .before .group-size .ensures .2, part-opens (groupSize (t l)) (size-some (t l)) (t l .width) (bytes l) (l .loop .left) (l .loop .at) (size l) (l .loop .inv .2) (some-left l) (full l (c .before .before .before .loop-test .taken)) .1)
 
 add-at : tie.Need-add-at Inv-loop μ-loop
 add-at c = omega (arith, on c .inside, start (turn c) .good)
@@ -146,14 +141,8 @@ group-count-requires c κs = search needs
 value-requires : tie.Need-value-requires Inv-loop μ-loop
 value-requires c κs =
     let l = c .before .before .before in
-    let p = start l .pre .0 in (
-      p,
-      l .loop .inv .4,
-      within c,
-      omega (arith, c .group-count .ensures, l .before .group-size .ensures .2),
-      rw (part-is (bytes l) (l .loop .at)) (next-wide (groupSize (t l)) (size-some (t l)) (t l .width) (bytes l) (l .loop .left) (l .loop .at) (c .group-count .result) (l .loop .inv .2) (some-left l) (count-is c)),
-      part-opens (groupSize (t l)) (size-some (t l)) (t l .width) (bytes l) (l .loop .left) (l .loop .at) (c .group-count .result) (l .loop .inv .2) (some-left l) (count-is c) (width-most (t l .width) (p .known)) .1,
-    )
+    let opens = part-opens (groupSize (t l)) (size-some (t l)) (t l .width) (bytes l) (l .loop .left) (l .loop .at) (c .group-count .result) (l .loop .inv .2) (some-left l) (count-is c) in
+    (start l .pre .0, l .loop .inv .4, within c, omega (arith, c .group-count .ensures, l .before .group-size .ensures .2), opens .0, opens .1)
 
 returns : tie.Need-returns Inv-loop μ-loop
 returns c =

@@ -2,21 +2,20 @@
 -- group has a u above the limit is whether none of the blocks left has.
 -- Assumes nothing.
 use mathlib.Core.Path.{_≡_, sym, ap, _∙_, subst⁻¹}
-use mathlib.Core.Bool.{Bool, true, false, _&&_}
+use mathlib.Core.Bool.{Bool, _&&_}
 use mathlib.Core.List.{List}
-use Prim.Native.Nat.{ℕ, _+_, _*_, _-_, _^_, _≤_}
+use Prim.Native.Nat.{ℕ, _+_, _*_, _-_, _^_}
 use native.Mathlib.Omega.{arith}
 use borrow.Author.Tests.{not-true, not-false}
-use lib.ListN.{length, drop}
+use lib.ListN.{length, take, drop}
 use lib.Pow.{pow-pos}
 use Rattle.blocks.specs.Bytes.{Below}
 use Rattle.stream.specs.Group.{within, groupCodes}
 use Rattle.stream.specs.Block.{blockCodes}
-use Rattle.stream.proofs.Law.Chunk.Checking.{part-is}
 use Rattle.stream.proofs.Law.Group.RoundTrip.{codes-below}
 use Rattle.stream.proofs.Law.Group.Exact.{limited-within}
 use Rattle.stream.proofs.Law.Group.Checking.{high-one, narrow-limited}
-use Rattle.stream.proofs.Law.Group.Blocks.{codes-are, no-block, next-block, Along, group-along, here, block-there, next-small, goes-along, within-append}
+use Rattle.stream.proofs.Law.Group.Blocks.{codes-are, no-block, next-block, Along, starts-along, Next, next, within-append}
 use borrow.Author.Needs.{needs}
 use Rattle.stream.proofs.group_checked.limit_kept.Statement.{statement}
 use Rattle.stream.proofs.group_checked.limit_kept.Tie as tie
@@ -58,8 +57,11 @@ module _ (c : tie.After-block-count Inv-loop μ-loop) where
   abbrev count : ℕ
   count = c .block-count .result
 
-  inside : from ≤ length (s turn)
-  inside = here (w turn) left count from (s turn) (turn .loop .inv .0) (c .before .loop-test .taken) (c .block-count .ensures)
+  abbrev part : List ℕ
+  part = take (length (s turn) - from) (drop from (s turn))
+
+  turns : Next (w turn) (s turn) left count from
+  turns = next (turn .loop .inv .0) (c .before .loop-test .taken) (c .block-count .ensures) (start turn .pre .2)
 
 -- what is asked, by what was found of it
 asked : (c : tie.After-block-limited Inv-loop μ-loop) → let b = c .before .before in
@@ -72,9 +74,8 @@ asked c =
     let rest = blockCodes (w l) (left b - count b) (drop (from b + 4 * w l) (s l)) in
     l .loop .inv .1
     ∙ ap (within (limit l)) (next-block (w l) (left b) (count b) (from b) (s l) (bytes l) (b .block-count .ensures))
-    ∙ within-append (limit l) (blockCodes (w l) (count b) (drop (from b) (s l))) rest
-    ∙ ap (λ (x : Bool). x && within (limit l) rest)
-    (sym (c .block-limited .ensures ∙ ap (λ (r : List ℕ). within (limit l) (blockCodes (w l) (count b) r)) (part-is (s l) (from b))))
+    ∙ within-append (limit l) (blockCodes (w l) (count b) (part b)) rest
+    ∙ ap (λ (x : Bool). x && within (limit l) rest) (sym (c .block-limited .ensures))
 
 sub-if1 : tie.Need-sub-if1 Inv-loop μ-loop
 sub-if1 c = search needs
@@ -98,7 +99,7 @@ loop-holds : tie.Need-loop-holds Inv-loop μ-loop
 loop-holds c =
     let f = c .before .before in
     let a = f .args in (
-      group-along (a .w) (a .n) (a .s .now) (f .pre .0) (f .pre .3) (f .pre .4),
+      starts-along (a .n) (f .pre .0) (f .pre .3) (f .pre .4),
       ap (within (a .limit)) (codes-are (a .n) (a .w) (a .s .now) (λ i. c .before .shared-slice-known .given i .fits) (f .pre .3)),
     )
 
@@ -106,10 +107,10 @@ block-count-requires : tie.Need-block-count-requires Inv-loop μ-loop
 block-count-requires c κs = search needs
 
 sub-block-limited : tie.Need-sub-block-limited Inv-loop μ-loop
-sub-block-limited c = inside c
+sub-block-limited c = turns c .inside
 
 part-block-limited-start : tie.Need-part-block-limited-start Inv-loop μ-loop
-part-block-limited-start c = inside c
+part-block-limited-start c = turns c .inside
 
 part-block-limited-end : tie.Need-part-block-limited-end Inv-loop μ-loop
 part-block-limited-end c = search needs
@@ -121,7 +122,7 @@ block-limited-requires c κs =
       omega (arith, b .block-count .ensures),
       start l .pre .1,
       start l .pre .2,
-      rw (part-is (s l) (from b)) (block-there (w l) (left b) (count b) (from b) (s l) (l .loop .inv .0) (b .before .loop-test .taken) (b .block-count .ensures)),
+      turns b .there,
     )
 
 returns-2 : tie.Need-returns-2 Inv-loop μ-loop
@@ -134,10 +135,7 @@ mul-from : tie.Need-mul-from Inv-loop μ-loop
 mul-from c = omega (arith, start (turn (c .before .before .before)) .pre .2)
 
 add-from : tie.Need-add-from Inv-loop μ-loop
-add-from c =
-    let b = c .before .before .before in
-    let l = turn b in
-    omega (arith, next-small (w l) (left b) (count b) (from b) (s l) (l .loop .inv .0) (b .before .loop-test .taken) (b .block-count .ensures) (start l .pre .2))
+add-from c = omega (arith, turns (c .before .before .before) .near)
 
 sub-left : tie.Need-sub-left Inv-loop μ-loop
 sub-left c = let b = c .before .before .before in omega (arith, b .block-count .ensures)
@@ -149,7 +147,7 @@ loop-again : tie.Need-loop-again Inv-loop μ-loop
 loop-again c =
     let b = c .before .before .before in
     let l = turn b in (
-      goes-along (w l) (left b) (count b) (from b) (s l) (l .loop .inv .0) (b .before .loop-test .taken) (b .block-count .ensures) (start l .pre .2),
+      turns b .on,
       asked (c .before) ∙ ap (λ (x : Bool). x && within (limit l) (blockCodes (w l) (left b - count b) (drop (from b + 4 * w l) (s l)))) (not-false (c .before .block-limited .result) (c .if2 .left)),
     )
 

@@ -2,15 +2,14 @@
 -- Assumes nothing.
 use mathlib.Core.Path.{_≡_, sym, ap, _∙_}
 use mathlib.Core.List.{List, _++_}
-use Prim.Native.Nat.{ℕ, _+_, _*_, _-_, _≤_}
+use Prim.Native.Nat.{ℕ, _+_, _*_, _-_}
 use native.Mathlib.Omega.{arith}
 use lib.Dec.{eqb}
-use lib.ListN.{length, drop}
+use lib.ListN.{length, take, drop}
 use Rattle.blocks.specs.Bytes.{Below}
 use Rattle.stream.specs.Group.{widthOf, groupCodes}
 use Rattle.stream.specs.Block.{blockCodes}
-use Rattle.stream.proofs.Law.Chunk.Checking.{part-is}
-use Rattle.stream.proofs.Law.Group.Blocks.{codes-are, block-below, no-block, next-block, Along, group-along, here, block-there, next-small, goes-along, reached-here, reached-later, none-reached}
+use Rattle.stream.proofs.Law.Group.Blocks.{codes-are, block-below, no-block, next-block, Along, starts-along, Next, next, reached-here, reached-later, none-reached}
 use borrow.Author.Needs.{needs}
 use Rattle.stream.proofs.group_checked.smallest.Statement.{statement}
 use Rattle.stream.proofs.group_checked.smallest.Tie as tie
@@ -49,11 +48,14 @@ module _ (c : tie.After-block-count Inv-loop μ-loop) where
   abbrev count : ℕ
   count = c .block-count .result
 
-  inside : from ≤ length (s turn)
-  inside = here (w turn) left count from (s turn) (turn .loop .inv .0) (c .before .loop-test .taken) (c .block-count .ensures)
+  abbrev part : List ℕ
+  part = take (length (s turn) - from) (drop from (s turn))
+
+  turns : Next (w turn) (s turn) left count from
+  turns = next (turn .loop .inv .0) (c .before .loop-test .taken) (c .block-count .ensures) (start turn .pre .2)
 
   abbrev codes : List ℕ
-  codes = blockCodes (w turn) count (drop from (s turn))
+  codes = blockCodes (w turn) count part
 
   abbrev rest : List ℕ
   rest = blockCodes (w turn) (left - count) (drop (from + 4 * w turn) (s turn))
@@ -62,17 +64,11 @@ module _ (c : tie.After-block-count Inv-loop μ-loop) where
   asked : eqb (w turn) (widthOf (groupCodes (start turn .args .n) (s turn))) ≡ eqb (w turn) (widthOf (codes ++ rest))
   asked = turn .loop .inv .1 ∙ ap (λ (cs : List ℕ). eqb (w turn) (widthOf cs)) (next-block (w turn) left count from (s turn) (bytes turn) (c .block-count .ensures))
 
--- what was found of it
-found : (c : tie.After-block-reached Inv-loop μ-loop) → let b = c .before .before in c .block-reached .result ≡ eqb (w (turn b)) (widthOf (codes b))
-found c =
-    let b = c .before .before in
-    c .block-reached .ensures ∙ ap (λ (r : List ℕ). eqb (w (turn b)) (widthOf (blockCodes (w (turn b)) (count b) r))) (part-is (s (turn b)) (from b))
-
 loop-holds : tie.Need-loop-holds Inv-loop μ-loop
 loop-holds c =
     let f = c .before in
     let a = f .args in (
-      group-along (a .w) (a .n) (a .s .now) (f .pre .0) (f .pre .3) (f .pre .4),
+      starts-along (a .n) (f .pre .0) (f .pre .3) (f .pre .4),
       ap (λ (cs : List ℕ). eqb (a .w) (widthOf cs)) (codes-are (a .n) (a .w) (a .s .now) (λ i. c .shared-slice-known .given i .fits) (f .pre .3)),
     )
 
@@ -80,10 +76,10 @@ block-count-requires : tie.Need-block-count-requires Inv-loop μ-loop
 block-count-requires c κs = search needs
 
 sub-block-reached : tie.Need-sub-block-reached Inv-loop μ-loop
-sub-block-reached c = inside c
+sub-block-reached c = turns c .inside
 
 part-block-reached-start : tie.Need-part-block-reached-start Inv-loop μ-loop
-part-block-reached-start c = inside c
+part-block-reached-start c = turns c .inside
 
 part-block-reached-end : tie.Need-part-block-reached-end Inv-loop μ-loop
 part-block-reached-end c = search needs
@@ -95,7 +91,7 @@ block-reached-requires c κs =
       omega (arith, b .block-count .ensures),
       start l .pre .1,
       start l .pre .2,
-      rw (part-is (s l) (from b)) (block-there (w l) (left b) (count b) (from b) (s l) (l .loop .inv .0) (b .before .loop-test .taken) (b .block-count .ensures)),
+      turns b .there,
     )
 
 returns : tie.Need-returns Inv-loop μ-loop
@@ -103,17 +99,14 @@ returns c =
     let b = c .before .before .before in
     let l = turn b in
     sym (asked b
-    ∙ reached-here (w l) (codes b) (rest b) (block-below (w l) (count b) (drop (from b) (s l))) (block-below (w l) (left b - count b) (drop (from b + 4 * w l) (s l)))
-    (sym (found (c .before)) ∙ c .if1 .taken))
+    ∙ reached-here (w l) (codes b) (rest b) (block-below (w l) (count b) (part b)) (block-below (w l) (left b - count b) (drop (from b + 4 * w l) (s l)))
+    (sym (c .before .block-reached .ensures) ∙ c .if1 .taken))
 
 mul-from : tie.Need-mul-from Inv-loop μ-loop
 mul-from c = omega (arith, start (turn (c .before .before .before)) .pre .2)
 
 add-from : tie.Need-add-from Inv-loop μ-loop
-add-from c =
-    let b = c .before .before .before in
-    let l = turn b in
-    omega (arith, next-small (w l) (left b) (count b) (from b) (s l) (l .loop .inv .0) (b .before .loop-test .taken) (b .block-count .ensures) (start l .pre .2))
+add-from c = omega (arith, turns (c .before .before .before) .near)
 
 sub-left : tie.Need-sub-left Inv-loop μ-loop
 sub-left c = let b = c .before .before .before in omega (arith, b .block-count .ensures)
@@ -125,8 +118,8 @@ loop-again : tie.Need-loop-again Inv-loop μ-loop
 loop-again c =
     let b = c .before .before .before in
     let l = turn b in (
-      goes-along (w l) (left b) (count b) (from b) (s l) (l .loop .inv .0) (b .before .loop-test .taken) (b .block-count .ensures) (start l .pre .2),
-      asked b ∙ reached-later (w l) (codes b) (rest b) (block-below (w l) (count b) (drop (from b) (s l))) (sym (found (c .before)) ∙ c .if1 .left),
+      turns b .on,
+      asked b ∙ reached-later (w l) (codes b) (rest b) (block-below (w l) (count b) (part b)) (sym (c .before .block-reached .ensures) ∙ c .if1 .left),
     )
 
 returns-2 : tie.Need-returns-2 Inv-loop μ-loop

@@ -6,7 +6,6 @@ use Prim.Native.Nat.{ℕ, _*_, _/_, _^_, _≤_}
 use native.Mathlib.Nat.{mul-le-mul}
 use native.Mathlib.Omega.{arith}
 use Rattle.blocks.specs.Bytes.{number, digits}
-use Rattle.stream.specs.Group.{bytesFor}
 use Rattle.stream.specs.Block.{blockCodes}
 use Rattle.stream.proofs.Law.Group.Reading.{take-replicate}
 use Rattle.stream.proofs.Law.Group.Blocks.{zero-block}

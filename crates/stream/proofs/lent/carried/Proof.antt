@@ -5,15 +5,14 @@ use mathlib.Core.Path.{_≡_, sym, ap, _∙_}
 use Prim.Native.Nat.{ℕ, _+_, _*_, _-_, _^_, _≤_, _<_}
 use native.Mathlib.Nat.{le-trans}
 use native.Mathlib.Omega.{arith}
-use lib.ListN.{length, drop}
+use lib.ListN.{length, take, drop}
 use Rattle.blocks.specs.Bytes.{Below}
 use Rattle.numbers.specs.Difference.{runningSums, lastOf}
 use Rattle.numbers.proofs.Theorems.{no-sums, nothing-carries-on}
 use Rattle.stream.specs.Group.{givenWidth, groupLength, groupCodes}
 use Rattle.stream.specs.Block.{blockCodes}
 use Rattle.stream.specs.Setting.{patternsAfter}
-use Rattle.stream.proofs.Law.Chunk.Checking.{part-is}
-use Rattle.stream.proofs.Law.Group.Blocks.{codes-are, no-block, next-block, Along, group-along, here, block-there, next-small, goes-along, carry-append}
+use Rattle.stream.proofs.Law.Group.Blocks.{codes-are, no-block, next-block, Along, starts-along, Next, next, carry-append}
 use Rattle.stream.proofs.Law.Setting.Allowed.{width-most}
 use Rattle.stream.proofs.Law.Setting.Codes.{any-before, patterns-by-sum}
 use borrow.Author.Needs.{needs}
@@ -69,8 +68,11 @@ module _ (c : tie.After-block-count Inv-loop μ-loop) where
   abbrev count : ℕ
   count = c .block-count .result
 
-  inside : from ≤ length (s turn)
-  inside = here (w turn) left count from (s turn) (turn .loop .inv .0) (c .before .loop-test .taken) (c .block-count .ensures)
+  abbrev part : List ℕ
+  part = take (length (s turn) - from) (drop from (s turn))
+
+  turns : Next (w turn) (s turn) left count from
+  turns = next (turn .loop .inv .0) (c .before .loop-test .taken) (c .block-count .ensures) (narrow turn)
 
 returns : tie.Need-returns Inv-loop μ-loop
 returns c = let f = c .before .before .before in (f .pre .1, λ cs. any-before (f .args .t) _ _ cs (c .if1 .taken))
@@ -86,7 +88,7 @@ loop-holds : tie.Need-loop-holds Inv-loop μ-loop
 loop-holds c =
     let f = c .before .before .before .before .before in
     let a = f .args in (
-      group-along (c .wide .result) (a .n) (a .s .now) (f .pre .2) (width-is c) (f .pre .4),
+      starts-along (a .n) (f .pre .2) (width-is c) (f .pre .4),
       f .pre .1,
       ap (λ (cs : List ℕ). lastOf (a .before) (runningSums (a .t .width) (a .before) cs))
           (codes-are (a .n) (c .wide .result) (a .s .now) (λ i. c .before .before .before .before .shared-slice-known .given i .fits) (width-is c)),
@@ -96,10 +98,10 @@ block-count-requires : tie.Need-block-count-requires Inv-loop μ-loop
 block-count-requires c κs = search needs
 
 sub-block-sum : tie.Need-sub-block-sum Inv-loop μ-loop
-sub-block-sum c = inside c
+sub-block-sum c = turns c .inside
 
 part-block-sum-start : tie.Need-part-block-sum-start Inv-loop μ-loop
-part-block-sum-start c = inside c
+part-block-sum-start c = turns c .inside
 
 part-block-sum-end : tie.Need-part-block-sum-end Inv-loop μ-loop
 part-block-sum-end c = search needs
@@ -112,17 +114,14 @@ block-sum-requires c κs =
       l .loop .inv .1,
       omega (arith, b .block-count .ensures),
       under l,
-      rw (part-is (s l) (from b)) (block-there (w l) (left b) (count b) (from b) (s l) (l .loop .inv .0) (b .before .loop-test .taken) (b .block-count .ensures)),
+      turns b .there,
     )
 
 mul-from : tie.Need-mul-from Inv-loop μ-loop
 mul-from c = omega (arith, narrow (turn (c .before .before)))
 
 add-from : tie.Need-add-from Inv-loop μ-loop
-add-from c =
-    let b = c .before .before in
-    let l = turn b in
-    omega (arith, next-small (w l) (left b) (count b) (from b) (s l) (l .loop .inv .0) (b .before .loop-test .taken) (b .block-count .ensures) (narrow l))
+add-from c = omega (arith, turns (c .before .before) .near)
 
 sub-left : tie.Need-sub-left Inv-loop μ-loop
 sub-left c = let b = c .before .before in omega (arith, b .block-count .ensures)
@@ -135,14 +134,13 @@ loop-again c =
     let b = c .before .before in
     let l = turn b in
     let last = l .loop .last in
-    let codes = blockCodes (w l) (count b) (drop (from b) (s l)) in
+    let codes = blockCodes (w l) (count b) (part b) in
     let rest = blockCodes (w l) (left b - count b) (drop (from b + 4 * w l) (s l)) in (
-      goes-along (w l) (left b) (count b) (from b) (s l) (l .loop .inv .0) (b .before .loop-test .taken) (b .block-count .ensures) (narrow l),
+      turns b .on,
       c .block-sum .ensures .0,
       l .loop .inv .2
           ∙ ap (λ (cs : List ℕ). lastOf last (runningSums (W l) last cs)) (next-block (w l) (left b) (count b) (from b) (s l) (bytes l) (b .block-count .ensures))
-          ∙ carry-append (W l) last (c .block-sum .result) codes rest
-          (c .block-sum .ensures .1 ∙ ap (λ (r : List ℕ). lastOf last (runningSums (W l) last (blockCodes (w l) (count b) r))) (part-is (s l) (from b))),
+          ∙ carry-append (W l) last (c .block-sum .result) codes rest (c .block-sum .ensures .1),
     )
 
 returns-2 : tie.Need-returns-2 Inv-loop μ-loop

@@ -1,6 +1,6 @@
 -- `stream::lent::read_codes32` meets its contract. The invariant: the codes of the blocks passed stand in the output, and those of the blocks left are to come.
 use mathlib.Core.Path.{_≡_, sym, ap, subst, _∙_}
-use mathlib.Core.List.{List, [], _++_}
+use mathlib.Core.List.{List, _++_}
 use Prim.Native.Nat.{ℕ, _+_, _*_, _-_, _≤_, _<_, min}
 use native.Mathlib.Nat.{zero-add}
 use native.Mathlib.Omega.{arith}
@@ -8,9 +8,8 @@ use lib.ListN.{length, take, drop, length-take, length-drop}
 use Rattle.blocks.specs.Bytes.{Below}
 use Rattle.stream.specs.Group.{givenWidth, groupLength}
 use Rattle.stream.specs.Block.{blockCodes}
-use Rattle.stream.proofs.Law.Chunk.Checking.{part-is}
 use Rattle.stream.proofs.Law.Plain.Appended.{Appended, nothing-yet, same-room, one-piece, all-there}
-use Rattle.stream.proofs.Law.Group.Blocks.{codes-are, length-block, no-block, next-block, Along, group-along, here, block-there, next-small, goes-along}
+use Rattle.stream.proofs.Law.Group.Blocks.{codes-are, length-block, no-block, next-block, Along, starts-along, Next, next}
 use borrow.Author.Needs.{needs}
 use Rattle.stream.proofs.lent.read_codes32.Statement.{statement}
 use Rattle.stream.proofs.lent.read_codes32.Tie as tie
@@ -69,8 +68,11 @@ module _ (c : tie.After-block-count Inv-loop μ-loop) where
   count-is : count ≡ min 32 (left turn)
   count-is = omega (arith, place turn, c .block-count .ensures)
 
-  inside : from ≤ length (s turn)
-  inside = here (w turn) (left turn) count from (s turn) (turn .loop .inv .2) some count-is
+  abbrev part : List ℕ
+  part = take (length (s turn) - from) (drop from (s turn))
+
+  turns : Next (w turn) (s turn) (left turn) count from
+  turns = next (turn .loop .inv .2) some count-is (omega (arith, narrow turn))
 
 shared-slice-read-wide : tie.Need-shared-slice-read-wide Inv-loop μ-loop
 unfolding groupLength
@@ -86,7 +88,7 @@ loop-holds c =
     let w = c .wide .result in (
       a .n,
       zero-add (a .n),
-      group-along w (a .n) (a .s .now) (f .pre .0) (width-is c) (f .pre .3),
+      starts-along (a .n) (f .pre .0) (width-is c) (f .pre .3),
       nothing-yet (blockCodes w (a .n) (a .s .now)) (a .out .now) (rw length-block (f .pre .4)),
     )
 
@@ -97,10 +99,10 @@ block-count-requires : tie.Need-block-count-requires Inv-loop μ-loop
 block-count-requires c κs = search needs
 
 sub-read-block32 : tie.Need-sub-read-block32 Inv-loop μ-loop
-sub-read-block32 c = inside c
+sub-read-block32 c = turns c .inside
 
 part-read-block32-start : tie.Need-part-read-block32-start Inv-loop μ-loop
-part-read-block32-start c = inside c
+part-read-block32-start c = turns c .inside
 
 part-read-block32-end : tie.Need-part-read-block32-end Inv-loop μ-loop
 part-read-block32-end c = search needs
@@ -124,7 +126,7 @@ read-block32-requires c κs =
       omega (arith, b .block-count .ensures),
       omega (arith, width-is (l .before), start l .pre .1),
       narrow l,
-      rw (part-is (s l) (from b)) (block-there (w l) (left l) (count b) (from b) (s l) (l .loop .inv .2) (some b) (count-is b)),
+      turns b .there,
       rw (length-take, length-drop) (omega (arith, place l, room l, start l .pre .4, count-is b)),
     )
 
@@ -132,10 +134,7 @@ mul-from : tie.Need-mul-from Inv-loop μ-loop
 mul-from c = omega (arith, narrow (turn (c .before .before .before .before .before)))
 
 add-from : tie.Need-add-from Inv-loop μ-loop
-add-from c =
-    let b = c .before .before .before .before .before in
-    let l = turn b in
-    omega (arith, next-small (w l) (left l) (count b) (from b) (s l) (l .loop .inv .2) (some b) (count-is b) (omega (arith, narrow l)))
+add-from c = omega (arith, turns (c .before .before .before .before .before) .near)
 
 add-done : tie.Need-add-done Inv-loop μ-loop
 add-done c = let b = c .before .before .before .before .before in omega (arith, place (turn b), count-is b, start (turn b) .pre .0)
@@ -147,15 +146,14 @@ loop-again : tie.Need-loop-again Inv-loop μ-loop
 loop-again c =
     let b = c .before .before .before .before .before in
     let l = turn b in
-    let codes = blockCodes (w l) (count b) (drop (from b) (s l)) in (
+    let codes = blockCodes (w l) (count b) (part b) in (
       left l - count b,
       omega (arith, place l, count-is b),
-      goes-along (w l) (left l) (count b) (from b) (s l) (l .loop .inv .2) (some b) (count-is b) (omega (arith, narrow l)),
+      turns b .on,
       one-piece _ _ _ _ _ (l .loop .inv .3) codes (blockCodes (w l) (left l - count b) (drop (from b + 4 * w l) (s l))) _ (count b)
           (next-block (w l) (left l) (count b) (from b) (s l) (bytes l) (count-is b))
-          (sym (length-block (w l) (count b) (drop (from b) (s l))))
-          (c .before .before .read-block32 .ensures
-          ∙ ap (λ (r : List ℕ). blockCodes (w l) (count b) r ++ drop (count b) (take (length (l .loop .out) - l .loop .done) (drop (l .loop .done) (l .loop .out)))) (part-is (s l) (from b))),
+          (sym (length-block (w l) (count b) (part b)))
+          (c .before .before .read-block32 .ensures),
     )
 
 same-length : tie.Need-same-length Inv-loop μ-loop

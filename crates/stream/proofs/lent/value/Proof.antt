@@ -1,20 +1,19 @@
 -- `stream::lent::value` meets its contract: the codes before the index's block count by the pattern that they end with, and those behind the index for nothing.
 use mathlib.Core.List.{List}
 use mathlib.Core.Path.{_≡_, sym, ap, _∙_}
-use Prim.Native.Nat.{ℕ, _+_, _*_, _-_, _/_, _^_, _≤_, _<_, min}
-use native.Mathlib.Nat.{le-trans, lt-of-lt-of-le, mul-comm, mul-assoc, mul-le-mul}
+use Prim.Native.Nat.{ℕ, _+_, _*_, _-_, _/_, _^_, _≤_, _<_}
+use native.Mathlib.Nat.{lt-of-lt-of-le, mul-comm, mul-assoc, mul-le-mul}
 use native.Mathlib.Omega.{arith}
-use lib.ListN.{length, take, drop, getD, length-drop}
+use lib.ListN.{length, take, drop, getD, length-take, length-drop}
 use lib.Pow.{pow-mono}
 use lib.Seq.{take-take}
 use Rattle.blocks.specs.Bytes.{Below}
 use Rattle.blocks.proofs.Law.Digits.{below-take}
 use Rattle.numbers.specs.Difference.{lastOf}
-use Rattle.stream.specs.Group.{bytesFor, givenWidth, groupLength, groupCodes}
+use Rattle.stream.specs.Group.{bytesFor, givenWidth, groupLength}
 use Rattle.stream.specs.Block.{blockCodes}
 use Rattle.stream.specs.Lent.{SameBehind}
 use Rattle.stream.specs.Setting.{patternsAfter}
-use Rattle.stream.proofs.Law.Chunk.Checking.{part-is}
 use Rattle.stream.proofs.Law.Chunk.Restoring.{long-enough, pattern-upto, pattern-behind}
 use Rattle.stream.proofs.Law.Group.Blocks.{codes-are, length-block, block-below, block-split, bytes-fewer, bytes-split, next-block}
 use Rattle.stream.proofs.Law.Setting.Allowed.{width-most}
@@ -95,21 +94,18 @@ module _ (c : tie.After-block-count) where
   within = omega (arith, c .block-count .ensures, start at .pre .2)
 
   abbrev codes : List ℕ
-  codes = blockCodes (w at) count (drop (from at) (s at))
+  codes = blockCodes (w at) count (take (length (s at) - from at) (drop (from at) (s at)))
 
 module _ (c : tie.After-codes-of) where
   abbrev here : tie.After-block-count
   here = c .before
 
-  opened : take (count here) (c .codes-of .result .codes) ≡ codes here
-  opened = c .codes-of .ensures .1 ∙ ap (blockCodes (w (at here)) (count here)) (part-is (s (at here)) (from (at here)))
-
   upto : take (index here + 1) (c .codes-of .result .codes) ≡ take (index here + 1) (codes here)
   upto =
-      sym (take-take (index here + 1) (count here) (c .codes-of .result .codes) (omega (arith, within here))) ∙ ap (take (index here + 1)) opened
+      sym (take-take (index here + 1) (count here) (c .codes-of .result .codes) (omega (arith, within here))) ∙ ap (take (index here + 1)) (c .codes-of .ensures .1)
 
   long : count here ≤ length (c .codes-of .result .codes)
-  long = long-enough (count here) (c .codes-of .result .codes) (codes here) opened (length-block (w (at here)) (count here) (drop (from (at here)) (s (at here))))
+  long = long-enough (count here) (c .codes-of .result .codes) (codes here) (c .codes-of .ensures .1) (length-block (w (at here)) (count here) _)
 
 shared-slice-read-wide : tie.Need-shared-slice-read-wide
 unfolding groupLength
@@ -154,7 +150,7 @@ codes-of-requires c κs =
     let b = at c in (
       omega (arith, c .block-count .ensures),
       narrow b,
-      rw (part-is (s b) (from b), length-drop (from b) (s b))
+      simp (length-take, length-drop)
           (omega (arith, there b, bytes-fewer (w b) (count c) (rest b) (omega (arith, c .block-count .ensures)))),
     )
 
@@ -171,7 +167,7 @@ picked-requires c κs =
     let b = at h in
     let p = start b .pre in
     let W = start b .args .t .width in
-    let below : Below (2 ^ W) (codes h) = λ k. lt-of-lt-of-le (block-below (w b) (count h) (drop (from b) (s b)) k) (pow-mono (let l : w b ≤ W = omega (arith, width-is b, p .4) in l)) in (
+    let below : Below (2 ^ W) (codes h) = λ k. lt-of-lt-of-le (block-below (w b) (count h) _ k) (pow-mono (let l : w b ≤ W = omega (arith, width-is b, p .4) in l)) in (
       p .0,
       h .before .before .carried .ensures .0,
       omega (arith, long g, within h),
