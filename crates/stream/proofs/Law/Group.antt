@@ -4,6 +4,7 @@
 --   LowestFirst: the same bytes bit by bit, as document 01 puts it
 --   Whole: groups of whole bytes
 --   Width: the bit length of the largest code
+--   Parts: a group in parts, of which all but the last are full
 --   Reading: where the codes stand in the bytes
 --   Blocks: a group's codes block by block
 --   Checking: the rules of refusal 10
@@ -12,6 +13,7 @@ pub mod Exact
 pub mod LowestFirst
 pub mod Whole
 pub mod Width
+pub mod Parts
 pub mod Writing
 pub mod Reading
 pub mod Blocks

@@ -32,7 +32,7 @@ size-join x a b ha hb within =
 size-or : (a b : ℕ) → size (bitOr a b) ≡ max (size a) (size b)
 size-or a b = size-join (bitOr a b) a b (le-or a b) (subst (λ (x : ℕ). b ≤ x) (or-comm b a) (le-or b a)) (λ m. or-lt m a b)
 
-size-max : (a b : ℕ) → size (max a b) ≡ max (size a) (size b)
+pub size-max : (a b : ℕ) → size (max a b) ≡ max (size a) (size b)
 size-max a b = size-join (max a b) a b (le-max-left a b) (le-max-right a b) (λ m ha hb. omega arith)
 
 largest-snoc : (xs : List ℕ) (c : ℕ) → largest (xs ++ (c ∷ [])) ≡ max (largest xs) c

@@ -16,7 +16,7 @@ use Rattle.stream.specs.Writing.{piece, pieceBytes}
 use Rattle.stream.specs.declared.setting.Setting.{Setting}
 use Rattle.stream.proofs.Law.Lent.Chosen.{at-32, at-other, chosen-below, chosen-piece}
 use Rattle.stream.proofs.Law.Plain.Mapped.{map-take, map-drop, part-taken}
-use Rattle.stream.proofs.Law.Setting.Allowed.{size-some, one-block}
+use Rattle.stream.proofs.Law.Setting.Allowed.{size-some, one-block, four-blocks}
 use Rattle.stream.proofs.Law.Chunk.BytesLeft.{chunk-small}
 use Rattle.stream.proofs.Law.Setting.Codes.{codes-each, codes-by-difference, length-codes-after}
 use Rattle.stream.proofs.Law.Setting.Widths.{width-bytes}
@@ -55,7 +55,7 @@ module _ (t : Setting) (v32 v64 : List ℕ) where
 
   -- they are those of the list of the width, by mode
   module _ (narrow : t .width ≡ 32) where
-    lent-32 : codesOf t v32 ≡ lentCodes t v32 v64
+    pub lent-32 : codesOf t v32 ≡ lentCodes t v32 v64
     lent-32 = ap (codesOf t) (sym (at-32 (t .width) v32 v64 narrow)) ∙ sym lent-are
 
     pub each-32 : (t .mode ≡ 2 → ⊥) → map (codeAt t) v32 ≡ lentCodes t v32 v64
@@ -65,7 +65,7 @@ module _ (t : Setting) (v32 v64 : List ℕ) where
     differences-32 e = ap (λ (w : ℕ). differenceCodes w 0 v32) (sym narrow) ∙ sym (codes-by-difference t 0 v32 e) ∙ lent-32
 
   module _ (wide : t .width ≡ 64) where
-    lent-64 : codesOf t v64 ≡ lentCodes t v32 v64
+    pub lent-64 : codesOf t v64 ≡ lentCodes t v32 v64
     lent-64 = ap (codesOf t) (sym (at-other (t .width) v32 v64 (λ e. omega arith))) ∙ sym lent-are
 
     pub each-64 : (t .mode ≡ 2 → ⊥) → map (codeAt t) v64 ≡ lentCodes t v32 v64
@@ -81,18 +81,26 @@ module _ (t : Setting) (v32 v64 : List ℕ) where
       let b = width-bytes (t .width) known in
       rw lent-are (chunk-small (groupSize t) (size-some t) t (b .bytes) (chosen (t .width) v32 v64) (b .whole) (b .few) (b .format) (chosen-below (t .width) v32 v64 known under-32 under-64) few)
 
--- a full group from `at` on, of r codes: where it lies, how many codes it has, and which
-module _ (t : Setting) (at r : ℕ) (is : r ≡ groupSize t) where
-  pub full-fits : (n long : ℕ) → n ≡ long → at + groupSize t ≤ n → at + groupSize t ≤ 1024 → (at ≤ at + r) × (at + r ≤ at + 32) × (at + r ≤ long) × (at + r ≤ 1024)
-  full-fits n long e h l = let o = one-block t in (omega arith, omega arith, omega arith, omega arith)
+-- the full group from `at` on, of one block: where it lies, how many codes it has, and which
+module _ (t : Setting) (at : ℕ) (short : t .size ≡ 128 → ⊥) where
+  pub full-fits : (n long : ℕ) → n ≡ long → at + groupSize t ≤ n → at + groupSize t ≤ 1024 → (at ≤ at + 32) × (at + 32 ≤ at + 32) × (at + 32 ≤ long) × (at + 32 ≤ 1024)
+  full-fits n long e h l = let o = one-block t short in (omega arith, omega arith, omega arith, omega arith)
 
-  pub full-count : (count : ℕ) → count ≡ at + r - at → count ≡ 32
-  full-count count e = let o = one-block t in omega arith
+  pub full-count : (count : ℕ) → count ≡ at + 32 - at → count ≡ 32
+  full-count count e = omega arith
 
-  pub full-codes : (count : ℕ) (codes cs lent : List ℕ) → take count codes ≡ take (at + r - at) (drop at cs) → cs ≡ lent
+  pub full-codes : (count : ℕ) (codes cs lent : List ℕ) → take count codes ≡ take (at + 32 - at) (drop at cs) → cs ≡ lent
       → take count codes ≡ take (groupSize t) (drop at lent)
   full-codes count codes cs lent e same =
-      e ∙ ap₂ (λ (n : ℕ) (l : List ℕ). take n (drop at l)) (let q : at + r - at ≡ groupSize t = omega arith in q) same
+      e ∙ ap₂ (λ (n : ℕ) (l : List ℕ). take n (drop at l)) (let o = one-block t short in let q : at + 32 - at ≡ groupSize t = omega arith in q) same
+
+-- and of four
+module _ (t : Setting) (at : ℕ) (long : t .size ≡ 128) where
+  pub long-fits : (n : ℕ) → at + groupSize t ≤ n → at + groupSize t ≤ 1024 → (at ≤ at + 128) × (at + 128 ≤ at + 128) × (at + 128 ≤ n) × (at + 128 ≤ 1024)
+  long-fits n h l = let o = four-blocks t long in (omega arith, omega arith, omega arith, omega arith)
+
+  pub long-part : (cs : List ℕ) → take (at + 128 - at) (drop at cs) ≡ take (groupSize t) (drop at cs)
+  long-part cs = ap (λ (n : ℕ). take n (drop at cs)) (let o = four-blocks t long in let q : at + 128 - at ≡ groupSize t = omega arith in q)
 
 -- the list of the width is as long as all that is lent
 module _ (W : ℕ) (v32 v64 : List ℕ) where

@@ -1,10 +1,11 @@
 -- A list of bytes written piece by piece over what was there: what is left to write decides how far it has come.
 use mathlib.Core.Path.{_≡_, refl, sym, ap, ap₂, subst, _∙_}
-use mathlib.Core.List.{List, [], _++_, append-assoc, append-nil}
+use mathlib.Core.List.{List, [], _∷_, _++_, append-assoc, append-nil}
 use Prim.Native.Nat.{ℕ, _+_, _-_, _≤_}
 use native.Mathlib.Nat.{zero-add}
+use native.Mathlib.Numerals.{one-add}
 use native.Mathlib.Omega.{arith}
-use lib.ListN.{length, take, drop, length-append, length-drop, drop-of-length-le}
+use lib.ListN.{length, take, drop, set, length-append, length-drop, drop-of-length-le}
 use lib.Seq.{take-at, drop-at, drop-drop, take-all, take-add, length-take-le}
 use borrow.Rule.Slice.PartMut.{putMid}
 use Rattle.numbers.specs.Difference.{lastOf}
@@ -44,6 +45,26 @@ pub record Appended (all rest base out : List ℕ) (put : ℕ) : Type 0 where
 
 pub nothing-yet : (all base : List ℕ) → length all ≤ length base → Appended all all base base 0
 nothing-yet all base h = record { whole = zero-add (length all); left = refl; out-is = refl; room = h }
+
+-- the first piece, written over the front
+pub first-piece : (piece more base out : List ℕ) (r : ℕ) → length (piece ++ more) ≤ length base → r ≡ length piece → out ≡ piece ++ drop r base
+    → Appended (piece ++ more) more base out r
+first-piece piece more base out r h l is = record {
+  whole = let e : length (piece ++ more) ≡ length piece + length more = length-append piece more in omega arith;
+  left = drop-at piece more r (sym l);
+  out-is = is ∙ ap (λ (t : List ℕ). t ++ drop r base) (sym (take-at piece more r (sym l)));
+  room = h;
+}
+
+-- or the first byte alone
+pub first-set : (all rest base : List ℕ) (x : ℕ) → all ≡ x ∷ rest → length all ≤ length base → Appended all rest base (set base 0 x) 1
+first-set all rest [] x e h = absurd (omega (arith, ap length e))
+first-set all rest (b ∷ base) x e h = record {
+  whole = one-add (length rest) ∙ sym (ap length e);
+  left = ap (drop 1) e;
+  out-is = sym (ap (λ (t : List ℕ). take 1 t ++ base) e);
+  room = h;
+}
 
 pub all-there : (all base out : List ℕ) (put : ℕ) → Appended all [] base out put → out ≡ all ++ drop put base
 all-there all base out put a = a .out-is ∙ ap (λ (t : List ℕ). t ++ drop put base) (take-all put all (omega (arith, a .whole)))

@@ -1,14 +1,13 @@
+-- `stream::group::counted32` meets its contract: the part has as many codes as are asked for.
+use mathlib.Core.Path.{sym}
 use borrow.Author.Needs.{needs}
+use lib.Seq.{length-take-le}
 use Rattle.stream.proofs.group.counted32.Statement.{statement}
 use Rattle.stream.proofs.group.counted32.Tie as tie
-use Rattle.stream.proofs.group.counted32.Reads as reads
-use Rattle.stream.proofs.group.counted32.Lts as lts
 
--- src/group.rt:70:5
 slice-aggregate-result : tie.Need-slice-aggregate-result
-slice-aggregate-result c = ?
+slice-aggregate-result c = sym (length-take-le (c .before .args .n) (c .before .args .codes .now) (c .before .pre))
 
--- src/group.rt:66:1
 returns : tie.Need-returns
 returns c = search needs
 
