@@ -162,7 +162,24 @@ module _ (at first second third end : ℕ) (c : Cuts at first second third end) 
       ∙ ap (λ (l : List ℕ). l ++ take (end - third) (drop third cs)) (part-join at second third cs (omega (arith, c .first-in, c .second-in)) (c .third-in .0))
       ∙ part-join at third end cs (omega (arith, c .first-in, c .second-in, c .third-in)) (c .end-in .0)
 
+  -- as four records have them
+  pub four-codes : (xs ys zs us : List ℕ) → xs ≡ take (first - at) (drop at cs) → ys ≡ take (second - first) (drop first cs)
+      → zs ≡ take (third - second) (drop second cs) → us ≡ take (end - third) (drop third cs) → xs ++ ys ++ zs ++ us ≡ take (end - at) (drop at cs)
+  four-codes xs ys zs us x y z u = ap₂ _++_ (ap₂ _++_ (ap₂ _++_ x y) z) u ∙ four-parts
+
 -- ---- records: the codes of each are as many as it counts
+
+-- the counts of four records
+pub record Counts (a b c d : ℕ) : Type 0 where
+  pub few : (a ≤ 32) × (b ≤ 32) × (c ≤ 32) × (d ≤ 32)
+  pub filled : Filled a (b + (c + d)) × Filled b (c + d) × Filled c d
+
+pub counts : {at first second third end : ℕ} (a b c d : ℕ) → Cuts at first second third end → a ≡ first - at → b ≡ second - first → c ≡ third - second → d ≡ end - third
+    → Counts a b c d
+counts a b c d k x y z u = record {
+  few = (omega (arith, k .first-in), omega (arith, k .second-in), omega (arith, k .third-in), omega (arith, k .end-in));
+  filled = (rw (x, y, z, u) (k .first-full), rw (y, z, u) (k .second-full), rw (z, u) (k .third-full));
+}
 
 -- two parts, one behind the other
 module _ (w a b : ℕ) (xs ys : List ℕ) (is-a : length xs ≡ a) (is-b : length ys ≡ b) (behind : Eights a b) where

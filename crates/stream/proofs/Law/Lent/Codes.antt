@@ -45,6 +45,14 @@ differences-part W vs n at h =
     ∙ ap (take n) (differences-of-an-append W b (take n rest) (drop n rest))
     ∙ take-at (differenceCodes W b (take n rest)) (differenceCodes W (lastOf b (take n rest)) (drop n rest)) n (as-many-differences W b (take n rest) ∙ part))
 
+-- the codes of a list, by mode
+module _ (t : Setting) (vs : List ℕ) where
+  pub each-are : (t .mode ≡ 2 → ⊥) → map (codeAt t) vs ≡ codesOf t vs
+  each-are n = sym (codes-each t 0 vs n)
+
+  pub differences-are : (W : ℕ) → t .width ≡ W → t .mode ≡ 2 → differenceCodes W 0 vs ≡ codesOf t vs
+  differences-are W is e = ap (λ (w : ℕ). differenceCodes w 0 vs) (sym is) ∙ sym (codes-by-difference t 0 vs e)
+
 module _ (t : Setting) (v32 v64 : List ℕ) where
   pub lent-are : lentCodes t v32 v64 ≡ codesOf t (chosen (t .width) v32 v64)
   unfolding lentCodes
@@ -59,20 +67,20 @@ module _ (t : Setting) (v32 v64 : List ℕ) where
     lent-32 = ap (codesOf t) (sym (at-32 (t .width) v32 v64 narrow)) ∙ sym lent-are
 
     pub each-32 : (t .mode ≡ 2 → ⊥) → map (codeAt t) v32 ≡ lentCodes t v32 v64
-    each-32 n = sym (codes-each t 0 v32 n) ∙ lent-32
+    each-32 n = each-are t v32 n ∙ lent-32
 
     pub differences-32 : t .mode ≡ 2 → differenceCodes 32 0 v32 ≡ lentCodes t v32 v64
-    differences-32 e = ap (λ (w : ℕ). differenceCodes w 0 v32) (sym narrow) ∙ sym (codes-by-difference t 0 v32 e) ∙ lent-32
+    differences-32 e = differences-are t v32 32 narrow e ∙ lent-32
 
   module _ (wide : t .width ≡ 64) where
     pub lent-64 : codesOf t v64 ≡ lentCodes t v32 v64
     lent-64 = ap (codesOf t) (sym (at-other (t .width) v32 v64 (λ e. omega arith))) ∙ sym lent-are
 
     pub each-64 : (t .mode ≡ 2 → ⊥) → map (codeAt t) v64 ≡ lentCodes t v32 v64
-    each-64 n = sym (codes-each t 0 v64 n) ∙ lent-64
+    each-64 n = each-are t v64 n ∙ lent-64
 
     pub differences-64 : t .mode ≡ 2 → differenceCodes 64 0 v64 ≡ lentCodes t v32 v64
-    differences-64 e = ap (λ (w : ℕ). differenceCodes w 0 v64) (sym wide) ∙ sym (codes-by-difference t 0 v64 e) ∙ lent-64
+    differences-64 e = differences-are t v64 64 wide e ∙ lent-64
 
   -- a chunk takes few bytes
   pub lent-small : knownWidth (t .width) ≡ true → Below (2 ^ 32) v32 → Below (2 ^ 64) v64 → length (chosen (t .width) v32 v64) ≤ 1024

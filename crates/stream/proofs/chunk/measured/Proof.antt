@@ -106,34 +106,32 @@ returns c =
     omega (arith, l .loop .inv .1, ap length (none-after (size l) (some l) (codes l) (l .loop .at) (omega (arith, many l, c .if1 .taken)))) in
     all ∙ ap (λ (z : ℕ). length (chunkBytes z (codes l))) (l .before .before .before .before .before .group-size .ensures .0)
 
-coded-requires : tie.Need-coded-requires Inv-loop μ-loop
-coded-requires c κs =
+measured-last-requires : tie.Need-measured-last-requires Inv-loop μ-loop
+measured-last-requires c κs =
     let l = c .before .before .before in
-    let p = start l .pre in (
-      (p .0, l .loop .inv .0, omega (arith, c .before .before .loop-test .left, l .before .before .before .before .before .group-size .ensures .2), omega (arith, l .before .before .before .before .before .before .count .ensures), few l),
+    let p = start l .pre in
+    let is = l .before .before .before .before .before .group-size .ensures .0 in (
+      (p .0, l .loop .inv .0, omega (arith, c .before .before .loop-test .left, is), omega (arith, l .before .before .before .before .before .before .count .ensures), few l),
       (scratch l, l .before .before .before .stage .ensures),
     )
 
-measured-requires : tie.Need-measured-requires Inv-loop μ-loop
-measured-requires c κs = omega (arith, c .coded .ensures .0, c .before .before .before .loop-test .left, c .before .before .before .before .before .before .before .before .before .group-size .ensures .2)
-
-ended : (c : tie.After-measured Inv-loop μ-loop) → let l = c .before .before .before .before .before in l .loop .total + c .measured .result ≡ length (chunkBytes (size l) (codes l))
+ended : (c : tie.After-measured-last Inv-loop μ-loop) → let l = c .before .before .before .before in
+    l .loop .total + c .measured-last .result ≡ length (chunkBytes (size l) (codes l))
 ended c =
-    let l = c .before .before .before .before .before in
-    let e = c .before in
+    let l = c .before .before .before .before in
     let n =
-    last-counted (size l) (some l) (codes l) (l .loop .at) (l .before .before .before .before .before .before .count .result) (c .measured .result) (omega (arith, e .before .before .if1 .left)) (sym (many l)) (omega (arith, e .before .before .before .loop-test .left))
-    (c .measured .ensures ∙ ap (λ (cs : List ℕ). length (groupBytes cs)) (e .coded .ensures .1)) in
+    last-counted (size l) (some l) (codes l) (l .loop .at) (l .before .before .before .before .before .before .count .result) (c .measured-last .result) (omega (arith, c .before .before .if1 .left)) (sym (many l)) (omega (arith, c .before .before .before .loop-test .left))
+    (c .measured-last .ensures) in
     omega (arith, n, l .loop .inv .1)
 
 add-result : tie.Need-add-result Inv-loop μ-loop
-add-result c = omega (arith, ended c, small (c .before .before .before .before .before))
+add-result c = omega (arith, ended c, small (c .before .before .before .before))
 
 same-length-2 : tie.Need-same-length-2 Inv-loop μ-loop
-same-length-2 c = c .before .before .before .before .before .before .before .before .stage .kept .1 .1 .0
+same-length-2 c = c .before .before .before .before .before .before .before .stage .kept .1 .1 .0
 
 returns-2 : tie.Need-returns-2 Inv-loop μ-loop
-returns-2 c = ended c ∙ ap (λ (z : ℕ). length (chunkBytes z (codes (c .before .before .before .before .before)))) (c .before .before .before .before .before .before .before .before .before .before .group-size .ensures .0)
+returns-2 c = ended c ∙ ap (λ (z : ℕ). length (chunkBytes z (codes (c .before .before .before .before)))) (c .before .before .before .before .before .before .before .before .before .group-size .ensures .0)
 
 pub measured-spec : {M : Type 1} → statement M
 measured-spec =
@@ -153,8 +151,7 @@ measured-spec =
     loop-again
     same-length
     returns
-    coded-requires
-    measured-requires
+    measured-last-requires
     add-result
     same-length-2
     returns-2)

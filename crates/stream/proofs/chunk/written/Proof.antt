@@ -139,59 +139,51 @@ returns c =
     let done = none-after (size l) (some l) (codes l) (l .loop .at) (omega (arith, many l, c .if1 .taken)) in
     told l (l .loop .put) (l .loop .out) (omega (arith, l .loop .inv .1 .whole, ap length done)) (all-there _ _ _ (l .loop .put) (rw done at (l .loop .inv .1)))
 
-coded-requires : tie.Need-coded-requires Inv-loop μ-loop
-coded-requires c κs =
-    let l = c .before .before .before in
-    let p = start l .pre in (
-      (p .0 .0, l .loop .inv .0, omega (arith, c .before .before .loop-test .left, l .before .before .before .before .before .group-size .ensures .2), omega (arith, l .before .before .before .before .before .before .count .ensures), few l),
-      (scratch l, l .before .before .before .stage .ensures),
-    )
+sub-put-last : tie.Need-sub-put-last Inv-loop μ-loop
+sub-put-last c = put-within (c .before .before .before)
 
-sub-written : tie.Need-sub-written Inv-loop μ-loop
-sub-written c = put-within (c .before .before .before .before)
+part-put-last-start : tie.Need-part-put-last-start Inv-loop μ-loop
+part-put-last-start c = put-within (c .before .before .before)
 
-part-written-start : tie.Need-part-written-start Inv-loop μ-loop
-part-written-start c = put-within (c .before .before .before .before)
+part-put-last-end : tie.Need-part-put-last-end Inv-loop μ-loop
+part-put-last-end c = search needs
 
-part-written-end : tie.Need-part-written-end Inv-loop μ-loop
-part-written-end c = search needs
-
-written-requires : tie.Need-written-requires Inv-loop μ-loop
-written-requires c κs =
-    let e = c .before in
-    let l = e .before .before .before .before in
-    let a = l .loop .inv .1 in (
-      omega (arith, e .coded .ensures .0, e .before .before .before .loop-test .left, l .before .before .before .before .before .group-size .ensures .2),
-      rw (e .coded .ensures .1)
-          (le-trans (let n = last-fits (size l) (some l) (codes l) (l .loop .at) (l .before .before .before .before .before .before .count .result) (omega (arith, e .before .before .if1 .left)) (sym (many l)) (omega (arith, e .before .before .before .loop-test .left)) in omega (arith, n, a .whole, a .room))
-          (le-of-eq (sym (lent-room _ _ _ _ _ a)))),
+put-last-requires : tie.Need-put-last-requires Inv-loop μ-loop
+put-last-requires c κs =
+    let l = c .before .before .before .before in
+    let p = start l .pre in
+    let a = l .loop .inv .1 in
+    let is = l .before .before .before .before .before .group-size .ensures .0 in
+    let short = c .before .before .before .loop-test .left in
+    let n = last-fits (size l) (some l) (codes l) (l .loop .at) (l .before .before .before .before .before .before .count .result) (omega (arith, c .before .before .if1 .left)) (sym (many l)) (omega (arith, short)) in (
+      (p .0 .0, l .loop .inv .0, omega (arith, short, is), omega (arith, l .before .before .before .before .before .before .count .ensures), few l),
+      ((scratch l, l .before .before .before .stage .ensures), le-trans (omega (arith, n, a .whole, a .room)) (le-of-eq (sym (lent-room _ _ _ _ _ a)))),
     )
 
 -- and so is the short one
-ended : (c : tie.After-slice-known5 Inv-loop μ-loop) → let l = c .before .before .before .before .before .before .before .before in
+ended : (c : tie.After-slice-known5 Inv-loop μ-loop) → let l = c .before .before .before .before .before .before .before in
     Appended (chunkBytes (size l) (codes l)) [] (start l .args .out .now)
-    (putMid (l .loop .put) (length (l .loop .out) - l .loop .put) (l .loop .out) (c .before .before .written .last .1 .0)) (l .loop .put + c .before .before .written .result)
+    (putMid (l .loop .put) (length (l .loop .out) - l .loop .put) (l .loop .out) (c .before .before .put-last .last .1 .1 .1 .1 .1 .1 .0)) (l .loop .put + c .before .before .put-last .result)
 ended c =
-    let l = c .before .before .before .before .before .before .before .before in
-    let e = c .before .before .before .before in
-    let r = c .before .before .written in
+    let l = c .before .before .before .before .before .before .before in
+    let r = c .before .before .put-last in
     let n = l .before .before .before .before .before .before .count .result in
-    one-piece _ _ _ _ _ (l .loop .inv .1) (groupBytes (take (n - l .loop .at) (drop (l .loop .at) (codes l)))) _ (r .last .1 .0) (r .result)
-    (last-after (size l) (some l) (codes l) (l .loop .at) n (omega (arith, e .before .before .if1 .left)) (sym (many l)) (omega (arith, e .before .before .before .loop-test .left)))
-    (r .ensures .0 ∙ ap (λ (cs : List ℕ). length (groupBytes cs)) (e .coded .ensures .1))
-    (r .ensures .1 ∙ ap (λ (cs : List ℕ). groupBytes cs ++ drop (r .result) (take (length (l .loop .out) - l .loop .put) (drop (l .loop .put) (l .loop .out)))) (e .coded .ensures .1))
+    one-piece _ _ _ _ _ (l .loop .inv .1) (groupBytes (take (n - l .loop .at) (drop (l .loop .at) (codes l)))) _ (r .last .1 .1 .1 .1 .1 .1 .0) (r .result)
+    (last-after (size l) (some l) (codes l) (l .loop .at) n (omega (arith, c .before .before .before .before .before .if1 .left)) (sym (many l)) (omega (arith, c .before .before .before .before .before .before .loop-test .left)))
+    (r .ensures .0)
+    (r .ensures .1)
 
 add-result : tie.Need-add-result Inv-loop μ-loop
-add-result c = let n = ended c in omega (arith, within _ _ _ _ _ n, n .room, start (c .before .before .before .before .before .before .before .before) .good)
+add-result c = let n = ended c in omega (arith, within _ _ _ _ _ n, n .room, start (c .before .before .before .before .before .before .before) .good)
 
 same-length-3 : tie.Need-same-length-3 Inv-loop μ-loop
-same-length-3 c = c .before .before .before .before .before .before .before .before .before .before .before .stage .kept .1 .1 .0
+same-length-3 c = c .before .before .before .before .before .before .before .before .before .before .stage .kept .1 .1 .0
 
 same-length-4 : tie.Need-same-length-4 Inv-loop μ-loop
 same-length-4 c = same-room _ _ _ _ _ (ended c)
 
 returns-2 : tie.Need-returns-2 Inv-loop μ-loop
-returns-2 c = let n = ended c in told (c .before .before .before .before .before .before .before .before) _ _ (omega (arith, n .whole)) (all-there _ _ _ _ n)
+returns-2 c = let n = ended c in told (c .before .before .before .before .before .before .before) _ _ (omega (arith, n .whole)) (all-there _ _ _ _ n)
 
 pub written-spec : {M : Type 1} → statement M
 written-spec =
@@ -215,11 +207,10 @@ written-spec =
     same-length
     same-length-2
     returns
-    coded-requires
-    sub-written
-    part-written-start
-    part-written-end
-    written-requires
+    sub-put-last
+    part-put-last-start
+    part-put-last-end
+    put-last-requires
     add-result
     same-length-3
     same-length-4

@@ -1,31 +1,37 @@
+-- `stream::lent::measured_last` meets its contract: a group of four records, or of one.
+use mathlib.Core.Path.{ap, _∙_}
+use mathlib.Core.List.{List}
+use Prim.Native.Nat.{ℕ}
+use native.Mathlib.Omega.{arith}
+use lib.ListN.{length}
+use Rattle.stream.specs.Group.{groupBytes}
+use Rattle.stream.proofs.Law.Setting.Allowed.{four-blocks, one-block}
 use borrow.Author.Needs.{needs}
 use Rattle.stream.proofs.lent.measured_last.Statement.{statement}
 use Rattle.stream.proofs.lent.measured_last.Tie as tie
-use Rattle.stream.proofs.lent.measured_last.Reads as reads
-use Rattle.stream.proofs.lent.measured_last.Lts as lts
-use Rattle.stream.proofs.group.measured.Reads as measured-reads
-use Rattle.stream.proofs.lent.coded.Reads as coded-reads
-use Rattle.stream.proofs.lent.measured_long.Reads as measured-long-reads
 
--- src/lent.rt:331:9
 measured-long-requires : tie.Need-measured-long-requires
-measured-long-requires c κs = ?
+measured-long-requires c κs =
+    let s = c .before .before .before .before .before in
+    let p = s .pre .0 in
+    ((p .0, p .1, omega (arith, four-blocks (s .args .t) (c .if1 .taken), p .2), p .3, p .4), s .pre .1)
 
--- src/lent.rt:331:9
 returns : tie.Need-returns
 returns c = search needs
 
--- src/lent.rt:333:21
 coded-requires : tie.Need-coded-requires
-coded-requires c κs = ?
+coded-requires c κs =
+    let s = c .before .before .before .before .before in
+    let p = s .pre .0 in
+    ((p .0, p .1, omega (arith, one-block (s .args .t) (c .if1 .left), p .2), p .3, p .4), s .pre .1)
 
--- src/lent.rt:333:5
 measured-requires : tie.Need-measured-requires
-measured-requires c κs = ?
+measured-requires c κs =
+    let s = c .before .before .before .before .before .before in
+    omega (arith, c .coded .ensures .0, one-block (s .args .t) (c .before .if1 .left), s .pre .0 .2)
 
--- src/lent.rt:318:1
 returns-2 : tie.Need-returns-2
-returns-2 c = ?
+returns-2 c = c .measured .ensures ∙ ap (λ (cs : List ℕ). length (groupBytes cs)) (c .before .coded .ensures .1)
 
 pub measured-last-spec : {M : Type 1} → statement M
 measured-last-spec =

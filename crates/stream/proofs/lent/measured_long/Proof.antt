@@ -1,25 +1,42 @@
+-- `stream::lent::measured_long` meets its contract: the group of the width.
+use mathlib.Core.Path.{ap, _∙_}
+use mathlib.Core.List.{List}
+use Prim.Native.Nat.{ℕ, _-_}
+use native.Mathlib.Omega.{arith}
+use lib.ListN.{length, take, drop}
+use Rattle.stream.specs.Group.{groupBytes}
+use Rattle.stream.proofs.Law.Lent.Codes.{lent-32, lent-64, length-32, length-other}
+use Rattle.stream.proofs.Law.Setting.Allowed.{width-other}
 use Rattle.stream.proofs.lent.measured_long.Statement.{statement}
 use Rattle.stream.proofs.lent.measured_long.Tie as tie
-use Rattle.stream.proofs.lent.measured_long.Reads as reads
-use Rattle.stream.proofs.lent.measured_long.Lts as lts
-use Rattle.stream.proofs.lent.measured_long32.Reads as measured-long32-reads
-use Rattle.stream.proofs.lent.measured_long64.Reads as measured-long64-reads
 
--- src/lent.rt:237:9
 measured-long32-requires : tie.Need-measured-long32-requires
-measured-long32-requires c κs = ?
+measured-long32-requires c κs =
+    let s = c .before .before .before .before .before in
+    let p = s .pre .0 in (
+      (c .if1 .taken, p .1, p .2, omega (arith, length-32 (s .args .t .width) (s .args .v32 .now) (s .args .v64 .now) (c .if1 .taken), p .3), p .4),
+      s .pre .1,
+    )
 
--- src/lent.rt:237:9
 returns : tie.Need-returns
-returns c = ?
+returns c =
+    let a = c .before .before .before .before .before .before .args in
+    c .measured-long32 .ensures
+    ∙ ap (λ (l : List ℕ). length (groupBytes (take (a .end - a .at) (drop (a .at) l)))) (lent-32 (a .t) (a .v32 .now) (a .v64 .now) (c .before .if1 .taken))
 
--- src/lent.rt:239:5
 measured-long64-requires : tie.Need-measured-long64-requires
-measured-long64-requires c κs = ?
+measured-long64-requires c κs =
+    let s = c .before .before .before .before .before in
+    let p = s .pre .0 in
+    (width-other (s .args .t .width) (p .0 .known) (c .if1 .left), p .1, p .2, omega (arith, length-other (s .args .t .width) (s .args .v32 .now) (s .args .v64 .now) (c .if1 .left), p .3), p .4)
 
--- src/lent.rt:231:1
 returns-2 : tie.Need-returns-2
-returns-2 c = ?
+returns-2 c =
+    let s = c .before .before .before .before .before .before in
+    let a = s .args in
+    c .measured-long64 .ensures
+    ∙ ap (λ (l : List ℕ). length (groupBytes (take (a .end - a .at) (drop (a .at) l))))
+    (lent-64 (a .t) (a .v32 .now) (a .v64 .now) (width-other (a .t .width) (s .pre .0 .0 .known) (c .before .if1 .left)))
 
 pub measured-long-spec : {M : Type 1} → statement M
 measured-long-spec =

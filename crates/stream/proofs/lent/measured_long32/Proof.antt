@@ -1,59 +1,74 @@
+-- `stream::lent::measured_long32` meets its contract: the group is cut into four records.
+use mathlib.Core.Path.{_≡_, ap, _∙_}
+use mathlib.Core.List.{List, _++_}
+use Prim.Native.Nat.{ℕ, _-_}
+use lib.ListN.{length, take, drop}
+use Rattle.stream.specs.Group.{groupBytes}
+use Rattle.stream.specs.Setting.{codesOf}
+use Rattle.stream.proofs.Law.Group.Parts.{Cuts, cuts, Counts, counts, four-codes}
 use borrow.Author.Needs.{needs}
 use Rattle.stream.proofs.lent.measured_long32.Statement.{statement}
 use Rattle.stream.proofs.lent.measured_long32.Tie as tie
-use Rattle.stream.proofs.lent.measured_long32.Reads as reads
-use Rattle.stream.proofs.lent.measured_long32.Lts as lts
-use Rattle.stream.proofs.group.measured_four32.Reads as measured-four32-reads
-use Rattle.stream.proofs.lent.least.Reads as least-reads
-use Rattle.stream.proofs.lent.narrow.Reads as narrow-reads
 
--- src/lent.rt:166:23
+-- where the group is cut
+abbrev start : tie.After-narrow4 → tie.Start
+start c = c .before .before .before .before .before .before .before .before .before
+
+cut : (c : tie.After-narrow4) → let a = start c .args in
+    Cuts (a .at) (c .before .before .before .before .before .before .least .result) (c .before .before .before .before .before .least2 .result) (c .before .before .before .before .least3 .result) (a .end)
+cut c =
+    let a = start c .args in
+    let p = start c .pre .0 in
+    cuts (a .at) (a .end) _ _ _ (p .1) (p .2) (c .before .before .before .before .before .before .least .ensures) (c .before .before .before .before .before .least2 .ensures) (c .before .before .before .before .least3 .ensures)
+
+-- how many codes each record has, and that they are those of the group
+many : (c : tie.After-narrow4) → Counts (c .before .before .before .narrow .result .count) (c .before .before .narrow2 .result .count) (c .before .narrow3 .result .count) (c .narrow4 .result .count)
+many c = counts _ _ _ _ (cut c) (c .before .before .before .narrow .ensures .0) (c .before .before .narrow2 .ensures .0) (c .before .narrow3 .ensures .0) (c .narrow4 .ensures .0)
+
+same : (c : tie.After-narrow4) → let a = start c .args in
+    let x = c .before .before .before .narrow .result in let y = c .before .before .narrow2 .result in let z = c .before .narrow3 .result in let u = c .narrow4 .result in
+    take (x .count) (x .codes) ++ take (y .count) (y .codes) ++ take (z .count) (z .codes) ++ take (u .count) (u .codes)
+    ≡ take (a .end - a .at) (drop (a .at) (codesOf (a .t) (a .v32 .now)))
+same c =
+    let a = start c .args in
+    four-codes _ _ _ _ _ (cut c) (codesOf (a .t) (a .v32 .now)) _ _ _ _
+    (c .before .before .before .narrow .ensures .1) (c .before .before .narrow2 .ensures .1) (c .before .narrow3 .ensures .1) (c .narrow4 .ensures .1)
+
 add-least : tie.Need-add-least
 add-least c = search needs
 
--- src/lent.rt:166:9
 least-requires : tie.Need-least-requires
 least-requires c κs = search needs
 
--- src/lent.rt:167:24
 add-least-2 : tie.Need-add-least-2
 add-least-2 c = search needs
 
--- src/lent.rt:167:9
 least-requires-2 : tie.Need-least-requires-2
 least-requires-2 c κs = search needs
 
--- src/lent.rt:168:23
 add-least-3 : tie.Need-add-least-3
 add-least-3 c = search needs
 
--- src/lent.rt:168:9
 least-requires-3 : tie.Need-least-requires-3
 least-requires-3 c κs = search needs
 
--- src/lent.rt:170:9
 narrow-requires : tie.Need-narrow-requires
 narrow-requires c κs = search needs
 
--- src/lent.rt:171:9
 narrow-requires-2 : tie.Need-narrow-requires-2
 narrow-requires-2 c κs = search needs
 
--- src/lent.rt:172:9
 narrow-requires-3 : tie.Need-narrow-requires-3
 narrow-requires-3 c κs = search needs
 
--- src/lent.rt:173:9
 narrow-requires-4 : tie.Need-narrow-requires-4
 narrow-requires-4 c κs = search needs
 
--- src/lent.rt:169:5
 measured-four32-requires : tie.Need-measured-four32-requires
-measured-four32-requires c κs = ?
+measured-four32-requires c κs = many c .few
 
--- src/lent.rt:161:1
 returns : tie.Need-returns
-returns c = ?
+returns c = c .measured-four32 .ensures ∙ ap (λ (cs : List ℕ). length (groupBytes cs)) (same (c .before))
 
 pub measured-long32-spec : {M : Type 1} → statement M
 measured-long32-spec =

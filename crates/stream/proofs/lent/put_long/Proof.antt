@@ -1,34 +1,69 @@
+-- `stream::lent::put_long` meets its contract: the group of the width.
+use mathlib.Core.Path.{_≡_, ap, _∙_}
+use mathlib.Core.List.{List, _++_}
+use Prim.Native.Nat.{ℕ, _-_}
+use native.Mathlib.Omega.{arith}
+use lib.ListN.{length, take, drop}
+use Rattle.stream.specs.Group.{groupBytes}
+use Rattle.stream.specs.Lent.{lentCodes}
+use Rattle.stream.specs.Setting.{codesOf}
+use Rattle.stream.proofs.Law.Lent.Codes.{lent-32, lent-64, length-32, length-other}
+use Rattle.stream.proofs.Law.Setting.Allowed.{width-other}
 use borrow.Author.Needs.{needs}
 use Rattle.stream.proofs.lent.put_long.Statement.{statement}
 use Rattle.stream.proofs.lent.put_long.Tie as tie
-use Rattle.stream.proofs.lent.put_long.Reads as reads
-use Rattle.stream.proofs.lent.put_long.Lts as lts
-use Rattle.stream.proofs.lent.put_long32.Reads as put-long32-reads
-use Rattle.stream.proofs.lent.put_long64.Reads as put-long64-reads
 
--- src/lent.rt:258:9
+-- the codes are those of the list of the width
+narrow : (c : tie.Then1) → let a = c .before .before .before .before .before .before .args in codesOf (a .t) (a .v32 .now) ≡ lentCodes (a .t) (a .v32 .now) (a .v64 .now)
+narrow c = let a = c .before .before .before .before .before .before .args in lent-32 (a .t) (a .v32 .now) (a .v64 .now) (c .if1 .taken)
+
+wide : (c : tie.Else1) → let a = c .before .before .before .before .before .before .args in codesOf (a .t) (a .v64 .now) ≡ lentCodes (a .t) (a .v32 .now) (a .v64 .now)
+wide c =
+    let s = c .before .before .before .before .before .before in
+    let a = s .args in
+    lent-64 (a .t) (a .v32 .now) (a .v64 .now) (width-other (a .t .width) (s .pre .0 .0 .known) (c .if1 .left))
+
 put-long32-requires : tie.Need-put-long32-requires
-put-long32-requires c κs = ?
+put-long32-requires c κs =
+    let t = c .before in
+    let s = t .before .before .before .before .before .before in
+    let p = s .pre .0 in (
+      (t .if1 .taken, p .1, p .2, omega (arith, length-32 (s .args .t .width) (s .args .v32 .now) (s .args .v64 .now) (t .if1 .taken), p .3), p .4),
+      (s .pre .1 .0, rw (narrow t) (s .pre .1 .1)),
+    )
 
--- src/lent.rt:258:9
 same-length : tie.Need-same-length
 same-length c = search needs
 
--- src/lent.rt:258:9
 returns : tie.Need-returns
-returns c = ?
+returns c =
+    let t = c .before .before .before .before in
+    let a = t .before .before .before .before .before .before .args in
+    let w = c .before .before .put-long32 in (
+      w .ensures .0 ∙ ap (λ (l : List ℕ). length (groupBytes (take (a .end - a .at) (drop (a .at) l)))) (narrow t),
+      w .ensures .1 ∙ ap (λ (l : List ℕ). groupBytes (take (a .end - a .at) (drop (a .at) l)) ++ drop (w .result) (a .out .now)) (narrow t),
+    )
 
--- src/lent.rt:260:5
 put-long64-requires : tie.Need-put-long64-requires
-put-long64-requires c κs = ?
+put-long64-requires c κs =
+    let t = c .before in
+    let s = t .before .before .before .before .before .before in
+    let p = s .pre .0 in (
+      (width-other (s .args .t .width) (p .0 .known) (t .if1 .left), p .1, p .2, omega (arith, length-other (s .args .t .width) (s .args .v32 .now) (s .args .v64 .now) (t .if1 .left), p .3), p .4),
+      rw (wide t) (s .pre .1 .1),
+    )
 
--- src/lent.rt:242:1
 same-length-2 : tie.Need-same-length-2
 same-length-2 c = search needs
 
--- src/lent.rt:242:1
 returns-2 : tie.Need-returns-2
-returns-2 c = ?
+returns-2 c =
+    let t = c .before .before .before .before in
+    let a = t .before .before .before .before .before .before .args in
+    let w = c .before .before .put-long64 in (
+      w .ensures .0 ∙ ap (λ (l : List ℕ). length (groupBytes (take (a .end - a .at) (drop (a .at) l)))) (wide t),
+      w .ensures .1 ∙ ap (λ (l : List ℕ). groupBytes (take (a .end - a .at) (drop (a .at) l)) ++ drop (w .result) (a .out .now)) (wide t),
+    )
 
 pub put-long-spec : {M : Type 1} → statement M
 put-long-spec =
