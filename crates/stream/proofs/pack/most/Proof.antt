@@ -14,7 +14,7 @@ use Rattle.stream.proofs.pack.most.Tie as tie
 bits : (c : tie.After-struct-known) → let a = c .before .before .before .args in a .n * a .t .width ≤ 67108864
 bits c = let s = c .before .before .before in mul-le-mul (s .pre .1) (width-most (s .args .t .width) (s .pre .0 .known))
 
-groups : (c : tie.After-chunks-of) → let n = c .before .before .args .n in let size = c .before .group-size .result in (n + (size - 1)) / size ≤ 1048608
+groups : (c : tie.After-chunks-of) → let n = c .before .before .args .n in let size = c .before .group-size .result in (n + (size - 1)) / size ≤ 1048704
 groups c = let n = c .before .before .args .n in let size = c .before .group-size .result in omega (arith, div-le-self (n + (size - 1)) size, c .before .group-size .ensures .2, c .before .before .pre .1)
 
 group-size-requires : tie.Need-group-size-requires
