@@ -4,8 +4,8 @@
 use mathlib.Core.Path.{_≡_, refl, sym, ap, ap₂, _∙_, subst}
 use mathlib.Core.Logic.{_⊎_, inl, inr, ⊎-elim}
 use mathlib.Core.List.{List, [], _∷_, _++_, append-nil, append-assoc}
-use Prim.Native.Nat.{ℕ, zero, suc, _+_, _-_, _*_, _/_, _%_, _^_, _≤_, _<_, min, max}
-use native.Mathlib.Nat.{zero-add, mul-add, mul-zero, mul-comm, div-eq-of-lt, add-mul-div-left, add-mul-mod-self-left}
+use Prim.Native.Nat.{ℕ, _+_, _-_, _*_, _/_, _%_, _^_, _≤_, _<_, min, max}
+use native.Mathlib.Nat.{zero-add, mul-add, mul-zero, div-eq-of-lt, add-mul-div-left, add-mul-mod-self-left}
 use native.Mathlib.Omega.{arith}
 use lib.Ieee.{size}
 use lib.ListN.{length, take, drop, length-append}
@@ -51,15 +51,14 @@ two-full a b c (inl e) (inl f) = inl (rw (e, f))
 two-full a b c (inr e) (inl f) = absurd (omega arith)
 two-full a b c h (inr f) = inr f
 
+bits : (w n k : ℕ) → n ≡ 8 * k → w * n ≡ 8 * (w * k)
+bits w n k e = rw e (omega arith)
+
 pub bytes-append : (w a b : ℕ) → Eights a b → bytesFor w (a + b) ≡ bytesFor w a + bytesFor w b
 unfolding bytesFor
 bytes-append w a b (inl e) =
     let whole : a ≡ 8 * (a / 8) = omega arith in
-    let m : w * a ≡ 8 * (w * (a / 8)) = ap (λ (n : ℕ). w * n) whole ∙ eight w (a / 8) in
-    omega (arith, mul-add w a b, m)
-  where
-    eight : (w k : ℕ) → w * (8 * k) ≡ 8 * (w * k)
-    eight w k = omega arith
+    omega (arith, mul-add w a b, bits w a (a / 8) whole)
 bytes-append w a b (inr e) = let m : w * b ≡ 0 = ap (λ (n : ℕ). w * n) e ∙ mul-zero w in omega (arith, mul-add w a b, m)
 
 -- the number of both parts, in bytes: what the second spells stands above the bytes of the first
@@ -67,7 +66,7 @@ module _ (w k : ℕ) (xs ys : List ℕ) (below : Below (2 ^ w) xs) (whole : leng
   place : (2 ^ w) ^ length xs ≡ 256 ^ (w * k)
   place =
       pow-pow 2 w (length xs)
-      ∙ ap (λ (n : ℕ). 2 ^ n) (ap (λ (n : ℕ). w * n) whole ∙ (let e : w * (8 * k) ≡ 8 * (w * k) = omega arith in e))
+      ∙ ap (λ (n : ℕ). 2 ^ n) (bits w (length xs) k whole)
       ∙ sym (pow-pow 2 8 (w * k))
 
   low : number (2 ^ w) xs < 256 ^ (w * k)
@@ -92,7 +91,7 @@ module _ (w k : ℕ) (xs ys : List ℕ) (below : Below (2 ^ w) xs) (whole : leng
 
   bytes-first : bytesFor w (length xs) ≡ w * k
   unfolding bytesFor
-  bytes-first = let e : w * length xs ≡ 8 * (w * k) = ap (λ (n : ℕ). w * n) whole ∙ (let e : w * (8 * k) ≡ 8 * (w * k) = omega arith in e) in omega arith
+  bytes-first = omega (arith, bits w (length xs) k whole)
 
   packed-behind : packed w (xs ++ ys) ≡ packed w xs ++ packed w ys
   unfolding packed
@@ -198,7 +197,7 @@ module _ (xs ys zs us : List ℕ) where
   width-of-four =
       omega (arith, width-of-parts (xs ++ ys ++ zs) us, width-of-parts (xs ++ ys) zs, width-of-parts xs ys)
 
-  pub length-of-four : length (xs ++ ys ++ zs ++ us) ≡ length xs + length ys + length zs + length us
+  length-of-four : length (xs ++ ys ++ zs ++ us) ≡ length xs + length ys + length zs + length us
   length-of-four = simp length-append
 
   module _ (a b c d : ℕ) (is-a : length xs ≡ a) (is-b : length ys ≡ b) (is-c : length zs ≡ c) (is-d : length us ≡ d) where

@@ -89,13 +89,10 @@ module _ (t : Setting) (v32 v64 : List ℕ) where
       let b = width-bytes (t .width) known in
       rw lent-are (chunk-small (groupSize t) (size-some t) t (b .bytes) (chosen (t .width) v32 v64) (b .whole) (b .few) (b .format) (chosen-below (t .width) v32 v64 known under-32 under-64) few)
 
--- the full group from `at` on, of one block: where it lies, how many codes it has, and which
+-- the full group from `at` on, of one block: where it lies, and which codes it has
 module _ (t : Setting) (at : ℕ) (short : t .size ≡ 128 → ⊥) where
   pub full-fits : (n long : ℕ) → n ≡ long → at + groupSize t ≤ n → at + groupSize t ≤ 1024 → (at ≤ at + 32) × (at + 32 ≤ at + 32) × (at + 32 ≤ long) × (at + 32 ≤ 1024)
   full-fits n long e h l = let o = one-block t short in (omega arith, omega arith, omega arith, omega arith)
-
-  pub full-count : (count : ℕ) → count ≡ at + 32 - at → count ≡ 32
-  full-count count e = omega arith
 
   pub full-codes : (count : ℕ) (codes cs lent : List ℕ) → take count codes ≡ take (at + 32 - at) (drop at cs) → cs ≡ lent
       → take count codes ≡ take (groupSize t) (drop at lent)

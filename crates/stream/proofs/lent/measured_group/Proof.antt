@@ -7,9 +7,8 @@ use lib.ListN.{length, take, drop}
 use Rattle.stream.specs.Group.{groupBytes}
 use Rattle.stream.specs.Lent.{chosen, lentCodes}
 use Rattle.stream.specs.Setting.{groupSize}
-use Rattle.stream.proofs.Law.Lent.Codes.{each-32, differences-32, each-64, differences-64, full-fits, full-count, full-codes, long-fits, long-part, length-32, length-other}
+use Rattle.stream.proofs.Law.Lent.Codes.{each-32, differences-32, each-64, differences-64, full-fits, full-codes, long-fits, long-part, length-32, length-other}
 use Rattle.stream.proofs.Law.Setting.Allowed.{four-blocks, one-block, width-other}
-use borrow.Author.Needs.{needs}
 use Rattle.stream.proofs.lent.measured_group.Statement.{statement}
 use Rattle.stream.proofs.lent.measured_group.Tie as tie
 
@@ -93,7 +92,7 @@ differenced-narrow-requires : tie.Need-differenced-narrow-requires
 differenced-narrow-requires c κs = fits-differenced-narrow c
 
 measured-full32-requires : tie.Need-measured-full32-requires
-measured-full32-requires c κs = let s = c .before .before .before .before .before .before .before .before .before .before in full-count (s .args .t) (s .args .at) (c .before .before .before .before .before .if1 .left) (c .differenced-narrow .result .count) (c .differenced-narrow .ensures .0)
+measured-full32-requires c κs = omega (arith, c .differenced-narrow .ensures .0)
 
 returns-2 : tie.Need-returns-2
 returns-2 c = c .measured-full32 .ensures ∙ ap (λ (cs : List ℕ). length (groupBytes cs)) (codes-differenced-narrow (c .before))
@@ -105,7 +104,7 @@ coded-narrow-requires c κs =
     ((c .before .before .if2 .taken, f .0, f .1, f .2, f .3), (s .pre .1 .0, s .pre .1 .1, c .if3 .left))
 
 measured-full32-requires-2 : tie.Need-measured-full32-requires-2
-measured-full32-requires-2 c κs = let s = c .before .before .before .before .before .before .before .before .before .before in full-count (s .args .t) (s .args .at) (c .before .before .before .before .before .if1 .left) (c .coded-narrow .result .count) (c .coded-narrow .ensures .0)
+measured-full32-requires-2 c κs = omega (arith, c .coded-narrow .ensures .0)
 
 returns-3 : tie.Need-returns-3
 returns-3 c = c .measured-full322 .ensures ∙ ap (λ (cs : List ℕ). length (groupBytes cs)) (codes-coded-narrow (c .before))
@@ -114,7 +113,7 @@ differenced-wide-requires : tie.Need-differenced-wide-requires
 differenced-wide-requires c κs = fits-differenced-wide c
 
 measured-full-requires : tie.Need-measured-full-requires
-measured-full-requires c κs = let s = c .before .before .before .before .before .before .before .before .before .before in full-count (s .args .t) (s .args .at) (c .before .before .before .before .before .if1 .left) (c .differenced-wide .result .count) (c .differenced-wide .ensures .0)
+measured-full-requires c κs = omega (arith, c .differenced-wide .ensures .0)
 
 returns-4 : tie.Need-returns-4
 returns-4 c = c .measured-full .ensures ∙ ap (λ (cs : List ℕ). length (groupBytes cs)) (codes-differenced-wide (c .before))
@@ -126,7 +125,7 @@ coded-wide-requires c κs =
     (width-other (s .args .t .width) (s .pre .0 .0 .known) (c .before .before .if2 .left), f .0, f .1, f .2, f .3)
 
 measured-full-requires-2 : tie.Need-measured-full-requires-2
-measured-full-requires-2 c κs = let s = c .before .before .before .before .before .before .before .before .before .before in full-count (s .args .t) (s .args .at) (c .before .before .before .before .before .if1 .left) (c .coded-wide .result .count) (c .coded-wide .ensures .0)
+measured-full-requires-2 c κs = omega (arith, c .coded-wide .ensures .0)
 
 returns-5 : tie.Need-returns-5
 returns-5 c = c .measured-full2 .ensures ∙ ap (λ (cs : List ℕ). length (groupBytes cs)) (codes-coded-wide (c .before))

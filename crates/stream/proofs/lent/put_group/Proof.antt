@@ -7,7 +7,7 @@ use lib.ListN.{length, take, drop}
 use Rattle.stream.specs.Group.{groupBytes}
 use Rattle.stream.specs.Lent.{chosen, lentCodes}
 use Rattle.stream.specs.Setting.{groupSize}
-use Rattle.stream.proofs.Law.Lent.Codes.{each-32, differences-32, each-64, differences-64, full-fits, full-count, full-codes, long-fits, long-part, length-32, length-other}
+use Rattle.stream.proofs.Law.Lent.Codes.{each-32, differences-32, each-64, differences-64, full-fits, full-codes, long-fits, long-part, length-32, length-other}
 use Rattle.stream.proofs.Law.Setting.Allowed.{four-blocks, one-block, width-other}
 use borrow.Author.Needs.{needs}
 use Rattle.stream.proofs.lent.put_group.Statement.{statement}
@@ -106,7 +106,7 @@ full32-requires : tie.Need-full32-requires
 full32-requires c κs =
     let g = c .before in
     let s = g .before .before .before .before .before .before .before .before .before .before .before in
-    (full-count (s .args .t) (s .args .at) (g .before .before .before .before .before .if1 .left) (g .differenced-narrow .result .count) (g .differenced-narrow .ensures .0), rw (codes-differenced-narrow g) (s .pre .1 .1))
+    (omega (arith, g .differenced-narrow .ensures .0), rw (codes-differenced-narrow g) (s .pre .1 .1))
 
 same-length-2 : tie.Need-same-length-2
 same-length-2 c = search needs
@@ -129,7 +129,7 @@ full32-requires-2 : tie.Need-full32-requires-2
 full32-requires-2 c κs =
     let g = c .before in
     let s = g .before .before .before .before .before .before .before .before .before .before .before in
-    (full-count (s .args .t) (s .args .at) (g .before .before .before .before .before .if1 .left) (g .coded-narrow .result .count) (g .coded-narrow .ensures .0), rw (codes-coded-narrow g) (s .pre .1 .1))
+    (omega (arith, g .coded-narrow .ensures .0), rw (codes-coded-narrow g) (s .pre .1 .1))
 
 same-length-3 : tie.Need-same-length-3
 same-length-3 c = search needs
@@ -149,7 +149,7 @@ full-requires : tie.Need-full-requires
 full-requires c κs =
     let g = c .before in
     let s = g .before .before .before .before .before .before .before .before .before .before .before in
-    (full-count (s .args .t) (s .args .at) (g .before .before .before .before .before .if1 .left) (g .differenced-wide .result .count) (g .differenced-wide .ensures .0), rw (codes-differenced-wide g) (s .pre .1 .1))
+    (omega (arith, g .differenced-wide .ensures .0), rw (codes-differenced-wide g) (s .pre .1 .1))
 
 same-length-4 : tie.Need-same-length-4
 same-length-4 c = search needs
@@ -172,7 +172,7 @@ full-requires-2 : tie.Need-full-requires-2
 full-requires-2 c κs =
     let g = c .before in
     let s = g .before .before .before .before .before .before .before .before .before .before .before in
-    (full-count (s .args .t) (s .args .at) (g .before .before .before .before .before .if1 .left) (g .coded-wide .result .count) (g .coded-wide .ensures .0), rw (codes-coded-wide g) (s .pre .1 .1))
+    (omega (arith, g .coded-wide .ensures .0), rw (codes-coded-wide g) (s .pre .1 .1))
 
 same-length-5 : tie.Need-same-length-5
 same-length-5 c = search needs
