@@ -1,10 +1,10 @@
 /*
  * The field of the first run: packed, summed up, and read back and measured.
  *
- *     harbour pack FIELD FOLDER METRES       packs FIELD into FOLDER: lossless in both ways, within a tolerance, the same with a
- *                                            summary beside it, and a cut file
- *     harbour read FIELD FOLDER METRES       reads the five files back, compares them with FIELD, and lists the chunks with high water
- *     harbour verdict FIELD FOLDER METRES    the same in three lines, with the four streams cut at every length
+ *     harbour pack FIELD FOLDER METRES       packs FIELD into FOLDER: lossless in both ways, within a tolerance, the same in groups of
+ *                                            128 values in place of 32, the same with a summary beside it, and a cut file
+ *     harbour read FIELD FOLDER METRES       reads the six files back, compares them with FIELD, and lists the chunks with high water
+ *     harbour verdict FIELD FOLDER METRES    the same in three lines, with the five streams cut at every length
  *
  * The exit status is 0 only where every file could be read or written, every call was answered as it must be,
  * and every cell came back as promised. examples/make_harbour.py says what the field is.
@@ -19,7 +19,7 @@
 
 enum { ROWS = 64, COLUMNS = 96, CELLS = ROWS * COLUMNS, RAW_BYTES = 4 * CELLS };
 enum { CHUNK = 1024, CHUNKS = (CELLS + CHUNK - 1) / CHUNK, ENTRY_BYTES = 12 }; /* a chunk's entry in a summary, at width 32 */
-enum { LONGEST = GWZ_LONGEST_STREAM(32, CELLS) + GWZ_SUMMARY_BYTES(32, CELLS) };
+enum { LONGEST = GWZ_LONGEST_STREAM(32, GWZ_GROUPS_OF_32, CELLS) + GWZ_SUMMARY_BYTES(32, CELLS) };
 
 /* Which chunks reach this level, in metres, is asked of the summary. */
 static const float high_water = 1.9f;
@@ -28,7 +28,8 @@ static const float high_water = 1.9f;
 enum { MOUTH_ROW = 46, MOUTH_COLUMN = 47, WALL_ROW = 46, WALL_COLUMN = 10 };
 
 static const char lossless_name[] = "lossless.gwz", differences_name[] = "differences.gwz";
-static const char tolerance_name[] = "tolerance.gwz", summary_name[] = "summary.gwz", cut_name[] = "cut.gwz";
+static const char tolerance_name[] = "tolerance.gwz", large_groups_name[] = "groups_of_128.gwz";
+static const char summary_name[] = "summary.gwz", cut_name[] = "cut.gwz";
 
 static void stop(const char *format, ...)
 {
@@ -144,10 +145,17 @@ static int32_t exponent_of(double metres)
 }
 
 /* Each stream is written at the lowest level that allows it, so that the oldest readers can read it. */
-static size_t packed(uint32_t mode, int32_t k, const uint32_t *field, uint8_t *stream)
+static uint32_t level_for(uint32_t mode, uint32_t group)
 {
-    uint32_t level = mode == GWZ_LOSSLESS ? GWZ_LEVEL_8 : mode == GWZ_DIFFERENCES ? GWZ_LEVEL_11 : GWZ_LEVEL_9;
-    return gwz_answer(not_refused("pack", gwz_pack32(level, mode, k, field, CELLS, stream, LONGEST)));
+    if (group == GWZ_GROUPS_OF_128)
+        return GWZ_LEVEL_13;
+    return mode == GWZ_LOSSLESS ? GWZ_LEVEL_8 : mode == GWZ_DIFFERENCES ? GWZ_LEVEL_11 : GWZ_LEVEL_9;
+}
+
+static size_t packed(uint32_t mode, int32_t k, uint32_t group, const uint32_t *field, uint8_t *stream)
+{
+    uint64_t result = gwz_pack32(level_for(mode, group), mode, k, group, field, CELLS, stream, LONGEST);
+    return gwz_answer(not_refused("pack", result));
 }
 
 /* Reads a file and its values; returns the file's length. */
@@ -215,7 +223,8 @@ static void pack(const char *field_path, const char *folder, double metres)
     static uint32_t field[CELLS];
     static uint8_t stream[LONGEST], copy[LONGEST];
     struct path lossless = path_of(folder, lossless_name), differences = path_of(folder, differences_name);
-    struct path tolerance = path_of(folder, tolerance_name), summary = path_of(folder, summary_name), cut = path_of(folder, cut_name);
+    struct path tolerance = path_of(folder, tolerance_name), large_groups = path_of(folder, large_groups_name);
+    struct path summary = path_of(folder, summary_name), cut = path_of(folder, cut_name);
     int dry = 0;
 
     read_field(field_path, field);
@@ -224,24 +233,28 @@ static void pack(const char *field_path, const char *folder, double metres)
     printf("The field %s: %d rows of %d values, %d bytes raw; %d cells are wet and %d dry (not-a-number)\n", field_path,
            (int)ROWS, (int)COLUMNS, (int)RAW_BYTES, CELLS - dry, dry);
 
-    size_t length = packed(GWZ_LOSSLESS, 0, field, stream);
+    size_t length = packed(GWZ_LOSSLESS, 0, GWZ_GROUPS_OF_32, field, stream);
     write_file(lossless.text, stream, length);
     print_packed("lossless", length, lossless.text);
 
-    length = packed(GWZ_DIFFERENCES, 0, field, stream);
+    length = packed(GWZ_DIFFERENCES, 0, GWZ_GROUPS_OF_32, field, stream);
     write_file(differences.text, stream, length);
     print_packed("lossless by differences", length, differences.text);
 
     int32_t k = exponent_of(metres);
-    length = packed(GWZ_WITHIN_TOLERANCE, k, field, stream);
+    length = packed(GWZ_WITHIN_TOLERANCE, k, GWZ_GROUPS_OF_32, field, stream);
     write_file(tolerance.text, stream, length);
     printf("Asked for a tolerance of %g m; kept is 2^%ld m, the largest allowed power of two not above it\n", metres,
            (long)k);
     print_packed("within it", length, tolerance.text);
 
+    size_t in_128 = packed(GWZ_WITHIN_TOLERANCE, k, GWZ_GROUPS_OF_128, field, copy);
+    write_file(large_groups.text, copy, in_128);
+    print_packed("so in groups of 128, which suit calm fields and not this one", in_128, large_groups.text);
+
     size_t summed = gwz_answer(not_refused("add_summary", gwz_add_summary(GWZ_LEVEL_9, stream, length, copy, LONGEST)));
     write_file(summary.text, copy, summed);
-    printf("Added a summary to that: %lu bytes more, for %d chunks, in %s\n", (unsigned long)(summed - length), (int)CHUNKS, summary.text);
+    printf("Added a summary to that in groups of 32: %lu bytes more, for %d chunks, in %s\n", (unsigned long)(summed - length), (int)CHUNKS, summary.text);
 
     write_file(cut.text, stream, length / 2);
     printf("Cut on purpose: the first %lu bytes of %s, in %s\n", (unsigned long)(length / 2), tolerance.text, cut.text);
@@ -325,6 +338,17 @@ static void print_probe(const char *where, const uint8_t *stream, size_t length,
         printf("%.9g m\n", metres_of(pattern));
 }
 
+/* The group size has no part in what a cell comes back as. */
+static void compare_large_groups(const char *path, const uint32_t *with_32)
+{
+    static uint32_t back[CELLS];
+    static uint8_t stream[LONGEST];
+    unpacked(path, stream, back);
+    if (memcmp(back, with_32, sizeof back) != 0)
+        stop("a cell of %s is not as it is in groups of 32", path);
+    printf("In groups of 128, read back: %d of %d cells are as they are in groups of 32\n", (int)CELLS, (int)CELLS);
+}
+
 /* The stream with a summary holds the same cells, and the summary names the chunks that reach high water. */
 static void print_high_water(const char *path, const uint32_t *without)
 {
@@ -368,7 +392,8 @@ static void read_back(const char *field_path, const char *folder, double metres)
     static uint32_t field[CELLS], back[CELLS];
     static uint8_t stream[LONGEST];
     struct path lossless = path_of(folder, lossless_name), differences = path_of(folder, differences_name);
-    struct path tolerance = path_of(folder, tolerance_name), summary = path_of(folder, summary_name), cut = path_of(folder, cut_name);
+    struct path tolerance = path_of(folder, tolerance_name), large_groups = path_of(folder, large_groups_name);
+    struct path summary = path_of(folder, summary_name), cut = path_of(folder, cut_name);
 
     read_field(field_path, field);
     compare_lossless("Lossless", lossless.text, field);
@@ -377,6 +402,7 @@ static void read_back(const char *field_path, const char *folder, double metres)
     compare_within(tolerance.text, field, back, exponent_of(metres));
     print_probe("the harbour mouth", stream, length, MOUTH_ROW, MOUTH_COLUMN);
     print_probe("the western breakwater", stream, length, WALL_ROW, WALL_COLUMN);
+    compare_large_groups(large_groups.text, back);
     print_high_water(summary.text, back);
     print_refusal(cut.text);
 }
@@ -402,30 +428,34 @@ static size_t cuts_refused(const uint8_t *stream, size_t length)
 static int verdict(const char *field_path, const char *folder, double metres)
 {
     static uint32_t field[CELLS], back[CELLS];
-    static uint8_t lossless[LONGEST], differences[LONGEST], tolerance[LONGEST], summary[LONGEST];
+    static uint8_t lossless[LONGEST], differences[LONGEST], tolerance[LONGEST], large_groups[LONGEST], summary[LONGEST];
     double allowed = ldexp(1, (int)exponent_of(metres));
     read_field(field_path, field);
     size_t lossless_length = unpacked(path_of(folder, lossless_name).text, lossless, back);
     struct measured exact = measured_of(field, back, 0);
     size_t differences_length = unpacked(path_of(folder, differences_name).text, differences, back);
     struct measured summed = measured_of(field, back, 0);
+    size_t large_groups_length = unpacked(path_of(folder, large_groups_name).text, large_groups, back);
+    struct measured in_128 = measured_of(field, back, allowed);
     size_t tolerance_length = unpacked(path_of(folder, tolerance_name).text, tolerance, back);
     struct measured near = measured_of(field, back, allowed);
     struct chunks found = looked_for(back);
     size_t summary_length = unpacked(path_of(folder, summary_name).text, summary, back);
     struct chunks high = listed(summary, summary_length);
-    size_t cuts = lossless_length + differences_length + tolerance_length + summary_length;
+    size_t cuts = lossless_length + differences_length + tolerance_length + large_groups_length + summary_length;
     size_t refused = cuts_refused(lossless, lossless_length) + cuts_refused(differences, differences_length)
-        + cuts_refused(tolerance, tolerance_length) + cuts_refused(summary, summary_length);
+        + cuts_refused(tolerance, tolerance_length) + cuts_refused(large_groups, large_groups_length) + cuts_refused(summary, summary_length);
 
-    printf("Cells kept: %d and %d of %d lossless, bit for bit, and %d within the tolerance; dry cells kept: %d, %d and %d of %d\n",
-           exact.same, summed.same, (int)CELLS, near.within, exact.same_dry, summed.same_dry, near.same_dry, near.dry);
+    printf("Cells kept: %d and %d of %d lossless, bit for bit, and %d and %d (groups of 128) within the tolerance; ", exact.same, summed.same,
+           (int)CELLS, near.within, in_128.within);
+    printf("dry cells kept: %d, %d, %d and %d of %d\n", exact.same_dry, summed.same_dry, near.same_dry, in_128.same_dry, near.dry);
     printf("Worst error: %.6f mm, %.4f of the tolerance of %.6f mm; ", 1000 * near.largest, near.largest / allowed, 1000 * allowed);
     printf("chunks that reach %.4g m: %lu of %d by the summary, %lu by the cells%s\n", (double)high_water, (unsigned long)high.count,
            (int)CHUNKS, (unsigned long)found.count, same_chunks(&high, &found) ? "" : ", not the same");
-    printf("Cut files refused: %lu of %lu, every length of the four files; accepted: %lu\n", (unsigned long)refused, (unsigned long)cuts,
+    printf("Cut files refused: %lu of %lu, every length of the five files; accepted: %lu\n", (unsigned long)refused, (unsigned long)cuts,
            (unsigned long)(cuts - refused));
-    return exact.same == CELLS && summed.same == CELLS && near.within == CELLS && same_chunks(&high, &found) && refused == cuts;
+    return exact.same == CELLS && summed.same == CELLS && near.within == CELLS && in_128.within == CELLS && same_chunks(&high, &found)
+        && refused == cuts;
 }
 
 int main(int count, char **words)

@@ -15,7 +15,7 @@
 
 /* A chunk has 1,024 values: here 16 rows of 64. */
 enum { CHUNK = 1024, COLUMNS = 64, CHUNK_ROWS = CHUNK / COLUMNS, CHUNKS = 8, CELLS = CHUNK * CHUNKS };
-enum { LONGEST = GWZ_LONGEST_STREAM(32, CELLS), ROOM = LONGEST + GWZ_SUMMARY_BYTES(32, CELLS) };
+enum { LONGEST = GWZ_LONGEST_STREAM(32, GWZ_GROUPS_OF_32, CELLS), ROOM = LONGEST + GWZ_SUMMARY_BYTES(32, CELLS) };
 
 static void stop(const char *what, const char *why)
 {
@@ -60,7 +60,8 @@ static size_t written(uint8_t *copy)
     static uint8_t stream[LONGEST];
     for (int i = 0; i < CELLS; i++)
         cells[i] = pattern_of(level_at(i / COLUMNS, i % COLUMNS));
-    size_t length = not_refused("pack", gwz_pack32(GWZ_LEVEL_9, GWZ_WITHIN_TOLERANCE, -8, cells, CELLS, stream, LONGEST));
+    uint64_t result = gwz_pack32(GWZ_LEVEL_9, GWZ_WITHIN_TOLERANCE, -8, GWZ_GROUPS_OF_32, cells, CELLS, stream, LONGEST);
+    size_t length = not_refused("pack", result);
     return not_refused("add_summary", gwz_add_summary(GWZ_LEVEL_9, stream, length, copy, ROOM));
 }
 

@@ -18,7 +18,7 @@
 
 enum { ROWS = 2000, COLUMNS = 3000, BLOCK_ROWS = 300, BLOCK_CELLS = BLOCK_ROWS * COLUMNS };
 enum { BLOCKS = (ROWS + BLOCK_ROWS - 1) / BLOCK_ROWS, INDEX_NUMBERS = 4 + 2 * BLOCKS };
-enum { LONGEST = GWZ_LONGEST_STREAM(32, BLOCK_CELLS) };
+enum { LONGEST = GWZ_LONGEST_STREAM(32, GWZ_GROUPS_OF_32, BLOCK_CELLS) };
 
 /* A block must not have more values than a stream takes: this array would have a negative length. */
 typedef char block_fits[BLOCK_CELLS <= (int)GWZ_MOST_VALUES ? 1 : -1];
@@ -114,7 +114,8 @@ static void pack_field(const char *path, int32_t k)
     write_numbers(file, index, INDEX_NUMBERS); /* its room: it is written once more when the places are known */
     for (int block = 0; block < BLOCKS; block++) {
         size_t n = make_block(block);
-        uint32_t length = not_refused("pack", gwz_pack32(GWZ_LEVEL_9, GWZ_WITHIN_TOLERANCE, k, cells, n, stream, LONGEST));
+        uint64_t result = gwz_pack32(GWZ_LEVEL_9, GWZ_WITHIN_TOLERANCE, k, GWZ_GROUPS_OF_32, cells, n, stream, LONGEST);
+        uint32_t length = not_refused("pack", result);
         fwrite(stream, 1, length, file);
         index[4 + 2 * block] = at;
         index[5 + 2 * block] = length;

@@ -44,7 +44,7 @@
  * Every operation but the lossless codes answers one 64-bit result: a refusal number above 32 bits of detail, or 0
  * above 32 bits of answer. Take it apart with gwz_refusal, then gwz_detail or gwz_answer (gwz_exponent after gwz_bound):
  *
- *     uint64_t result = gwz_pack32(GWZ_HIGHEST_LEVEL, GWZ_LOSSLESS, 0, values, n, stream, room);
+ *     uint64_t result = gwz_pack32(GWZ_HIGHEST_LEVEL, GWZ_LOSSLESS, 0, GWZ_GROUPS_OF_32, values, n, stream, room);
  *     if (gwz_refusal(result) != GWZ_DONE)
  *         fprintf(stderr, "%s\n", gwz_refusal_text(gwz_refusal(result)));
  *     else
@@ -60,10 +60,10 @@
  * the id GWZ_SUMMARY_ID, which is 1; others put the rest there, and this library hands none out. Ids below GWZ_FIRST_HIGH_ID,
  * which is 2^31, may be skipped: every reader does, that of the summary too. An id from there up says that the values must not
  * be used by who does not understand it, as where a part holds a datum shift. NONE IS DEFINED YET, so at every level such a
- * stream is refused. Who adds such a part also raises the needed minor to 12, and the written one if it is below
- * (docs/FORMAT.md has the bytes): then readers of this library refuse the stream by 7 below level 12 and by 15, with the first
- * such id, at 12; and older ones, which knew no such ids, by 7 too. Where the need was not raised, a reader that reaches it
- * refuses the stream by 8 in this library, and skips the part in older ones.
+ * stream is refused. Who adds such a part also raises the needed minor to 12 if it is below that (in groups of 128 it is 13), and
+ * the written one if it is below the needed (docs/FORMAT.md has the bytes): then readers of this library refuse the stream by 7
+ * below the need and by 15, with the first such id, from it on; and older ones, which knew no such ids, by 7 too. Where the need
+ * was not raised, a reader that reaches it refuses the stream by 8 in this library, and skips the part in older ones.
  *
  *
  * PATTERNS, NOT FLOATS
@@ -78,7 +78,7 @@
 
 /* The format that this header is of: its major number, and the highest level that is known here. */
 #define GWZ_FORMAT_MAJOR 1
-#define GWZ_HIGHEST_LEVEL 12 /* reads every stream that this library can write */
+#define GWZ_HIGHEST_LEVEL 13 /* reads every stream that this library can write */
 
 #ifdef __cplusplus
 extern "C" {
@@ -86,17 +86,18 @@ extern "C" {
 
 /*
  * A level is the minor number of the format that a call acts as. A writer's level is noted in the stream, with
- * the least level that a reader needs: 11 in mode GWZ_DIFFERENCES, else 10 for width 64, else 9 within a tolerance,
- * else 8. A reader of level 10 or below refuses GWZ_DIFFERENCES by 7: for such boats use GWZ_LOSSLESS, whose need is 8, or
- * 10 at width 64. A stream to which somebody added a side part with an id from GWZ_FIRST_HIGH_ID up needs 12, or more if its
- * setting does: see SIDE PARTS.
+ * the least level that a reader needs: 13 in groups of 128, else 11 in mode GWZ_DIFFERENCES, else 10 for width 64, else 9
+ * within a tolerance, else 8. A reader of level 10 or below refuses GWZ_DIFFERENCES by 7: for such boats use GWZ_LOSSLESS, whose
+ * need is 8, or 10 at width 64. One of level 12 or below refuses groups of 128 by 7: for such boats use GWZ_GROUPS_OF_32. A stream
+ * to which somebody added a side part with an id from GWZ_FIRST_HIGH_ID up needs 12, or more if its setting does: see SIDE PARTS.
  */
 enum gwz_level {
     GWZ_LEVEL_8 = 8,   /* width 32, GWZ_LOSSLESS */
     GWZ_LEVEL_9 = 9,   /* and width 32, GWZ_WITHIN_TOLERANCE */
     GWZ_LEVEL_10 = 10, /* and width 64, in both of these */
     GWZ_LEVEL_11 = 11, /* and GWZ_DIFFERENCES, both widths */
-    GWZ_LEVEL_12 = 12  /* no other setting; refuses ids that must be understood by 15 */
+    GWZ_LEVEL_12 = 12, /* no other setting; refuses ids that must be understood by 15 */
+    GWZ_LEVEL_13 = 13  /* and groups of 128, in every mode and width */
 };
 
 enum gwz_mode {
@@ -106,6 +107,23 @@ enum gwz_mode {
     GWZ_DIFFERENCES = 2       /* as GWZ_LOSSLESS, by the difference of each pattern from the one before it in the list, within
                                  its chunk of 1,024; k must be 0. Mostly smaller where values have the sign of the one before
                                  and nearly its magnitude, and larger where the sign changes often: gwz_length tells */
+};
+
+/*
+ * How many values a group has: each group has a byte for how wide its codes are, and the widest code of the group decides. What a
+ * value comes back as does not depend on it, nor does the cut into chunks of 1,024.
+ *
+ * - GWZ_GROUPS_OF_32 where some reader is of level 12 or below; and for fields with rough spots, which then cost their width in a
+ *   group of 32 and not in one of 128.
+ * - GWZ_GROUPS_OF_128 for calm fields, where the width bytes are a visible share of the file, if every reader is of level 13 or
+ *   later. There are a quarter as many of them.
+ *
+ * Which is the smaller for a field, gwz_length tells. In the stream and the listing there is no number for it: 256 is added to
+ * the mode number for 128. In a call the mode is 0, 1 or 2 for both.
+ */
+enum gwz_group {
+    GWZ_GROUPS_OF_32 = 32,  /* what every release before 0.12.0 wrote */
+    GWZ_GROUPS_OF_128 = 128 /* needs level 13 */
 };
 
 /* What gwz_probe32 and gwz_probe64 answer. */
@@ -127,17 +145,20 @@ enum gwz_limit {
 };
 
 /*
- * The most bytes that gwz_pack writes for n values (at most GWZ_MOST_VALUES) of a width, 32 or 64: header, chunk
- * table, a width byte for each group of 32, and the values. (A stream to which side parts were added may be longer.)
- * A constant where n is one, so it can be the length of an array. It mentions n more than once.
+ * The most bytes that gwz_pack writes for n values (at most GWZ_MOST_VALUES) of a width, 32 or 64, in groups of 32 or 128:
+ * header, chunk table, a width byte for each group, and the values. (A stream to which side parts were added may be longer.)
+ * What is enough for groups of 32 is enough for groups of 128; any other size, which gwz_pack refuses, counts as 32 here.
+ * A constant where all three are, so it can be the length of an array. It mentions n more than once.
  */
-#define GWZ_LONGEST_STREAM(width, n)                                                         \
-    (48u + 4u * (((size_t)(n) + 1023u) / 1024u) + ((size_t)(n) + 31u) / 32u + (size_t)(n) * ((size_t)(width) / 8u))
+#define GWZ_LONGEST_STREAM(width, group, n)                                                  \
+    (48u + 4u * (((size_t)(n) + 1023u) / 1024u)                                              \
+     + ((group) == 128 ? ((size_t)(n) + 127u) / 128u : ((size_t)(n) + 31u) / 32u)            \
+     + (size_t)(n) * ((size_t)(width) / 8u))
 
 /* The same for a language that has no macros. */
-GWZ_HELPER size_t gwz_longest_stream(uint32_t width, size_t n)
+GWZ_HELPER size_t gwz_longest_stream(uint32_t width, uint32_t group, size_t n)
 {
-    return GWZ_LONGEST_STREAM(width, n);
+    return GWZ_LONGEST_STREAM(width, group, n);
 }
 
 /*
@@ -163,21 +184,22 @@ uint32_t gwz_highest_level(void);
  * behind them nothing is altered. Enough room is what gwz_length answers, or GWZ_LONGEST_STREAM, with which
  * there is no measuring pass over the values.
  *
- * level    8, 9, 10, 11 or 12; which allows which setting stands with enum gwz_level
+ * level    8, 9, 10, 11, 12 or 13; which allows which setting stands with enum gwz_level
  * mode     GWZ_LOSSLESS, GWZ_WITHIN_TOLERANCE or GWZ_DIFFERENCES
  * k        within a tolerance its exponent, which gwz_bound finds: -150 to 103 for width 32, -1075 to 970 for
  *          width 64; else 0
+ * group    GWZ_GROUPS_OF_32 or GWZ_GROUPS_OF_128
  *
  * Refusals, in order: 1 2 3 4.
  */
-uint64_t gwz_pack32(uint32_t level, uint32_t mode, int32_t k, const uint32_t *values, size_t n,
+uint64_t gwz_pack32(uint32_t level, uint32_t mode, int32_t k, uint32_t group, const uint32_t *values, size_t n,
                     uint8_t *out, size_t room);
-uint64_t gwz_pack64(uint32_t level, uint32_t mode, int32_t k, const uint64_t *values, size_t n,
+uint64_t gwz_pack64(uint32_t level, uint32_t mode, int32_t k, uint32_t group, const uint64_t *values, size_t n,
                     uint8_t *out, size_t room);
 
 /* Answers the bytes that gwz_pack would write for the same values and setting. Refusals, in order: 1 2 3. */
-uint64_t gwz_length32(uint32_t level, uint32_t mode, int32_t k, const uint32_t *values, size_t n);
-uint64_t gwz_length64(uint32_t level, uint32_t mode, int32_t k, const uint64_t *values, size_t n);
+uint64_t gwz_length32(uint32_t level, uint32_t mode, int32_t k, uint32_t group, const uint32_t *values, size_t n);
+uint64_t gwz_length64(uint32_t level, uint32_t mode, int32_t k, uint32_t group, const uint64_t *values, size_t n);
 
 /* ---- Reading */
 
@@ -261,10 +283,15 @@ uint64_t gwz_chunks_from64(uint32_t level, uint64_t x, const uint8_t *bytes, siz
 /*
  * The detail of refusal 10, GWZ_BROKEN_CHUNK, taken apart: a chunk and a group of it, both counted from 0. From
  * gwz_probe it is the value's own chunk, from all others the first bad one; the group is the first bad one
- * in it. (Bytes left over behind a chunk's last group count for that group.) The chunk's values have the indices from
- * 1024 * chunk on, 1,024 of them, and the group's those from 1024 * chunk + 32 * group on, 32 of them; the last chunk
- * and its last group have what is left.
+ * in it. (Bytes left over behind a chunk's last group count for that group.) The detail is chunk * 32 + group at both
+ * sizes of groups, so the two functions are the same for both. The chunk's values have the indices from 1024 * chunk on,
+ * 1,024 of them; the last chunk has what is left.
  *
+ * - The group's values depend on the size: they have the indices from 1024 * chunk + 32 * group on, 32 of them, in groups of
+ *   32, where a group is 0 to 31; and those from 1024 * chunk + 128 * group on, 128 of them, in groups of 128, where it is 0
+ *   to 7. The last group of the last chunk has what is left. The size stands in the header of the stream that was refused,
+ *   which has passed where 10 is given: the mode number, 4 bytes at the place 16, is 256 or more for 128 and below that for 32.
+ *   So bytes[17] is 1 for 128 and 0 for 32.
  * - It is where a rule is first seen broken. The altered byte may stand in that group, before it in the chunk, or in
  *   the header or the chunk table.
  * - gwz_probe, at the same level, refuses every value of that chunk with the same detail: those of the good groups in

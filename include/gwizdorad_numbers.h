@@ -37,9 +37,9 @@
  * means, may change where the second number does.
  */
 #define GWZ_VERSION_MAJOR 0
-#define GWZ_VERSION_MINOR 11
+#define GWZ_VERSION_MINOR 12
 #define GWZ_VERSION_PATCH 0
-#define GWZ_VERSION "0.11.0"
+#define GWZ_VERSION "0.12.0"
 
 #ifndef GWZ_HELPER
 #define GWZ_HELPER static inline
@@ -55,9 +55,9 @@ const char *gwz_version(void);
 /* The refusal numbers. The detail is 0 but for the four that say another. */
 enum gwz_refusal_number {
     GWZ_DONE = 0,                 /* not refused: the low 32 bits are the answer */
-    GWZ_UNKNOWN_LEVEL = 1,        /* level not 8 to 12 */
-    GWZ_NOT_ALLOWED = 2,          /* mode or k not allowed, or its need exceeds the level; bound: width not 32 or 64; list of
-                                     chunks: x is a not-a-number */
+    GWZ_UNKNOWN_LEVEL = 1,        /* level not 8 to 13 */
+    GWZ_NOT_ALLOWED = 2,          /* mode, k or group size not allowed, or the need exceeds the level; bound: width not 32 or
+                                     64; list of chunks: x is a not-a-number */
     GWZ_TOO_MANY_VALUES = 3,      /* more than GWZ_MOST_VALUES */
     GWZ_TOO_SHORT = 4,            /* lent output too short; detail: the length needed, in that output's elements */
     GWZ_NO_HEADER = 5,            /* fewer than GWZ_HEADER_BYTES bytes */
@@ -118,10 +118,10 @@ GWZ_HELPER const char *gwz_refusal_text(uint32_t number)
     case GWZ_DONE:
         return "Done: nothing was refused.";
     case GWZ_UNKNOWN_LEVEL:
-        return "The level is not known: pass 8, 9, 10, 11 or 12.";
+        return "The level is not known: pass 8, 9, 10, 11, 12 or 13.";
     case GWZ_NOT_ALLOWED:
-        return "The setting is not allowed: check mode, k and width, or pass the higher level that the setting needs. (Of a list "
-               "of chunks: x is a not-a-number, and no value is at least that; pass the pattern of a number.)";
+        return "The setting is not allowed: check mode, k, group size and width, or pass the higher level that the setting needs. "
+               "(Of a list of chunks: x is a not-a-number, and no value is at least that; pass the pattern of a number.)";
     case GWZ_TOO_MANY_VALUES:
         return "There are more than 1048576 values: cut the list and pack each part as its own stream.";
     case GWZ_TOO_SHORT:
@@ -134,7 +134,8 @@ GWZ_HELPER const char *gwz_refusal_text(uint32_t number)
         return "The stream is too new: read it at the level that the detail names, or update this program.";
     case GWZ_BROKEN_HEADER:
         return "The header is broken or the bytes end too early: the file was cut or damaged, fetch it again. (If it comes the same "
-               "again, ask who wrote it: it may be broken there, or state another need than its width, mode and side parts have.)";
+               "again, ask who wrote it: it may be broken there, or state another need than its width, mode, group size and side "
+               "parts have.)";
     case GWZ_BROKEN_TABLE:
         return "The chunk table or the side table is broken: the file was cut, damaged or added to, fetch it again.";
     case GWZ_BROKEN_CHUNK:

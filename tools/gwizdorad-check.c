@@ -22,7 +22,10 @@
 enum { FIRST_PIECE = 65536, CHUNK_VALUES = 1024 };
 
 /* Where the numbers of the header and the chunk table stand: docs/FORMAT.md, "The bytes". */
-enum { WIDTH_AT = 12, VALUES_AT = 24, CHUNKS_AT = 28, START_AT = 36, END_AT = 44, TABLE_AT = 48 };
+enum { WIDTH_AT = 12, MODE_AT = 16, VALUES_AT = 24, CHUNKS_AT = 28, START_AT = 36, END_AT = 44, TABLE_AT = 48 };
+
+/* A mode number from here up says that a group has 128 values, which is then told; else it has 32. */
+enum { LARGE_GROUPS = 256 };
 
 static const char usage[] =
     "usage: gwizdorad-check FILE...\n"
@@ -134,7 +137,8 @@ static void print_damage(const struct content *content, uint32_t detail)
 {
     uint64_t chunk = gwz_bad_chunk(detail), first = CHUNK_VALUES * chunk, next = first + CHUNK_VALUES;
     uint64_t values = number_at(content, VALUES_AT);
-    printf("chunk %" PRIu64 " breaks a rule, first seen in group %" PRIu32 ": ", chunk, gwz_bad_group(detail));
+    printf("chunk %" PRIu64 " breaks a rule, first seen in group %" PRIu32 "%s: ", chunk, gwz_bad_group(detail),
+           number_at(content, MODE_AT) < LARGE_GROUPS ? "" : " (of 128 values each)");
     printf("values %" PRIu64 " to %" PRIu64 " are lost, ", first, (next < values ? next : values) - 1);
     printf("bytes %" PRIu64 " to %" PRIu64 " of the file; ", chunk_at(content, chunk),
            chunk_at(content, chunk + 1) - 1);

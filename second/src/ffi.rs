@@ -30,12 +30,20 @@ macro_rules! operations {
                     level: u32,
                     mode: u32,
                     k: i32,
+                    group: u32,
                     values: *const $word,
                     n: usize,
                     out: *mut u8,
                     room: usize,
                 ) -> u64;
-                fn $length(level: u32, mode: u32, k: i32, values: *const $word, n: usize) -> u64;
+                fn $length(
+                    level: u32,
+                    mode: u32,
+                    k: i32,
+                    group: u32,
+                    values: *const $word,
+                    n: usize,
+                ) -> u64;
                 fn $unpack(
                     level: u32,
                     bytes: *const u8,
@@ -61,16 +69,17 @@ macro_rules! operations {
                     level: u32,
                     mode: u32,
                     k: i32,
+                    group: u32,
                     values: &[$word],
                     buffer: &mut [u8],
                     room: std::ops::Range<usize>,
                 ) -> u64 {
                     let (n, out) = (values.len(), $crate::ffi::start(buffer, &room));
-                    unsafe { $pack(level, mode, k, values.as_ptr(), n, out, room.len()) }
+                    unsafe { $pack(level, mode, k, group, values.as_ptr(), n, out, room.len()) }
                 }
 
-                fn length(level: u32, mode: u32, k: i32, values: &[$word]) -> u64 {
-                    unsafe { $length(level, mode, k, values.as_ptr(), values.len()) }
+                fn length(level: u32, mode: u32, k: i32, group: u32, values: &[$word]) -> u64 {
+                    unsafe { $length(level, mode, k, group, values.as_ptr(), values.len()) }
                 }
 
                 fn check(level: u32, stream: &[u8]) -> u64 {

@@ -24,7 +24,7 @@ fn described(whole: &Whole) -> String {
     text += &format!(
         "width {} mode {} bound {}\n",
         setting.width().bits(),
-        setting.mode(),
+        setting.mode_number(),
         setting.k()
     );
     text += &format!("values {} chunks {} sides {}\n", header.n, header.c, header.sides);

@@ -3,7 +3,8 @@
  *
  * The functions answer as those of the library do: a refusal number above 32 bits of detail, or 0 above 32 bits of
  * answer. A refused call writes nothing. Nothing is allocated, and nothing outside what is lent is read or written.
- * The part for one width stands once, in the second half of this file, which includes itself for each width.
+ * The part for one width stands once, in the second half of this file, which includes itself for each width. Codes are
+ * put and taken in blocks of 32, which fill whole bytes: a group is one of them, or four under one width byte.
  * Written for gcc and clang on x86-64.
  */
 #ifndef WIDTH
@@ -20,10 +21,12 @@
 enum {
     MOST_VALUES = 1048576,
     CHUNK = 1024,
-    GROUP = 32,
+    BLOCK = 32,
+    LARGEST_GROUP = 128,
+    ADDED_FOR_128 = 256, /* to the mode number of the header */
     HEADER = 48,
-    /* The bytes of the largest group, and 8 more so that 9 bytes can be read from any place where a code begins. */
-    WINDOW = 8 * GROUP + 8
+    /* The bytes of the largest block, and 8 more so that 9 bytes can be read from any place where a code begins. */
+    WINDOW = 8 * BLOCK + 8
 };
 
 /* What the widths differ in, and its names where WIDTH is one of them. */
@@ -47,7 +50,7 @@ enum { M64 = 52, LEAST_K64 = -1075, GREATEST_K64 = 970 };
 /* Put into its caller, where a mode or a width byte is a constant. */
 #define INLINED static inline __attribute__((always_inline))
 
-/* A step for each code of a group, from 0 to 31, and an arm for each width byte of a width. */
+/* A step for each code of a block, from 0 to 31, and an arm for each width byte of a width. */
 #define FOR_8(STEP, i) STEP(i) STEP(i + 1) STEP(i + 2) STEP(i + 3) STEP(i + 4) STEP(i + 5) STEP(i + 6) STEP(i + 7)
 #define FOR_32(STEP) FOR_8(STEP, 0) FOR_8(STEP, 8) FOR_8(STEP, 16) FOR_8(STEP, 24)
 #define FOR_EACH_BYTE32(ARM) FOR_32(ARM) ARM(32)
@@ -63,11 +66,10 @@ enum { M64 = 52, LEAST_K64 = -1075, GREATEST_K64 = 970 };
 
 INLINED uint64_t refused(uint64_t number, uint64_t detail) { return (number << 32) | detail; }
 INLINED uint64_t refused_if(int broken, uint64_t number) { return broken ? refused(number, 0) : 0; }
-/* Refusal 10 for the group of a chunk's value: as all chunks before are full, this is chunk·32 + group. */
-INLINED uint64_t refused_group(size_t chunk, size_t value) { return refused(10, (chunk * CHUNK + value) / GROUP); }
+/* Refusal 10 for a group: at either size, a chunk has 32 details. */
+INLINED uint64_t refused_group(size_t chunk, size_t group) { return refused(10, chunk * 32 + group); }
 INLINED size_t least(size_t a, size_t b) { return a < b ? a : b; }
 INLINED size_t chunks_of(size_t n) { return (n + CHUNK - 1) / CHUNK; }
-INLINED size_t groups_of(size_t n) { return (n + GROUP - 1) / GROUP; }
 INLINED size_t bytes_of(size_t count, unsigned w) { return (count * w + 7) / 8; }
 INLINED unsigned bit_length(uint64_t word) { return word == 0 ? 0 : 64 - (unsigned)__builtin_clzll(word); }
 
@@ -174,30 +176,50 @@ struct stream {
     struct header header;
 };
 
-static int level_known(uint32_t level) { return 8 <= level && level <= 12; }
+/* What pack and length are told besides the level and the values, and what a header tells. */
+struct setting {
+    uint32_t width, mode, group;
+    int32_t k;
+};
+
+static int level_known(uint32_t level) { return 8 <= level && level <= 13; }
+
+/* In a header, 256 is added to the mode for groups of 128. A number that is no mode stays none. */
+static struct setting setting_of(const struct header *h)
+{
+    int large = h->mode >= ADDED_FOR_128;
+    struct setting s = {h->width, large ? h->mode - ADDED_FOR_128 : h->mode, large ? 128 : 32, h->k};
+    return s;
+}
+
+static uint32_t mode_number(struct setting s) { return s.group == 128 ? s.mode + ADDED_FOR_128 : s.mode; }
 
 /* The need of a setting, which a side part that must be understood may raise. */
-static uint32_t need(uint32_t width, uint32_t mode) { return mode == 2 ? 11 : width == 64 ? 10 : mode == 1 ? 9 : 8; }
-
-static int setting_allowed(uint32_t width, uint32_t mode, int32_t k)
+static uint32_t need(struct setting s)
 {
-    int32_t least_k = width == 32 ? LEAST_K32 : LEAST_K64;
-    int32_t greatest_k = width == 32 ? GREATEST_K32 : GREATEST_K64;
-    return mode == 1 ? least_k <= k && k <= greatest_k : (mode == 0 || mode == 2) && k == 0;
+    return s.group == 128 ? 13 : s.mode == 2 ? 11 : s.width == 64 ? 10 : s.mode == 1 ? 9 : 8;
+}
+
+static int setting_allowed(struct setting s)
+{
+    int32_t least_k = s.width == 32 ? LEAST_K32 : LEAST_K64;
+    int32_t greatest_k = s.width == 32 ? GREATEST_K32 : GREATEST_K64;
+    int of_mode = s.mode == 1 ? least_k <= s.k && s.k <= greatest_k : (s.mode == 0 || s.mode == 2) && s.k == 0;
+    return of_mode && (s.group == 32 || s.group == 128);
 }
 
 /* Refusals 1 2 3 of pack and length, or 0. */
-static uint64_t admit(uint32_t level, uint32_t width, uint32_t mode, int32_t k, size_t n)
+static uint64_t admit(uint32_t level, struct setting s, size_t n)
 {
     TRY(refused_if(!level_known(level), 1));
-    TRY(refused_if(!setting_allowed(width, mode, k) || need(width, mode) > level, 2));
+    TRY(refused_if(!setting_allowed(s) || need(s) > level, 2));
     return refused_if(n > MOST_VALUES, 3);
 }
 
 static int header_holds(const struct header *h, size_t length)
 {
-    return (h->width == 32 || h->width == 64) && setting_allowed(h->width, h->mode, h->k)
-        && h->needed >= need(h->width, h->mode) && h->written >= h->needed && h->n <= MOST_VALUES
+    struct setting s = setting_of(h);
+    return (h->width == 32 || h->width == 64) && setting_allowed(s) && h->needed >= need(s) && h->written >= h->needed && h->n <= MOST_VALUES
         && h->c == chunks_of(h->n) && h->table == HEADER && h->data == HEADER + 4 * h->c && h->sides <= 64
         && h->data <= h->end && h->end <= length;
 }
@@ -261,17 +283,17 @@ static uint32_t first_high_id(const struct stream *stream)
     return 0;
 }
 
-/* Refusals 9 8 15, or 0: both tables, the exact need, and ids that must be understood. They need more than settings. */
+/* Refusals 9 8 15, or 0: both tables, the exact need, and ids that must be understood, which need 12 or more. */
 static uint64_t check_tables(const struct stream *stream)
 {
     const struct header *h = &stream->header;
     TRY(refused_if(!chunk_table_holds(stream) || !side_table_holds(stream), 9));
-    uint32_t high_id = first_high_id(stream);
-    TRY(refused_if(h->needed != (high_id != 0 ? 12 : need(h->width, h->mode)), 8));
+    uint32_t high_id = first_high_id(stream), of_setting = need(setting_of(h));
+    TRY(refused_if(h->needed != (high_id != 0 && of_setting < 12 ? 12 : of_setting), 8));
     return high_id != 0 ? refused(15, high_id) : 0;
 }
 
-/* Where 32 codes at a place of a stream are read: where they lie or, of the last groups, in a copy with zeros after. */
+/* Where 32 codes at a place of a stream are read: where they lie or, of the last blocks, in a copy with zeros after. */
 INLINED const uint8_t *window_at(const struct stream *stream, size_t place, uint8_t *copy)
 {
     const uint8_t *from = stream->bytes + place;
@@ -281,6 +303,16 @@ INLINED const uint8_t *window_at(const struct stream *stream, size_t place, uint
     memcpy(copy, from, length);
     memset(copy + length, 0, WINDOW - length);
     return copy;
+}
+
+/* Where a block of a checked chunk begins; the groups before its own are full, and are stepped over. */
+static size_t block_place(const struct stream *stream, size_t chunk, size_t block, size_t blocks, unsigned *w)
+{
+    size_t at = chunk_place(stream, chunk);
+    for (; block >= blocks; block -= blocks)
+        at += 1 + 4 * blocks * stream->bytes[at];
+    *w = stream->bytes[at];
+    return at + 1 + 4 * block * *w;
 }
 
 /* ---- Both widths */
@@ -390,7 +422,7 @@ INLINED WORD NAME(restored)(WORD code, uint32_t mode, BIN bin)
     return mode == 0 ? NAME(lossless_pattern)(code) : NAME(tolerance_pattern)(code, bin);
 }
 
-/* ---- Groups: an arm for each width byte */
+/* ---- Blocks: an arm for each width byte */
 
 /* 32 codes of w bits to the 4w bytes they fill. */
 INLINED void NAME(put_codes)(const WORD *codes, uint8_t *bytes, unsigned w)
@@ -419,7 +451,7 @@ INLINED void NAME(take_codes)(const uint8_t *window, WORD *codes, unsigned w)
 }
 
 /*
- * The 32 codes at a place of a stream. Past a short group's count they are made of whatever follows, and nobody looks
+ * The 32 codes at a place of a stream. Past a short block's count they are made of whatever follows, and nobody looks
  * at them.
  */
 static void NAME(take)(const struct stream *stream, size_t place, WORD *codes, unsigned w)
@@ -452,96 +484,119 @@ static WORD NAME(take_sums)(const struct stream *stream, size_t place, WORD befo
 }
 
 /*
- * The codes of up to 32 values, and their width byte: the bit length of the largest is that of all or-ed together. Most
- * groups are read where they lie. A chunk's first one follows pattern 0. A short one is filled up with what has code 0,
- * which changes neither width nor bytes: pattern 0 or, in mode 2, the last one again.
+ * The codes of up to 32 values, and all of them or-ed together. Most blocks are read where they lie. A chunk's first one
+ * follows pattern 0. A short one is filled up with what has code 0, which changes neither width nor bytes: pattern 0 or,
+ * in mode 2, the last one again.
  */
-INLINED unsigned NAME(code_group)(const WORD *values, size_t count, int first, uint32_t mode, BIN bin, WORD *codes)
+INLINED WORD NAME(code_block)(const WORD *values, size_t count, int first, uint32_t mode, BIN bin, WORD *codes)
 {
-    WORD laid[1 + GROUP], all = 0;
-    if (count < GROUP || (first && mode == 2)) {
+    WORD laid[1 + BLOCK], all = 0;
+    if (count < BLOCK || (first && mode == 2)) {
         laid[0] = first ? 0 : values[-1];
-        for (size_t i = 0; i < GROUP; i++)
+        for (size_t i = 0; i < BLOCK; i++)
             laid[1 + i] = i < count ? values[i] : mode == 2 ? values[count - 1] : 0;
         values = laid + 1;
     }
-    for (size_t i = 0; i < GROUP; i++) {
+    for (size_t i = 0; i < BLOCK; i++) {
         codes[i] = NAME(code_of)(values + i, mode, bin);
         all |= codes[i];
     }
+    return all;
+}
+
+/*
+ * The codes of a group, block by block, and its width byte: the bit length of the largest is that of all or-ed together.
+ * Its first value is the chunk's, or not.
+ */
+INLINED unsigned NAME(code_group)(const WORD *values, size_t count, int first, uint32_t mode, BIN bin, WORD *codes)
+{
+    WORD all = NAME(code_block)(values, least(BLOCK, count), first, mode, bin, codes);
+    for (size_t at = BLOCK; at < count; at += BLOCK)
+        all |= NAME(code_block)(values + at, least(BLOCK, count - at), 0, mode, bin, codes + at);
     return bit_length(all);
 }
 
 /* ---- Pack and length */
 
-/* A short group's codes fill 32 places first, and then as many bytes as are its own. */
+/* A short block's codes fill 32 places first, and then as many bytes as are its own. */
 static void NAME(put_short)(const WORD *codes, size_t count, uint8_t *bytes, unsigned w)
 {
-    uint8_t whole[8 * GROUP];
+    uint8_t whole[8 * BLOCK];
     NAME(put)(codes, whole, w);
     memcpy(bytes, whole, bytes_of(count, w));
 }
 
+/* A group's codes, block by block: a whole one fills 4w bytes. */
+INLINED void NAME(put_group)(const WORD *codes, size_t count, uint8_t *bytes, unsigned w)
+{
+    for (; count >= BLOCK; count -= BLOCK, codes += BLOCK, bytes += 4 * w)
+        NAME(put)(codes, bytes, w);
+    if (count > 0)
+        NAME(put_short)(codes, count, bytes, w);
+}
+
 /* Writes chunk table and data, where there is an output, and answers where the data ends. */
-INLINED size_t NAME(pack_data)(const WORD *values, size_t n, uint32_t mode, BIN bin, uint8_t *out)
+INLINED size_t NAME(pack_data)(const WORD *values, size_t n, uint32_t mode, size_t group, BIN bin, uint8_t *out)
 {
     size_t data = HEADER + 4 * chunks_of(n), at = data;
-    for (size_t first = 0; first < n; first += GROUP) {
-        WORD codes[GROUP];
-        size_t count = least(GROUP, n - first);
+    for (size_t first = 0; first < n; first += group) {
+        WORD codes[LARGEST_GROUP];
+        size_t count = least(group, n - first);
         unsigned w = NAME(code_group)(values + first, count, first % CHUNK == 0, mode, bin, codes);
         if (out != NULL) {
             uint32_t start = (uint32_t)(at - data);
             if (first % CHUNK == 0)
                 memcpy(out + HEADER + first / CHUNK * 4, &start, sizeof start);
             out[at] = (uint8_t)w;
-            if (count == GROUP)
-                NAME(put)(codes, out + at + 1, w);
-            else
-                NAME(put_short)(codes, count, out + at + 1, w);
+            NAME(put_group)(codes, count, out + at + 1, w);
         }
         at += 1 + bytes_of(count, w);
     }
     return at;
 }
 
-/* The same, in a mode that is a constant from here on. */
-INLINED size_t NAME(pack_in_mode)(uint32_t mode, int32_t k, const WORD *values, size_t n, uint8_t *out)
+/* The same, in a mode and with a group size that are constants from here on. */
+INLINED size_t NAME(pack_in_mode)(struct setting s, const WORD *values, size_t n, uint8_t *out)
 {
-    BIN bin = NAME(bin_of)(k);
-    switch (mode) {
-    case 0: return NAME(pack_data)(values, n, 0, bin, out);
-    case 1: return NAME(pack_data)(values, n, 1, bin, out);
-    default: return NAME(pack_data)(values, n, 2, bin, out);
+    BIN bin = NAME(bin_of)(s.k);
+    switch (mode_number(s)) {
+    case 0: return NAME(pack_data)(values, n, 0, 32, bin, out);
+    case 1: return NAME(pack_data)(values, n, 1, 32, bin, out);
+    case 2: return NAME(pack_data)(values, n, 2, 32, bin, out);
+    case ADDED_FOR_128: return NAME(pack_data)(values, n, 0, 128, bin, out);
+    case ADDED_FOR_128 + 1: return NAME(pack_data)(values, n, 1, 128, bin, out);
+    default: return NAME(pack_data)(values, n, 2, 128, bin, out);
     }
 }
 
-static size_t NAME(measured)(uint32_t mode, int32_t k, const WORD *values, size_t n)
+static size_t NAME(measured)(struct setting s, const WORD *values, size_t n)
 {
-    return NAME(pack_in_mode)(mode, k, values, n, NULL);
+    return NAME(pack_in_mode)(s, values, n, NULL);
 }
 
 /* Refusals 1 2 3, or the bytes pack would use. */
-uint64_t NAME(plain_length)(uint32_t level, uint32_t mode, int32_t k, const WORD *values, size_t n)
+uint64_t NAME(plain_length)(uint32_t level, uint32_t mode, int32_t k, uint32_t group, const WORD *values, size_t n)
 {
-    TRY(admit(level, WIDTH, mode, k, n));
-    return NAME(measured)(mode, k, values, n);
+    struct setting s = {WIDTH, mode, group, k};
+    TRY(admit(level, s, n));
+    return NAME(measured)(s, values, n);
 }
 
 /* Refusals 1 2 3 4, or the bytes written. */
-uint64_t NAME(plain_pack)(uint32_t level, uint32_t mode, int32_t k, const WORD *values, size_t n, uint8_t *out,
-                          size_t room)
+uint64_t NAME(plain_pack)(uint32_t level, uint32_t mode, int32_t k, uint32_t group, const WORD *values, size_t n,
+                          uint8_t *out, size_t room)
 {
-    TRY(admit(level, WIDTH, mode, k, n));
+    struct setting s = {WIDTH, mode, group, k};
+    TRY(admit(level, s, n));
     /* Room for anything needs no measuring. */
     uint32_t c = (uint32_t)chunks_of(n);
-    if (room < HEADER + 4 * c + groups_of(n) + n * sizeof *values) {
-        size_t length = NAME(measured)(mode, k, values, n);
+    if (room < HEADER + 4 * c + (n + group - 1) / group + n * sizeof *values) {
+        size_t length = NAME(measured)(s, values, n);
         if (room < length)
             return refused(4, length);
     }
-    size_t end = NAME(pack_in_mode)(mode, k, values, n, out);
-    struct header header = {1, level, need(WIDTH, mode), WIDTH, mode, k, (uint32_t)n, c, HEADER, HEADER + 4 * c, 0,
+    size_t end = NAME(pack_in_mode)(s, values, n, out);
+    struct header header = {1, level, need(s), WIDTH, mode_number(s), k, (uint32_t)n, c, HEADER, HEADER + 4 * c, 0,
                             (uint32_t)end};
     memcpy(out, &header, HEADER);
     return end;
@@ -550,9 +605,20 @@ uint64_t NAME(plain_pack)(uint32_t level, uint32_t mode, int32_t k, const WORD *
 /* ---- Check, unpack and probe */
 
 /* The largest code a stream may hold: in mode 1 twice the largest u, plus the sign. */
-static WORD NAME(largest_code)(const struct header *header)
+static WORD NAME(largest_code)(struct setting s)
 {
-    return header->mode == 1 ? ~(WORD)0 - ((WORD)(header->k - LEAST_K) << (M + 1)) : ~(WORD)0;
+    return s.mode == 1 ? ~(WORD)0 - ((WORD)(s.k - LEAST_K) << (M + 1)) : ~(WORD)0;
+}
+
+/* Whether the codes of a block at a place of a stream are no larger than the largest. */
+static int NAME(all_fit)(const struct stream *stream, size_t place, size_t count, unsigned w, WORD most)
+{
+    WORD codes[BLOCK];
+    NAME(take)(stream, place, codes, w);
+    int all_fit = 1;
+    for (size_t i = 0; i < count; i++)
+        all_fit &= codes[i] <= most;
+    return all_fit;
 }
 
 /* The smallest width, zero padding and the largest code of a group whose bytes are there. */
@@ -567,31 +633,37 @@ static int NAME(group_holds)(const struct stream *stream, size_t place, size_t c
     unsigned longest = bit_length(most);
     if (w != longest || most == ~(WORD)0)
         return w <= longest;
-    WORD codes[GROUP];
-    NAME(take)(stream, place, codes, w);
-    int all_fit = 1;
-    for (size_t i = 0; i < count; i++)
-        all_fit &= codes[i] <= most;
-    return all_fit;
+    for (; count > BLOCK; count -= BLOCK, place += 4 * w)
+        if (!NAME(all_fit)(stream, place, BLOCK, w, most))
+            return 0;
+    return NAME(all_fit)(stream, place, count, w, most);
 }
 
 /* Refusal 10 of one chunk with its first bad group, or 0. Bytes left over count for the last group. */
-static uint64_t NAME(check_chunk)(const struct stream *stream, size_t chunk)
+INLINED uint64_t NAME(check_groups)(const struct stream *stream, size_t chunk, size_t group)
 {
-    WORD most = NAME(largest_code)(&stream->header);
+    WORD most = NAME(largest_code)(setting_of(&stream->header));
     size_t at = chunk_place(stream, chunk), end = chunk_place(stream, chunk + 1);
     size_t values = least(CHUNK, stream->header.n - chunk * CHUNK), left = values;
     while (left > 0 && at < end) {
-        size_t count = least(GROUP, left);
+        size_t count = least(group, left);
         unsigned w = stream->bytes[at++];
         if (w > WIDTH || bytes_of(count, w) > end - at || !NAME(group_holds)(stream, at, count, w, most))
-            return refused_group(chunk, values - left);
+            return refused_group(chunk, (values - left) / group);
         at += bytes_of(count, w);
         left -= count;
     }
     if (left > 0)
-        return refused_group(chunk, values - left);
-    return at == end ? 0 : refused_group(chunk, values - 1);
+        return refused_group(chunk, (values - left) / group);
+    return at == end ? 0 : refused_group(chunk, (values - 1) / group);
+}
+
+/* The same, with a group size that is a constant from here on. */
+static uint64_t NAME(check_chunk)(const struct stream *stream, size_t chunk)
+{
+    if (setting_of(&stream->header).group == 32)
+        return NAME(check_groups)(stream, chunk, 32);
+    return NAME(check_groups)(stream, chunk, 128);
 }
 
 static uint64_t NAME(check_chunks)(const struct stream *stream)
@@ -602,39 +674,41 @@ static uint64_t NAME(check_chunks)(const struct stream *stream)
 }
 
 /*
- * Restores 32 codes of w bits at a place of a stream. What code 0 restores is told, and answered for the next group:
+ * Restores 32 codes of w bits at a place of a stream. What code 0 restores is told, and answered for the next block:
  * pattern 0 or, in mode 2, the last one.
  */
-INLINED WORD NAME(restore_group)(const struct stream *stream, size_t place, unsigned w, WORD still, uint32_t mode,
+INLINED WORD NAME(restore_block)(const struct stream *stream, size_t place, unsigned w, WORD still, uint32_t mode,
                                  BIN bin, WORD *values)
 {
     if (mode == 2)
         return NAME(take_sums)(stream, place, still, values, w);
-    WORD codes[GROUP];
+    WORD codes[BLOCK];
     NAME(take)(stream, place, codes, w);
-    for (size_t i = 0; i < GROUP; i++)
+    for (size_t i = 0; i < BLOCK; i++)
         values[i] = NAME(restored)(codes[i], mode, bin);
     return 0;
 }
 
-/* Restores all groups of checked data. Chunks hold whole groups and follow each other without a gap. */
-INLINED void NAME(restore_data)(const struct stream *stream, uint32_t mode, BIN bin, WORD *restrict out)
+/* Restores all groups of checked data, by blocks. Chunks hold whole groups and follow each other without a gap. */
+INLINED void NAME(restore_data)(const struct stream *stream, uint32_t mode, size_t group, BIN bin, WORD *restrict out)
 {
     size_t n = stream->header.n, at = stream->header.data;
     WORD still = 0; /* what code 0 restores */
-    for (size_t first = 0; first < n; first += GROUP) {
-        size_t count = least(GROUP, n - first);
-        unsigned w = stream->bytes[at++];
+    unsigned w = 0;
+    for (size_t first = 0; first < n; first += BLOCK) {
+        size_t count = least(BLOCK, n - first);
+        if (first % group == 0)
+            w = stream->bytes[at++];
         if (first % CHUNK == 0)
             still = 0;
-        if (w == 0 && count == GROUP) {
-            for (size_t i = 0; i < GROUP; i++)
+        if (w == 0 && count == BLOCK) {
+            for (size_t i = 0; i < BLOCK; i++)
                 out[first + i] = still;
             continue;
         }
-        WORD values[GROUP], *to = count == GROUP ? out + first : values;
-        still = NAME(restore_group)(stream, at, w, still, mode, bin, to);
-        if (count < GROUP)
+        WORD values[BLOCK], *to = count == BLOCK ? out + first : values;
+        still = NAME(restore_block)(stream, at, w, still, mode, bin, to);
+        if (count < BLOCK)
             memcpy(out + first, values, count * sizeof *values);
         at += bytes_of(count, w);
     }
@@ -652,44 +726,49 @@ uint64_t NAME(plain_unpack)(uint32_t level, const uint8_t *bytes, size_t length,
     TRY(NAME(check_chunks)(&stream));
     BIN bin = NAME(bin_of)(header->k);
     switch (header->mode) {
-    case 0: NAME(restore_data)(&stream, 0, bin, out); break;
-    case 1: NAME(restore_data)(&stream, 1, bin, out); break;
-    default: NAME(restore_data)(&stream, 2, bin, out);
+    case 0: NAME(restore_data)(&stream, 0, 32, bin, out); break;
+    case 1: NAME(restore_data)(&stream, 1, 32, bin, out); break;
+    case 2: NAME(restore_data)(&stream, 2, 32, bin, out); break;
+    case ADDED_FOR_128: NAME(restore_data)(&stream, 0, 128, bin, out); break;
+    case ADDED_FOR_128 + 1: NAME(restore_data)(&stream, 1, 128, bin, out); break;
+    default: NAME(restore_data)(&stream, 2, 128, bin, out);
     }
     return header->n;
 }
 
-/* The code at an index of a checked chunk: the groups before its own are full, and are stepped over. */
-static WORD NAME(code_at)(const struct stream *stream, size_t chunk, size_t index)
+/* The code at an index of a checked chunk, whose groups have so many blocks. */
+static WORD NAME(code_at)(const struct stream *stream, size_t chunk, size_t index, size_t blocks)
 {
-    size_t at = chunk_place(stream, chunk);
-    for (; index >= GROUP; index -= GROUP)
-        at += 1 + bytes_of(GROUP, stream->bytes[at]);
-    WORD codes[GROUP];
-    NAME(take)(stream, at + 1, codes, stream->bytes[at]);
-    return codes[index];
+    unsigned w;
+    WORD codes[BLOCK];
+    size_t place = block_place(stream, chunk, index / BLOCK, blocks, &w);
+    NAME(take)(stream, place, codes, w);
+    return codes[index % BLOCK];
 }
 
 /* The pattern at an index of a checked chunk in mode 2: the sums run from the chunk's start. */
-static WORD NAME(sum_at)(const struct stream *stream, size_t chunk, size_t index)
+static WORD NAME(sum_at)(const struct stream *stream, size_t chunk, size_t index, size_t blocks)
 {
     size_t at = chunk_place(stream, chunk);
-    WORD patterns[GROUP], before = 0;
-    for (; index >= GROUP; index -= GROUP) {
-        before = NAME(take_sums)(stream, at + 1, before, patterns, stream->bytes[at]);
-        at += 1 + bytes_of(GROUP, stream->bytes[at]);
+    WORD patterns[BLOCK], before = 0;
+    unsigned w = 0;
+    for (size_t block = 0; block <= index / BLOCK; block++) {
+        if (block % blocks == 0)
+            w = stream->bytes[at++];
+        before = NAME(take_sums)(stream, at, before, patterns, w);
+        at += 4 * w;
     }
-    NAME(take_sums)(stream, at + 1, before, patterns, stream->bytes[at]);
-    return patterns[index];
+    return patterns[index % BLOCK];
 }
 
 /* The pattern at an index of a checked chunk. */
 static WORD NAME(pattern_at)(const struct stream *stream, size_t chunk, size_t index)
 {
-    const struct header *header = &stream->header;
-    if (header->mode == 2)
-        return NAME(sum_at)(stream, chunk, index);
-    return NAME(restored)(NAME(code_at)(stream, chunk, index), header->mode, NAME(bin_of)(header->k));
+    struct setting s = setting_of(&stream->header);
+    size_t blocks = s.group / BLOCK;
+    if (s.mode == 2)
+        return NAME(sum_at)(stream, chunk, index, blocks);
+    return NAME(restored)(NAME(code_at)(stream, chunk, index, blocks), s.mode, NAME(bin_of)(s.k));
 }
 
 /* Refusals 1 5 6 7 8 14 11 9 8 15 10, or the kind: 0 finite, 1 infinite, 2 not-a-number. No other chunk is read. */

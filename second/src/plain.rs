@@ -1,9 +1,10 @@
 //! The same format once more, tuned for speed: the bar of the benchmark.
 //!
-//! Ordinary safe Rust. Values are coded 32 at a time in a fixed array, by loops
-//! that the compiler turns into steps of several lanes. Codes are put and taken
-//! by a function for each width byte, in which every shift is known; that of the
-//! difference mode takes and sums up at once. The tolerance code divides by exact
+//! Ordinary safe Rust. Values are coded a group at a time in a fixed array, by loops
+//! that the compiler turns into steps of several lanes. Codes are put and taken in
+//! blocks of 32, which fill whole bytes, by a function for each width byte, in which
+//! every shift is known; that of the difference mode takes and sums up at once. A
+//! group is one block, or four of them under one width byte. The tolerance code divides by exact
 //! products of floats. Nothing is allocated.
 //! The rules, constants and checks are written here again rather than borrowed
 //! from the reference, so that comparing the two says something about both.
@@ -14,10 +15,13 @@ use std::ops::{BitOr, RangeInclusive};
 
 const MOST_VALUES: usize = 1 << 20;
 const CHUNK: usize = 1024;
-const GROUP: usize = 32;
+/// Codes that are put and taken at once: a group has one such block, or four.
+const BLOCK: usize = 32;
 const HEADER: usize = 48;
+/// What groups of 128 add to the mode number of the header.
+const ADDED_FOR_128: u32 = 256;
 
-/// Gives each index of a group to a macro.
+/// Gives each index of a block to a macro.
 macro_rules! for_each_code {
     ($each:ident) => {
         for_each_code!($each; 0 1 2 3 4 5 6 7 8 9 10 11 12 13 14 15 16 17 18 19 20 21 22 23 24 25
@@ -72,9 +76,9 @@ pub trait Lane: Copy + Default + Ord + BitOr<Output = Self> + 'static {
     fn tolerance_pattern(self, bin: Self::Bin) -> Self;
 }
 
-pub type Put<P> = fn(&[P; GROUP], &mut [u8]);
-pub type Take<P> = fn(&[u8; WINDOW], &mut [P; GROUP]);
-pub type Sum<P> = fn(&[u8; WINDOW], P, &mut [P; GROUP]) -> P;
+pub type Put<P> = fn(&[P; BLOCK], &mut [u8]);
+pub type Take<P> = fn(&[u8; WINDOW], &mut [P; BLOCK]);
+pub type Sum<P> = fn(&[u8; WINDOW], P, &mut [P; BLOCK]) -> P;
 
 /// What one k gives.
 #[derive(Clone, Copy)]
@@ -247,17 +251,17 @@ lane!(u64, i64, f64, 52, -1075, 970, half_up_53, whole_as_f64);
 
 /// How a mode makes codes of patterns, and restores them.
 trait Rule<P: Lane>: Copy {
-    /// Hands on each group of a chunk by its codes and how many are its own.
-    /// Those past a short group's count are 0, which changes neither the width
-    /// nor the bytes, as padding bits are zero too.
-    fn for_each_group(self, chunk: &[P], hand_on: impl FnMut(&[P; GROUP], usize));
+    /// Hands on each group of a chunk by its codes and how many are its own. G is
+    /// the group size. Codes past a short group's count are 0, which changes
+    /// neither the width nor the bytes, as padding bits are zero too.
+    fn for_each_group<const G: usize>(self, chunk: &[P], hand_on: impl FnMut(&[P; G], usize));
 
-    /// Restores a group from the codes of w bits that begin the bytes. What code
-    /// 0 restores is told, and answered for the next group.
-    fn restore(self, packed: &[u8], w: u32, still: P, group: &mut [P]) -> P;
+    /// Restores a block from the codes of w bits that begin the bytes. What code
+    /// 0 restores is told, and answered for the next block.
+    fn restore(self, packed: &[u8], w: u32, still: P, block: &mut [P]) -> P;
 
     /// The pattern at an index of the checked chunk that begins the bytes.
-    fn pattern_at(self, chunk: &[u8], index: usize) -> P;
+    fn pattern_at<const G: usize>(self, chunk: &[u8], index: usize) -> P;
 }
 
 /// Modes 0 and 1: each pattern has its own code, and code 0 is pattern 0.
@@ -271,34 +275,34 @@ impl<P: Lane, Code: Fn(P) -> P + Copy, Restored: Fn(P) -> P + Copy> Rule<P>
     for Each<Code, Restored>
 {
     #[inline(always)]
-    fn for_each_group(self, chunk: &[P], mut hand_on: impl FnMut(&[P; GROUP], usize)) {
-        for group in chunk.chunks(GROUP) {
+    fn for_each_group<const G: usize>(self, chunk: &[P], mut hand_on: impl FnMut(&[P; G], usize)) {
+        for group in chunk.chunks(G) {
             hand_on(&codes_of(group, self.code), group.len());
         }
     }
 
     #[inline(always)]
-    fn restore(self, packed: &[u8], w: u32, _: P, group: &mut [P]) -> P {
+    fn restore(self, packed: &[u8], w: u32, _: P, block: &mut [P]) -> P {
         let codes = taken(packed, w);
-        match <&mut [P; GROUP]>::try_from(&mut *group) {
+        match <&mut [P; BLOCK]>::try_from(&mut *block) {
             Ok(full) => restore_into(full, &codes, self.restored),
-            Err(_) => restore_into(group, &codes, self.restored),
+            Err(_) => restore_into(block, &codes, self.restored),
         }
         P::default()
     }
 
-    fn pattern_at(self, chunk: &[u8], index: usize) -> P {
-        (self.restored)(code_at(chunk, index))
+    fn pattern_at<const G: usize>(self, chunk: &[u8], index: usize) -> P {
+        (self.restored)(code_at::<P, G>(chunk, index))
     }
 }
 
-/// The codes of up to 32 values. A short group is filled up with pattern 0.
+/// The codes of up to G values. A short group is filled up with pattern 0.
 #[inline(always)]
-fn codes_of<P: Lane>(group: &[P], code: impl Fn(P) -> P) -> [P; GROUP] {
-    match <&[P; GROUP]>::try_from(group) {
+fn codes_of<P: Lane, const G: usize>(group: &[P], code: impl Fn(P) -> P) -> [P; G] {
+    match <&[P; G]>::try_from(group) {
         Ok(full) => coded(full, code),
         Err(_) => {
-            let mut filled = [P::default(); GROUP];
+            let mut filled = [P::default(); G];
             filled[..group.len()].copy_from_slice(group);
             coded(&filled, code)
         }
@@ -307,19 +311,19 @@ fn codes_of<P: Lane>(group: &[P], code: impl Fn(P) -> P) -> [P; GROUP] {
 
 /// A plain loop, which the compiler turns into steps of several lanes.
 #[inline(always)]
-fn coded<P: Lane>(patterns: &[P; GROUP], code: impl Fn(P) -> P) -> [P; GROUP] {
-    let mut codes = [P::default(); GROUP];
+fn coded<P: Lane, const G: usize>(patterns: &[P; G], code: impl Fn(P) -> P) -> [P; G] {
+    let mut codes = [P::default(); G];
     for (to, &from) in codes.iter_mut().zip(patterns) {
         *to = code(from);
     }
     codes
 }
 
-/// Restores as many codes as there are elements; a group of known length
+/// Restores as many codes as there are elements; a block of known length
 /// lets the compiler unroll.
 #[inline(always)]
-fn restore_into<P: Lane>(group: &mut [P], codes: &[P; GROUP], restored: impl Fn(P) -> P) {
-    for (element, &code) in group.iter_mut().zip(codes) {
+fn restore_into<P: Lane>(block: &mut [P], codes: &[P; BLOCK], restored: impl Fn(P) -> P) {
+    for (element, &code) in block.iter_mut().zip(codes) {
         *element = restored(code);
     }
 }
@@ -331,42 +335,64 @@ struct Differences;
 
 impl<P: Lane> Rule<P> for Differences {
     /// The whole chunk is coded by one long loop, of which the compiler makes
-    /// better steps than of 32 at a time.
+    /// better steps than of a group at a time.
     #[inline(always)]
-    fn for_each_group(self, chunk: &[P], mut hand_on: impl FnMut(&[P; GROUP], usize)) {
+    fn for_each_group<const G: usize>(self, chunk: &[P], mut hand_on: impl FnMut(&[P; G], usize)) {
         let mut codes = [P::default(); CHUNK];
         codes[0] = chunk[0].difference_code(P::default());
         for (code, pair) in codes[1..].iter_mut().zip(chunk.windows(2)) {
             *code = pair[1].difference_code(pair[0]);
         }
-        for (codes, group) in codes.as_chunks().0.iter().zip(chunk.chunks(GROUP)) {
+        for (codes, group) in codes.as_chunks().0.iter().zip(chunk.chunks(G)) {
             hand_on(codes, group.len());
         }
     }
 
     #[inline(always)]
-    fn restore(self, packed: &[u8], w: u32, still: P, group: &mut [P]) -> P {
-        opened(packed, |window| match <&mut [P; GROUP]>::try_from(&mut *group) {
+    fn restore(self, packed: &[u8], w: u32, still: P, block: &mut [P]) -> P {
+        opened(packed, |window| match <&mut [P; BLOCK]>::try_from(&mut *block) {
             Ok(full) => P::SUM[w as usize](window, still, full),
             Err(_) => {
-                let mut patterns = [still; GROUP];
+                let mut patterns = [still; BLOCK];
                 let last = P::SUM[w as usize](window, still, &mut patterns);
-                group.copy_from_slice(&patterns[..group.len()]);
+                block.copy_from_slice(&patterns[..block.len()]);
                 last
             }
         })
     }
 
     /// The sums run from the chunk's start.
-    fn pattern_at(self, mut chunk: &[u8], index: usize) -> P {
-        let (mut before, mut patterns) = (P::default(), [P::default(); GROUP]);
-        for _ in 0..index / GROUP {
-            before = self.restore(&chunk[1..], chunk[0] as u32, before, &mut patterns);
-            chunk = after_full_group(chunk);
+    fn pattern_at<const G: usize>(self, mut chunk: &[u8], index: usize) -> P {
+        let (mut before, mut patterns) = (P::default(), [P::default(); BLOCK]);
+        for group in 0..=index / G {
+            let last = if group == index / G { index % G / BLOCK } else { G / BLOCK - 1 };
+            for block in 0..=last {
+                let (w, packed) = block_of(chunk, block);
+                before = self.restore(packed, w, before, &mut patterns);
+            }
+            if group < index / G {
+                chunk = after_full_group::<G>(chunk);
+            }
         }
-        self.restore(&chunk[1..], chunk[0] as u32, before, &mut patterns);
-        patterns[index % GROUP]
+        patterns[index % BLOCK]
     }
+}
+
+/// Does something with an allowed group size, which is known to the compiler
+/// there.
+macro_rules! by_size {
+    ($group:expr, $size:ident => $done:expr) => {
+        match $group {
+            32 => {
+                const $size: usize = 32;
+                $done
+            }
+            _ => {
+                const $size: usize = 128;
+                $done
+            }
+        }
+    };
 }
 
 /// Does something by the rule of an allowed mode and k, which is known to the
@@ -395,33 +421,63 @@ macro_rules! by_rule {
 
 // ------------------------------------------------------- pack and length
 
-const LEVELS: RangeInclusive<u32> = 8..=12;
+const LEVELS: RangeInclusive<u32> = 8..=13;
 
-/// Mode 2 needs 11; else width 64 needs 10; else mode 1 needs 9; else 8. A side
-/// part that must be understood may raise it.
-fn need(width: u32, mode: u32) -> u32 {
-    match (width, mode) {
-        (_, 2) => 11,
-        (64, _) => 10,
-        (_, 1) => 9,
-        _ => 8,
-    }
+/// What pack and length are told besides the level and the list, and what a header
+/// tells.
+#[derive(Clone, Copy)]
+struct Setting {
+    mode: u32,
+    k: i32,
+    group: u32,
 }
 
-fn setting_allowed(mode: u32, k: i32, least_k: i32, greatest_k: i32) -> bool {
-    match mode {
-        0 | 2 => k == 0,
-        1 => least_k <= k && k <= greatest_k,
-        _ => false,
+impl Setting {
+    /// The setting of a header: 256 is added to the mode for groups of 128. A
+    /// number that is no mode stays none.
+    fn of_header(mode_number: u32, k: i32) -> Setting {
+        match mode_number {
+            ADDED_FOR_128.. => Setting { mode: mode_number - ADDED_FOR_128, k, group: 128 },
+            _ => Setting { mode: mode_number, k, group: 32 },
+        }
+    }
+
+    fn mode_number(self) -> u32 {
+        if self.group == 128 {
+            self.mode + ADDED_FOR_128
+        } else {
+            self.mode
+        }
+    }
+
+    /// Groups of 128 need 13; else mode 2 needs 11; else width 64 needs 10; else
+    /// mode 1 needs 9; else 8. A side part that must be understood may raise it.
+    fn need(self, width: u32) -> u32 {
+        match (width, self.mode, self.group) {
+            (_, _, 128) => 13,
+            (_, 2, _) => 11,
+            (64, _, _) => 10,
+            (_, 1, _) => 9,
+            _ => 8,
+        }
+    }
+
+    fn allowed(self, least_k: i32, greatest_k: i32) -> bool {
+        let of_mode = match self.mode {
+            0 | 2 => self.k == 0,
+            1 => least_k <= self.k && self.k <= greatest_k,
+            _ => false,
+        };
+        of_mode && (self.group == 32 || self.group == 128)
     }
 }
 
 /// Refusals 1 2 3 of pack and length.
-fn admit<P: Lane>(level: u32, mode: u32, k: i32, n: usize) -> Result<(), Refusal> {
+fn admit<P: Lane>(level: u32, setting: Setting, n: usize) -> Result<(), Refusal> {
     if !LEVELS.contains(&level) {
         return Err(Refusal::bare(1));
     }
-    if !setting_allowed(mode, k, P::LEAST_K, P::GREATEST_K) || need(P::W, mode) > level {
+    if !setting.allowed(P::LEAST_K, P::GREATEST_K) || setting.need(P::W) > level {
         return Err(Refusal::bare(2));
     }
     if n > MOST_VALUES {
@@ -431,12 +487,22 @@ fn admit<P: Lane>(level: u32, mode: u32, k: i32, n: usize) -> Result<(), Refusal
 }
 
 /// Writes the packed stream to the front of the output.
-pub fn pack<P: Lane>(level: u32, mode: u32, k: i32, values: &[P], output: &mut [u8]) -> Answer {
-    admit::<P>(level, mode, k, values.len())?;
-    let end = by_rule!(mode, k, rule => pack_data(values, output, rule))?;
+pub fn pack<P: Lane>(
+    level: u32,
+    mode: u32,
+    k: i32,
+    group: u32,
+    values: &[P],
+    output: &mut [u8],
+) -> Answer {
+    let setting = Setting { mode, k, group };
+    admit::<P>(level, setting, values.len())?;
+    let end = by_rule!(mode, k, rule => by_size!(group, G => {
+        pack_data::<P, G>(values, output, rule)
+    }))?;
     let n = values.len() as u32;
     let c = n.div_ceil(CHUNK as u32);
-    let need = need(P::W, mode);
+    let (need, mode) = (setting.need(P::W), setting.mode_number());
     let numbers = [1, level, need, P::W, mode, k as u32, n, c, 48, 48 + 4 * c, 0, end as u32];
     for (place, number) in output.chunks_exact_mut(4).zip(numbers) {
         place.copy_from_slice(&number.to_le_bytes());
@@ -445,14 +511,15 @@ pub fn pack<P: Lane>(level: u32, mode: u32, k: i32, values: &[P], output: &mut [
 }
 
 /// The bytes pack would use.
-pub fn length<P: Lane>(level: u32, mode: u32, k: i32, values: &[P]) -> Answer {
-    admit::<P>(level, mode, k, values.len())?;
-    Ok(by_rule!(mode, k, rule => measured(values, rule)) as u64)
+pub fn length<P: Lane>(level: u32, mode: u32, k: i32, group: u32, values: &[P]) -> Answer {
+    admit::<P>(level, Setting { mode, k, group }, values.len())?;
+    let length = by_rule!(mode, k, rule => by_size!(group, G => measured::<P, G>(values, rule)));
+    Ok(length as u64)
 }
 
 /// The bit length of the largest code is that of all codes or-ed together.
 #[inline(always)]
-fn width_of<P: Lane>(codes: &[P; GROUP]) -> u32 {
+fn width_of<P: Lane, const G: usize>(codes: &[P; G]) -> u32 {
     let all = codes.iter().fold(P::default(), |all, &code| all | code);
     64 - all.wide().leading_zeros()
 }
@@ -462,28 +529,30 @@ fn bytes_of(count: usize, w: u32) -> usize {
     (count * w as usize).div_ceil(8)
 }
 
-fn measured<P: Lane>(values: &[P], rule: impl Rule<P>) -> usize {
+fn measured<P: Lane, const G: usize>(values: &[P], rule: impl Rule<P>) -> usize {
     let mut length = HEADER + 4 * values.len().div_ceil(CHUNK);
     for chunk in values.chunks(CHUNK) {
-        rule.for_each_group(chunk, |codes, count| length += 1 + bytes_of(count, width_of(codes)));
+        rule.for_each_group::<G>(chunk, |codes, count| {
+            length += 1 + bytes_of(count, width_of(codes));
+        });
     }
     length
 }
 
 /// The length no packed stream of n values exceeds.
-fn most_bytes<P: Lane>(n: usize) -> usize {
-    HEADER + 4 * n.div_ceil(CHUNK) + n.div_ceil(GROUP) + n * (P::W / 8) as usize
+fn most_bytes<P: Lane, const G: usize>(n: usize) -> usize {
+    HEADER + 4 * n.div_ceil(CHUNK) + n.div_ceil(G) + n * (P::W / 8) as usize
 }
 
 /// Writes chunk table and data and answers where the data ends, or refuses
 /// with 4. An output that is long enough for anything needs no measuring.
-fn pack_data<P: Lane>(
+fn pack_data<P: Lane, const G: usize>(
     values: &[P],
     output: &mut [u8],
     rule: impl Rule<P>,
 ) -> Result<usize, Refusal> {
-    if output.len() < most_bytes::<P>(values.len()) {
-        let length = measured(values, rule);
+    if output.len() < most_bytes::<P, G>(values.len()) {
+        let length = measured::<P, G>(values, rule);
         if output.len() < length {
             return Err(Refusal::with_detail(4, length as u64));
         }
@@ -494,17 +563,15 @@ fn pack_data<P: Lane>(
     let mut at = 0;
     for (chunk, entry) in values.chunks(CHUNK).zip(table) {
         entry.copy_from_slice(&(at as u32).to_le_bytes());
-        rule.for_each_group(chunk, |codes, count| {
+        rule.for_each_group::<G>(chunk, |codes, count| {
             let w = width_of(codes);
             let length = bytes_of(count, w);
             data[at] = w as u8;
             let packed = &mut data[at + 1..at + 1 + length];
-            if count == GROUP {
-                P::PUT[w as usize](codes, packed);
+            if count == G {
+                put_blocks(codes, w, packed);
             } else {
-                let mut whole = [0; 8 * GROUP];
-                P::PUT[w as usize](codes, &mut whole);
-                packed.copy_from_slice(&whole[..length]);
+                put_short(codes, w, packed);
             }
             at += 1 + length;
         });
@@ -512,10 +579,29 @@ fn pack_data<P: Lane>(
     Ok(data_place + at)
 }
 
+/// Puts a whole group, block after block: each fills 4w bytes.
+#[inline(always)]
+fn put_blocks<P: Lane, const G: usize>(codes: &[P; G], w: u32, bytes: &mut [u8]) {
+    let (put, step) = (P::PUT[w as usize], BLOCK / 8 * w as usize);
+    for (number, block) in codes.as_chunks().0.iter().enumerate() {
+        put(block, &mut bytes[number * step..(number + 1) * step]);
+    }
+}
+
+/// Puts a short group: whole blocks at first, then as many bytes as are its own.
+fn put_short<P: Lane, const G: usize>(codes: &[P; G], w: u32, bytes: &mut [u8]) {
+    let mut whole = [0; MOST_BYTES_OF_GROUP];
+    put_blocks(codes, w, &mut whole[..G / 8 * w as usize]);
+    bytes.copy_from_slice(&whole[..bytes.len()]);
+}
+
+/// 128 codes of 64 bits.
+const MOST_BYTES_OF_GROUP: usize = 128 * 8;
+
 /// Puts 32 codes of W bits into the 4W bytes they fill, through an accumulator.
 /// W is known to the compiler, and with it every shift.
-fn put_codes<P: Lane, const W: usize>(codes: &[P; GROUP], bytes: &mut [u8]) {
-    let bytes = &mut bytes[..GROUP / 8 * W];
+fn put_codes<P: Lane, const W: usize>(codes: &[P; BLOCK], bytes: &mut [u8]) {
+    let bytes = &mut bytes[..BLOCK / 8 * W];
     let mut accumulator = 0;
     let mut filled = 0;
     let mut at = 0;
@@ -540,8 +626,8 @@ fn put_codes<P: Lane, const W: usize>(codes: &[P; GROUP], bytes: &mut [u8]) {
 
 // --------------------------------------------------------------- reading
 
-/// Side parts from this id up must be understood, and none is known yet. They
-/// need more than any setting.
+/// Side parts from this id up must be understood, and none is known yet; and what
+/// they need, if the setting does not need more.
 const FIRST_HIGH_ID: u32 = 1 << 31;
 const NEED_OF_HIGH_ID: u32 = 12;
 
@@ -549,8 +635,7 @@ const NEED_OF_HIGH_ID: u32 = 12;
 struct Header {
     needed: u32,
     width: u32,
-    mode: u32,
-    k: i32,
+    setting: Setting,
     n: usize,
     c: usize,
     sides: usize,
@@ -579,7 +664,8 @@ fn read_header(level: u32, stream: &[u8]) -> Result<Header, Refusal> {
     if needed > level {
         return Err(Refusal::with_detail(7, needed as u64));
     }
-    let (width, mode, k, n) = (number(3), number(4), number(5) as i32, number(6) as usize);
+    let (width, n) = (number(3), number(6) as usize);
+    let setting = Setting::of_header(number(4), number(5) as i32);
     let (least_k, greatest_k) = match width {
         32 => (u32::LEAST_K, u32::GREATEST_K),
         64 => (u64::LEAST_K, u64::GREATEST_K),
@@ -588,8 +674,8 @@ fn read_header(level: u32, stream: &[u8]) -> Result<Header, Refusal> {
     // With n within its limit, c and the places below stay small.
     let c = n.div_ceil(CHUNK);
     let (data_place, data_end) = (number(9) as usize, number(11) as usize);
-    let kept = setting_allowed(mode, k, least_k, greatest_k)
-        && needed >= need(width, mode)
+    let kept = setting.allowed(least_k, greatest_k)
+        && needed >= setting.need(width)
         && number(1) >= needed
         && n <= MOST_VALUES
         && number(7) as usize == c
@@ -602,7 +688,7 @@ fn read_header(level: u32, stream: &[u8]) -> Result<Header, Refusal> {
         return Err(Refusal::bare(8));
     }
     let sides = number(10) as usize;
-    Ok(Header { needed, width, mode, k, n, c, sides, data_place, data_end })
+    Ok(Header { needed, width, setting, n, c, sides, data_place, data_end })
 }
 
 /// Refusals 9 8 15: both tables, the exact need, and ids that must be
@@ -613,7 +699,8 @@ fn check_tables(stream: &[u8], header: &Header) -> Result<(), Refusal> {
     }
     let mut ids = side_table(stream, header).chunks_exact(12).map(|entry| number_at(entry, 0));
     let high_id = ids.find(|&id| id >= FIRST_HIGH_ID);
-    if header.needed != high_id.map_or(need(header.width, header.mode), |_| NEED_OF_HIGH_ID) {
+    let need = header.setting.need(header.width);
+    if header.needed != high_id.map_or(need, |_| need.max(NEED_OF_HIGH_ID)) {
         return Err(Refusal::bare(8));
     }
     match high_id {
@@ -667,14 +754,16 @@ fn side_table_holds(stream: &[u8], header: &Header) -> bool {
 
 /// Refusal 10: all chunks, without restoring a value.
 fn check_chunks<P: Lane>(stream: &[u8], header: &Header) -> Result<(), Refusal> {
-    let most = P::largest_code(header.mode, header.k);
-    for chunk in 0..header.c {
-        check_chunk(stream, header, chunk, most)?;
-    }
+    let most = P::largest_code(header.setting.mode, header.setting.k);
+    by_size!(header.setting.group, G => {
+        for chunk in 0..header.c {
+            check_chunk::<P, G>(stream, header, chunk, most)?;
+        }
+    });
     Ok(())
 }
 
-fn check_chunk<P: Lane>(
+fn check_chunk<P: Lane, const G: usize>(
     stream: &[u8],
     header: &Header,
     chunk: usize,
@@ -687,17 +776,16 @@ fn check_chunk<P: Lane>(
         header.data_end
     };
     let count = (header.n - chunk * CHUNK).min(CHUNK);
-    match value_in_bad_group(&stream[start..], end - start, count, most) {
+    match value_in_bad_group::<P, G>(&stream[start..], end - start, count, most) {
         None => Ok(()),
-        // All chunks before are full, so the groups count on from one to the
-        // next: this is chunk·32 + group.
-        Some(value) => Err(Refusal::with_detail(10, ((chunk * CHUNK + value) / GROUP) as u64)),
+        // At either size, a chunk has 32 details.
+        Some(value) => Err(Refusal::with_detail(10, (chunk * 32 + value / G) as u64)),
     }
 }
 
 /// A value in the first bad group of the chunk of this length that begins the
 /// bytes, if it has one. Bytes left over count for the last group.
-fn value_in_bad_group<P: Lane>(
+fn value_in_bad_group<P: Lane, const G: usize>(
     bytes: &[u8],
     length: usize,
     count: usize,
@@ -710,7 +798,7 @@ fn value_in_bad_group<P: Lane>(
             return Some(count - left);
         }
         let w = bytes[at] as u32;
-        let group = left.min(GROUP);
+        let group = left.min(G);
         let end = at + 1 + bytes_of(group, w);
         if w > P::W || end > length || !group_holds(&bytes[at + 1..], group, w, most) {
             return Some(count - left);
@@ -744,8 +832,11 @@ fn group_holds<P: Lane>(bytes: &[u8], count: usize, w: u32, most: P) -> bool {
     if w != longest || most.wide() == u64::MAX >> (64 - P::W) {
         return w <= longest;
     }
-    let codes: [P; GROUP] = taken(bytes, w);
-    codes[..count].iter().fold(true, |all_fit, &code| all_fit & (code <= most))
+    (0..count).step_by(BLOCK).all(|first| {
+        let codes: [P; BLOCK] = taken(&bytes[first / 8 * step..], w);
+        let own = &codes[..BLOCK.min(count - first)];
+        own.iter().fold(true, |all_fit, &code| all_fit & (code <= most))
+    })
 }
 
 /// Checks a whole stream of either width and answers n.
@@ -774,7 +865,8 @@ pub fn unpack<P: Lane>(level: u32, stream: &[u8], output: &mut [P]) -> Answer {
     check_chunks::<P>(stream, &header)?;
     let data = &stream[header.data_place..header.data_end];
     let output = &mut output[..header.n];
-    by_rule!(header.mode, header.k, rule => unpack_data(data, output, rule));
+    let Setting { mode, k, group } = header.setting;
+    by_rule!(mode, k, rule => by_size!(group, G => unpack_data::<P, G>(data, output, rule)));
     Ok(header.n as u64)
 }
 
@@ -789,56 +881,70 @@ pub fn probe<P: Lane>(level: u32, stream: &[u8], index: u64) -> Result<P, Refusa
     }
     check_tables(stream, &header)?;
     let (chunk, index) = (index as usize / CHUNK, index as usize % CHUNK);
-    check_chunk(stream, &header, chunk, P::largest_code(header.mode, header.k))?;
-    let start = header.data_place + chunk_start(stream, chunk);
-    Ok(by_rule!(header.mode, header.k, rule => rule.pattern_at(&stream[start..], index)))
+    let Setting { mode, k, group } = header.setting;
+    let most = P::largest_code(mode, k);
+    by_size!(group, G => check_chunk::<P, G>(stream, &header, chunk, most))?;
+    let bytes = &stream[header.data_place + chunk_start(stream, chunk)..];
+    Ok(by_rule!(mode, k, rule => by_size!(group, G => rule.pattern_at::<G>(bytes, index))))
 }
 
 /// The code at an index of the checked chunk that begins the bytes: the groups
 /// before its own are full, and are stepped over.
-fn code_at<P: Lane>(mut chunk: &[u8], index: usize) -> P {
-    for _ in 0..index / GROUP {
-        chunk = after_full_group(chunk);
+fn code_at<P: Lane, const G: usize>(mut chunk: &[u8], index: usize) -> P {
+    for _ in 0..index / G {
+        chunk = after_full_group::<G>(chunk);
     }
-    taken(&chunk[1..], chunk[0] as u32)[index % GROUP]
+    let (w, packed) = block_of(chunk, index % G / BLOCK);
+    taken(packed, w)[index % BLOCK]
 }
 
 /// The bytes after the full group that begins them.
-fn after_full_group(bytes: &[u8]) -> &[u8] {
-    &bytes[1 + bytes_of(GROUP, bytes[0] as u32)..]
+fn after_full_group<const G: usize>(bytes: &[u8]) -> &[u8] {
+    &bytes[1 + bytes_of(G, bytes[0] as u32)..]
 }
 
-/// Restores all groups of checked data: chunks hold whole groups and follow
-/// each other without a gap.
-fn unpack_data<P: Lane>(mut data: &[u8], output: &mut [P], rule: impl Rule<P>) {
+/// The width byte of the group that begins the bytes, and where the block with
+/// this number begins in it.
+fn block_of(group: &[u8], block: usize) -> (u32, &[u8]) {
+    let w = group[0] as u32;
+    (w, &group[1 + block * bytes_of(BLOCK, w)..])
+}
+
+/// Restores all groups of checked data, block by block: chunks hold whole groups
+/// and follow each other without a gap.
+fn unpack_data<P: Lane, const G: usize>(mut data: &[u8], output: &mut [P], rule: impl Rule<P>) {
     for chunk in output.chunks_mut(CHUNK) {
-        let mut still = P::default();
-        for group in chunk.chunks_mut(GROUP) {
-            let (w, packed) = (data[0] as u32, &data[1..]);
-            data = &packed[bytes_of(group.len(), w)..];
+        let (mut still, mut w) = (P::default(), 0);
+        for (number, block) in chunk.chunks_mut(BLOCK).enumerate() {
+            if number % (G / BLOCK) == 0 {
+                w = data[0] as u32;
+                data = &data[1..];
+            }
+            let packed = data;
+            data = &packed[bytes_of(block.len(), w)..];
             if w == 0 {
-                group.fill(still);
+                block.fill(still);
                 continue;
             }
-            still = rule.restore(packed, w, still, group);
+            still = rule.restore(packed, w, still, block);
         }
     }
 }
 
-/// The bytes of the largest group, and 8 more so that 9 bytes can be read
+/// The bytes of the largest block, and 8 more so that 9 bytes can be read
 /// from any place where a code begins.
-const WINDOW: usize = 8 * GROUP + 8;
+const WINDOW: usize = 8 * BLOCK + 8;
 
 /// 32 codes of w bits.
 #[inline(always)]
-fn taken<P: Lane>(packed: &[u8], w: u32) -> [P; GROUP] {
-    let mut codes = [P::default(); GROUP];
+fn taken<P: Lane>(packed: &[u8], w: u32) -> [P; BLOCK] {
+    let mut codes = [P::default(); BLOCK];
     opened(packed, |window| P::TAKE[w as usize](window, &mut codes));
     codes
 }
 
 /// Does something with the window that the bytes begin. All but a stream's last
-/// groups are read where they lie.
+/// blocks are read where they lie.
 #[inline(always)]
 fn opened<T>(packed: &[u8], done: impl FnOnce(&[u8; WINDOW]) -> T) -> T {
     match packed.first_chunk() {
@@ -855,9 +961,9 @@ fn windowed(packed: &[u8]) -> [u8; WINDOW] {
     window
 }
 
-/// Takes 32 codes of W bits. Past a short group's count they are made of
+/// Takes 32 codes of W bits. Past a short block's count they are made of
 /// whatever follows it, and nobody looks at them.
-fn take_codes<P: Lane, const W: usize>(window: &[u8; WINDOW], codes: &mut [P; GROUP]) {
+fn take_codes<P: Lane, const W: usize>(window: &[u8; WINDOW], codes: &mut [P; BLOCK]) {
     macro_rules! take {
         ($index:literal) => {
             codes[$index] = code_in::<P, W>(window, $index);
@@ -872,7 +978,7 @@ fn take_codes<P: Lane, const W: usize>(window: &[u8; WINDOW], codes: &mut [P; GR
 fn sum_differences<P: Lane, const W: usize>(
     window: &[u8; WINDOW],
     before: P,
-    patterns: &mut [P; GROUP],
+    patterns: &mut [P; BLOCK],
 ) -> P {
     let mut sum = before;
     macro_rules! add {

@@ -9,7 +9,7 @@ use crate::{Answer, Refusal};
 use std::ops::Range;
 
 pub const MOST_VALUES: u64 = 1_048_576;
-pub const HIGHEST_LEVEL: u32 = 12;
+pub const HIGHEST_LEVEL: u32 = 13;
 
 const HEADER_BYTES: u64 = 48;
 const TABLE_ENTRY_BYTES: u64 = 4;
@@ -20,8 +20,12 @@ const FIRST_HIGH_ID: u32 = 1 << 31;
 /// What a stream with such an id needs.
 const NEED_OF_HIGH_ID: u32 = 12;
 pub(crate) const VALUES_IN_CHUNK: u64 = 1024;
-const VALUES_IN_GROUP: u64 = 32;
-const GROUPS_IN_CHUNK: u64 = 32;
+/// The detail of refusal 10 is chunk·32 + group, at either group size.
+const DETAILS_OF_CHUNK: u64 = 32;
+/// What groups of 128 add to the mode number in the header and the listing.
+const ADDED_FOR_128: u32 = 256;
+/// What groups of 128 need.
+const NEED_OF_128: u32 = 13;
 
 /// A bit pattern of one of the two widths.
 pub trait Pattern: Copy {
@@ -61,67 +65,55 @@ pub enum Probed<P> {
     Refused(Refusal),
 }
 
-/// An allowed setting of width, mode and k.
+/// How values become codes: an allowed combination of width, mode and k.
 #[derive(Clone, Copy, Debug)]
-pub(crate) enum Setting {
+enum Coding {
     Lossless(Width),
     Tolerance(Tolerance),
     Difference(Width),
 }
 
-impl Setting {
-    /// The setting, if width, mode and k are allowed together.
-    fn allowed(width: u32, mode: u32, k: i32) -> Option<Setting> {
+impl Coding {
+    /// The coding, if width, mode and k are allowed together.
+    fn allowed(width: u32, mode: u32, k: i32) -> Option<Coding> {
         let width = Width::numbered(width)?;
         match mode {
-            0 if k == 0 => Some(Setting::Lossless(width)),
-            1 => Tolerance::allowed(width, k).map(Setting::Tolerance),
-            2 if k == 0 => Some(Setting::Difference(width)),
+            0 if k == 0 => Some(Coding::Lossless(width)),
+            1 => Tolerance::allowed(width, k).map(Coding::Tolerance),
+            2 if k == 0 => Some(Coding::Difference(width)),
             _ => None,
         }
     }
 
-    pub(crate) fn width(self) -> Width {
+    fn width(self) -> Width {
         match self {
-            Setting::Lossless(width) | Setting::Difference(width) => width,
-            Setting::Tolerance(tolerance) => tolerance.width(),
+            Coding::Lossless(width) | Coding::Difference(width) => width,
+            Coding::Tolerance(tolerance) => tolerance.width(),
         }
     }
 
-    pub(crate) fn mode(self) -> u32 {
+    fn mode(self) -> u32 {
         match self {
-            Setting::Lossless(_) => 0,
-            Setting::Tolerance(_) => 1,
-            Setting::Difference(_) => 2,
+            Coding::Lossless(_) => 0,
+            Coding::Tolerance(_) => 1,
+            Coding::Difference(_) => 2,
         }
     }
 
-    pub(crate) fn k(self) -> i32 {
+    fn k(self) -> i32 {
         match self {
-            Setting::Lossless(_) | Setting::Difference(_) => 0,
-            Setting::Tolerance(tolerance) => tolerance.k(),
+            Coding::Lossless(_) | Coding::Difference(_) => 0,
+            Coding::Tolerance(tolerance) => tolerance.k(),
         }
-    }
-
-    /// Mode 2 needs 11, width 64 needs 10, mode 1 needs 9, and all need 8: the
-    /// largest stands. It is the need of a stream without high ids.
-    fn need(self) -> u32 {
-        let of_mode = match self {
-            Setting::Lossless(_) => 8,
-            Setting::Tolerance(_) => 9,
-            Setting::Difference(_) => 11,
-        };
-        let of_width = if self.width() == WIDTH_64 { 10 } else { 8 };
-        of_mode.max(of_width)
     }
 
     /// The code of a pattern, where `before` is the one before it in its chunk,
     /// 0 for the first.
     fn code(self, before: u64, pattern: u64) -> u64 {
         match self {
-            Setting::Lossless(width) => numbers::lossless_code(width, pattern),
-            Setting::Tolerance(tolerance) => tolerance.code(pattern),
-            Setting::Difference(width) => numbers::difference_code(width, before, pattern),
+            Coding::Lossless(width) => numbers::lossless_code(width, pattern),
+            Coding::Tolerance(tolerance) => tolerance.code(pattern),
+            Coding::Difference(width) => numbers::difference_code(width, before, pattern),
         }
     }
 
@@ -129,10 +121,67 @@ impl Setting {
     /// its largest.
     fn restored(self, before: u64, code: u64) -> Option<u64> {
         match self {
-            Setting::Lossless(width) => Some(numbers::lossless_pattern(width, code)),
-            Setting::Tolerance(tolerance) => tolerance.restored(code),
-            Setting::Difference(width) => Some(numbers::difference_pattern(width, before, code)),
+            Coding::Lossless(width) => Some(numbers::lossless_pattern(width, code)),
+            Coding::Tolerance(tolerance) => tolerance.restored(code),
+            Coding::Difference(width) => Some(numbers::difference_pattern(width, before, code)),
         }
+    }
+}
+
+/// An allowed setting: a coding, and a group size, which is 32 or 128.
+#[derive(Clone, Copy, Debug)]
+pub(crate) struct Setting {
+    coding: Coding,
+    group: u64,
+}
+
+impl Setting {
+    /// The setting of a call.
+    fn asked(width: u32, mode: u32, k: i32, group: u32) -> Option<Setting> {
+        let coding = Coding::allowed(width, mode, k)?;
+        match group {
+            32 | 128 => Some(Setting { coding, group: group as u64 }),
+            _ => None,
+        }
+    }
+
+    /// The setting of a header, where 256 is added to the mode for groups of 128.
+    fn stated(width: u32, mode_number: u32, k: i32) -> Option<Setting> {
+        match mode_number {
+            0..=2 => Setting::asked(width, mode_number, k, 32),
+            256..=258 => Setting::asked(width, mode_number - ADDED_FOR_128, k, 128),
+            _ => None,
+        }
+    }
+
+    pub(crate) fn width(self) -> Width {
+        self.coding.width()
+    }
+
+    /// The mode as the header and the listing have it.
+    pub(crate) fn mode_number(self) -> u32 {
+        match self.group {
+            128 => self.coding.mode() + ADDED_FOR_128,
+            _ => self.coding.mode(),
+        }
+    }
+
+    pub(crate) fn k(self) -> i32 {
+        self.coding.k()
+    }
+
+    /// Groups of 128 need 13, mode 2 needs 11, width 64 needs 10, mode 1 needs 9,
+    /// and all need 8: the largest stands. It is the need of a stream without high
+    /// ids.
+    fn need(self) -> u32 {
+        let of_mode = match self.coding {
+            Coding::Lossless(_) => 8,
+            Coding::Tolerance(_) => 9,
+            Coding::Difference(_) => 11,
+        };
+        let of_width = if self.width() == WIDTH_64 { 10 } else { 8 };
+        let of_group = if self.group == 128 { NEED_OF_128 } else { 8 };
+        of_mode.max(of_width).max(of_group)
     }
 }
 
@@ -147,8 +196,15 @@ pub(crate) fn level_known(level: u32) -> Result<(), Refusal> {
 // ------------------------------------------------------- pack and length
 
 /// Writes the packed stream to the front of the output. Order 1 2 3 4.
-pub fn pack<P: Pattern>(level: u32, mode: u32, k: i32, values: &[P], output: &mut [u8]) -> Answer {
-    let stream = packed(level, mode, k, values)?;
+pub fn pack<P: Pattern>(
+    level: u32,
+    mode: u32,
+    k: i32,
+    group: u32,
+    values: &[P],
+    output: &mut [u8],
+) -> Answer {
+    let stream = packed(level, mode, k, group, values)?;
     let length = stream.len() as u64;
     match output.get_mut(..stream.len()) {
         Some(front) => front.copy_from_slice(&stream),
@@ -158,14 +214,20 @@ pub fn pack<P: Pattern>(level: u32, mode: u32, k: i32, values: &[P], output: &mu
 }
 
 /// The bytes pack would use. Order 1 2 3.
-pub fn length<P: Pattern>(level: u32, mode: u32, k: i32, values: &[P]) -> Answer {
-    packed(level, mode, k, values).map(|stream| stream.len() as u64)
+pub fn length<P: Pattern>(level: u32, mode: u32, k: i32, group: u32, values: &[P]) -> Answer {
+    packed(level, mode, k, group, values).map(|stream| stream.len() as u64)
 }
 
 /// The whole packed stream, or one of the refusals 1 2 3.
-fn packed<P: Pattern>(level: u32, mode: u32, k: i32, values: &[P]) -> Result<Vec<u8>, Refusal> {
+fn packed<P: Pattern>(
+    level: u32,
+    mode: u32,
+    k: i32,
+    group: u32,
+    values: &[P],
+) -> Result<Vec<u8>, Refusal> {
     level_known(level)?;
-    let setting = Setting::allowed(P::WIDTH.bits(), mode, k)
+    let setting = Setting::asked(P::WIDTH.bits(), mode, k, group)
         .filter(|setting| setting.need() <= level)
         .ok_or(Refusal::bare(2))?;
     if values.len() as u64 > MOST_VALUES {
@@ -176,7 +238,7 @@ fn packed<P: Pattern>(level: u32, mode: u32, k: i32, values: &[P]) -> Result<Vec
     let mut data: Vec<u8> = Vec::new();
     for chunk in values.chunks(VALUES_IN_CHUNK as usize) {
         starts.push(data.len() as u32);
-        for codes in codes_of_chunk(chunk, setting).chunks(VALUES_IN_GROUP as usize) {
+        for codes in codes_of_chunk(chunk, setting.coding).chunks(setting.group as usize) {
             append_group(&mut data, codes);
         }
     }
@@ -190,7 +252,7 @@ fn packed<P: Pattern>(level: u32, mode: u32, k: i32, values: &[P]) -> Result<Vec
         level,
         setting.need(),
         setting.width().bits(),
-        setting.mode(),
+        setting.mode_number(),
         setting.k() as u32, // two's complement
         n,
         c,
@@ -208,11 +270,11 @@ fn packed<P: Pattern>(level: u32, mode: u32, k: i32, values: &[P]) -> Result<Vec
 }
 
 /// The codes of a chunk's values. No chunk knows of the one before it.
-fn codes_of_chunk<P: Pattern>(chunk: &[P], setting: Setting) -> Vec<u64> {
+fn codes_of_chunk<P: Pattern>(chunk: &[P], coding: Coding) -> Vec<u64> {
     let mut before = 0;
     let mut codes = Vec::with_capacity(chunk.len());
     for value in chunk {
-        codes.push(setting.code(before, value.number()));
+        codes.push(coding.code(before, value.number()));
         before = value.number();
     }
     codes
@@ -270,7 +332,7 @@ impl Header {
     }
 
     pub(crate) fn groups_in_chunk(&self, chunk: u64) -> u64 {
-        self.values_in_chunk(chunk).div_ceil(VALUES_IN_GROUP)
+        self.values_in_chunk(chunk).div_ceil(self.setting.group)
     }
 }
 
@@ -300,7 +362,7 @@ pub(crate) fn read_header(level: u32, stream: &[u8]) -> Result<Header, Refusal> 
         return Err(Refusal::with_detail(7, needed as u64));
     }
     // k is stored in two's complement, which the cast reads back.
-    let setting = Setting::allowed(width, mode, k as i32).ok_or(Refusal::bare(8))?;
+    let setting = Setting::stated(width, mode, k as i32).ok_or(Refusal::bare(8))?;
     let header = Header {
         written,
         needed,
@@ -423,20 +485,20 @@ fn read_chunk(
     let start = (header.data_place + stretch.start) as usize;
     let end = (header.data_place + stretch.end) as usize;
     patterns_of_chunk(&stream[start..end], header.values_in_chunk(chunk), header.setting)
-        .map_err(|group| Refusal::with_detail(10, chunk * GROUPS_IN_CHUNK + group))
+        .map_err(|group| Refusal::with_detail(10, chunk * DETAILS_OF_CHUNK + group))
 }
 
 /// The patterns in a chunk's bytes, or the first bad group. All rules of a
 /// group come before the next group.
 fn patterns_of_chunk(mut bytes: &[u8], values: u64, setting: Setting) -> Result<Vec<u64>, u64> {
-    let groups = values.div_ceil(VALUES_IN_GROUP);
+    let groups = values.div_ceil(setting.group);
     let mut patterns = Vec::new();
     let mut before = 0;
     for group in 0..groups {
-        let count = (values - group * VALUES_IN_GROUP).min(VALUES_IN_GROUP);
+        let count = (values - group * setting.group).min(setting.group);
         let (codes, rest) = codes_of_group(bytes, count as usize, setting.width()).ok_or(group)?;
         for code in codes {
-            before = setting.restored(before, code).ok_or(group)?;
+            before = setting.coding.restored(before, code).ok_or(group)?;
             patterns.push(before);
         }
         bytes = rest;

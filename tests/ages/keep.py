@@ -8,9 +8,10 @@ is there with other bytes than are written now, it says so and ends with status 
 under names of their own, and calls tests/ages/keep.
 
 A name has the width and the setting, then what was packed and the level that wrote it, and last what was added or
-edited; or `bad` and how the stream was damaged, where 1-2 is group 2 of chunk 1. A damaged stream is made from that of
-the lowest level that writes the setting. A name that ends with `summary` is that of a stream with a true summary and
-nothing else beside its data; what follows that word says what was then edited.
+edited; or `bad` and how the stream was damaged, where 1-2 is group 2 of chunk 1. A setting without a group size has
+groups of 32. A damaged stream is made from that of the lowest level that writes the setting. A name that ends with
+`summary` is that of a stream with a true summary and nothing else beside its data; what follows that word says what was
+then edited.
 """
 
 import pathlib
@@ -21,10 +22,13 @@ sys.path += [str(TESTS / "caller"), str(TESTS / "format")]
 import reader  # noqa: E402  its folder has to be named first
 from caller import Caller  # noqa: E402
 
-# Width, mode, k, and the levels that write it.
-SETTINGS = [(32, 0, 0, (8, 9, 10, 11, 12)), (32, 1, -8, (9, 10, 11, 12)), (64, 0, 0, (10, 11, 12)),
-            (64, 1, -8, (10, 11, 12)), (32, 2, 0, (11, 12)), (64, 2, 0, (11, 12))]
-LIMITS = [(32, 1, -150, 9), (32, 1, 103, 9), (64, 1, -1075, 10), (64, 1, 970, 10)]
+# Width, mode, k, group size, and the levels that write it.
+SETTINGS = [(32, 0, 0, 32, (8, 9, 10, 11, 12, 13)), (32, 1, -8, 32, (9, 10, 11, 12, 13)), (64, 0, 0, 32, (10, 11, 12, 13)),
+            (64, 1, -8, 32, (10, 11, 12, 13)), (32, 2, 0, 32, (11, 12, 13)), (64, 2, 0, 32, (11, 12, 13))]
+SETTINGS += [(width, mode, k, 128, (13,)) for width, mode, k, _, _ in SETTINGS]
+FULLY_128 = [(32, 0), (64, 1)]  # width and mode: in groups of 128 these have all kinds of streams, the others less of what is alike
+LIMITS = [(32, 1, -150, 32, 9), (32, 1, 103, 32, 9), (64, 1, -1075, 32, 10), (64, 1, 970, 32, 10)]
+LIMITS += [(width, mode, k, 128, 13) for width, mode, k, _, _ in LIMITS]
 
 # The places of the header's numbers.
 MAJOR, WRITTEN, NEEDED, WIDTH, MODE, K, COUNT, CHUNKS, TABLE, START, SIDES, END = range(0, 48, 4)
@@ -85,9 +89,21 @@ def calm(width):
     return values
 
 
+def still(width):
+    """The same for groups of 128: three of them in the second chunk, the last of 75 values."""
+    values = [water(width, i) if i // 128 in (0, 5, 7, 10) else 0 for i in range(1355)]
+    values[7 * 128 + 9] = dry(width, 0)
+    return values
+
+
 def thirty_three(width):
     """A full group with a dry cell in its middle, and one of a single value."""
     return [dry(width, 1) if i == 16 else water(width, i) for i in range(33)]
+
+
+def rough(width, count):
+    """Water with a dry cell as its last value, which widens the group that holds it: it shows where the groups begin."""
+    return [water(width, i) for i in range(count - 1)] + [dry(width, 2)]
 
 
 def exponents(width):
@@ -117,10 +133,10 @@ def edges(width):
     return values
 
 
-def widths(width, mode, k):
+def widths(width, mode, k, size):
     """A group for each width byte that the setting can have."""
     largest = 2 * reader.largest_u(width, k) + 1 if mode == 1 else 2**width - 1
-    codes = [min(2**w - 1, largest) >> i % (w + 1) for w in range(largest.bit_length() + 1) for i in range(32)]
+    codes = [min(2**w - 1, largest) >> i % (w + 1) for w in range(largest.bit_length() + 1) for i in range(size)]
     chunks = [codes[start:start + 1024] for start in range(0, len(codes), 1024)]
     return [pattern for chunk in chunks for pattern in reader.restored(width, mode, k, chunk)]
 
@@ -170,10 +186,10 @@ def with_bytes(data, chunk, start, end, new):
 
 def group_of(data, chunk, group):
     """Where a group starts and ends, and its width byte and codes. The groups before it in the chunk are full."""
-    at = chunk_at(data, chunk)
+    at, size = chunk_at(data, chunk), 32 if number_at(data, MODE) < 256 else 128
     for _ in range(group):
-        at += 1 + 4 * data[at]
-    w, count = data[at], min(32, number_at(data, COUNT) - 1024 * chunk - 32 * group)
+        at += 1 + size // 8 * data[at]
+    w, count = data[at], min(size, number_at(data, COUNT) - 1024 * chunk - size * group)
     end = at + 1 + (w * count + 7) // 8
     bits = int.from_bytes(data[at + 1:end], "little")
     return at, end, w, [bits >> i * w & (1 << w) - 1 for i in range(count)]
@@ -188,35 +204,44 @@ def with_group(data, chunk, group, w, codes):
 
 # ---- the streams: a name and bytes each
 
-def setting_name(width, mode, k):
-    return f"{width}-within-k{k}" if mode == 1 else f"{width}-{'differences' if mode == 2 else 'lossless'}"
+def setting_name(width, mode, k, size):
+    name = f"{width}-within-k{k}" if mode == 1 else f"{width}-{'differences' if mode == 2 else 'lossless'}"
+    return name if size == 32 else f"{name}-groups-of-{size}"
 
 
-def packed(library, width, mode, k, level, values):
-    number, detail, data = library.pack(width, level, mode, k, values, 2**16)
+def packed(library, width, mode, k, size, level, values):
+    number, detail, data = library.pack(width, level, mode, k, size, values, 2**16)
     if number != 0:
-        sys.exit(f"keep.py: {setting_name(width, mode, k)} by {level} was refused by {number}, detail {detail}")
+        sys.exit(f"keep.py: {setting_name(width, mode, k, size)} by {level} was refused by {number}, detail {detail}")
     return data
 
 
 def written(library):
     """What each level writes of each of its settings."""
-    for width, mode, k, levels in SETTINGS:
-        name = setting_name(width, mode, k)
+    for width, mode, k, size, levels in SETTINGS:
+        name = setting_name(width, mode, k, size)
         lists = {"empty": [], "one": [water(width, 0)], "33": thirty_three(width), "field": field(width)}
         for level in levels:
             for what, values in lists.items():
-                yield f"{name}-{what}-by-{level}", packed(library, width, mode, k, level, values)
-        for what, values in (("calm", calm(width)), ("widths", widths(width, mode, k)), ("edges", edges(width))):
-            yield f"{name}-{what}-by-{levels[0]}", packed(library, width, mode, k, levels[0], values)
+                yield f"{name}-{what}-by-{level}", packed(library, width, mode, k, size, level, values)
+        for what, values in (("calm", calm(width)), ("widths", widths(width, mode, k, size)), ("edges", edges(width))):
+            yield f"{name}-{what}-by-{levels[0]}", packed(library, width, mode, k, size, levels[0], values)
+        if size == 128:
+            yield f"{name}-still-by-13", packed(library, width, mode, k, size, 13, still(width))
+            for n in (127, 128, 129):
+                yield f"{name}-{n}-by-13", packed(library, width, mode, k, size, 13, rough(width, n))
     for width in (32, 64):
-        yield f"{width}-differences-resting-by-11", packed(library, width, 2, 0, 11, resting(width))
+        yield f"{width}-differences-resting-by-11", packed(library, width, 2, 0, 32, 11, resting(width))
+        yield f"{width}-differences-groups-of-128-resting-by-13", packed(library, width, 2, 0, 128, 13, resting(width))
     for width, level in ((32, 8), (64, 10)):
-        yield f"{width}-lossless-exponents-by-{level}", packed(library, width, 0, 0, level, exponents(width))
+        yield f"{width}-lossless-exponents-by-{level}", packed(library, width, 0, 0, 32, level, exponents(width))
+        yield f"{width}-lossless-groups-of-128-exponents-by-13", packed(library, width, 0, 0, 128, 13, exponents(width))
     for n in (40, 993, 1048576):
-        yield f"32-lossless-{n}-by-8", packed(library, 32, 0, 0, 8, [0] * n)
-    for width, mode, k, level in LIMITS:
-        yield f"{setting_name(width, mode, k)}-field-by-{level}", packed(library, width, mode, k, level, field(width))
+        yield f"32-lossless-{n}-by-8", packed(library, 32, 0, 0, 32, 8, [0] * n)
+    for n in (897, 1024, 1025, 1048576):
+        yield f"32-lossless-groups-of-128-{n}-zeros-by-13", packed(library, 32, 0, 0, 128, 13, [0] * n)
+    for width, mode, k, size, level in LIMITS:
+        yield f"{setting_name(width, mode, k, size)}-field-by-{level}", packed(library, width, mode, k, size, level, field(width))
 
 
 TWO_SIDES = [(1, b"Gdynia"), (9, b"")]
@@ -226,12 +251,27 @@ MANY_SIDES = [(5 * i, bytes(i % 3)) for i in range(63)] + [(2**32 - 1, b"last")]
 def edited(streams):
     """What a reader has to take besides: side parts, and a writer of a later level."""
     for name in ("32-lossless-33-by-8", "32-within-k-8-calm-by-9", "64-lossless-33-by-10", "64-within-k-8-empty-by-10",
-                 "32-differences-resting-by-11", "64-differences-33-by-11"):
+                 "32-differences-resting-by-11", "64-differences-33-by-11", "32-lossless-groups-of-128-129-by-13",
+                 "64-within-k-8-groups-of-128-calm-by-13", "32-differences-groups-of-128-resting-by-13"):
         yield f"{name}-2-sides", with_sides(streams[name], TWO_SIDES)
     yield "32-lossless-33-by-8-64-sides", with_sides(streams["32-lossless-33-by-8"], MANY_SIDES)
     yield "32-lossless-33-by-8-written-4294967295", with_number(streams["32-lossless-33-by-8"], WRITTEN, 2**32 - 1)
     yield "64-within-k-8-33-by-10-written-11", with_number(streams["64-within-k-8-33-by-10"], WRITTEN, 11)
     yield "64-differences-33-by-11-written-12", with_number(streams["64-differences-33-by-11"], WRITTEN, 12)
+    yield "32-lossless-groups-of-128-129-by-13-written-14", with_number(streams["32-lossless-groups-of-128-129-by-13"], WRITTEN, 14)
+
+
+def resized(streams):
+    """The other group size in the header, with its need: the groups are cut in other places than they were. Of 33 values; of one
+    value, which is the same bytes at both sizes; of the field; and of zeros, which have too many or too few width bytes."""
+    for width, mode, k, _, levels in SETTINGS[:6]:
+        plain, name = setting_name(width, mode, k, 32), setting_name(width, mode, k, 128)
+        for what in ("one", "33", "field") if (width, mode) in FULLY_128 else ("33",):
+            yield f"{plain}-{what}-by-13-as-groups-of-128", with_setting(streams[f"{plain}-{what}-by-13"], mode + 256, 13)
+            yield f"{name}-{what}-by-13-as-groups-of-32", with_setting(streams[f"{name}-{what}-by-13"], mode, levels[0])
+    zeros = "32-lossless-groups-of-128-1024-zeros-by-13"
+    yield f"{zeros}-as-groups-of-32", with_setting(streams[zeros], 0, 8)
+    yield "32-lossless-993-by-8-as-groups-of-128", with_number(with_setting(streams["32-lossless-993-by-8"], 256, 13), WRITTEN, 13)
 
 
 def later(streams):
@@ -246,6 +286,10 @@ def later(streams):
     yield "32-differences-33-need-12-cut-to-48", data[:48]
     yield "32-differences-33-need-12-width-16-mode-258", with_number(with_number(data, WIDTH, 16), MODE, 258)
     yield "64-lossless-33-need-4294967295", with_number(streams["64-lossless-33-by-10"], NEEDED, 2**32 - 1)
+    data = with_number(with_number(streams["64-differences-groups-of-128-33-by-13"], WRITTEN, 14), NEEDED, 14)
+    yield "64-differences-groups-of-128-33-need-14", data
+    yield "64-differences-groups-of-128-33-need-14-cut-to-48", data[:48]
+    yield "64-differences-groups-of-128-33-need-14-width-16-mode-514", with_number(with_number(data, WIDTH, 16), MODE, 514)
 
 
 HIGH = 2**31    # the first id that must be understood
@@ -258,11 +302,20 @@ def needing(data, needed):
     return with_number(with_number(data, WRITTEN, max(needed, number_at(data, WRITTEN))), NEEDED, needed)
 
 
+def with_setting(data, number, needed):
+    """With another mode number and need."""
+    return with_number(with_number(data, MODE, number), NEEDED, needed)
+
+
 def guarded(streams):
     """Side parts on both sides of 2^31, with the need of the stream, one that is too small and one that is too large; and a
     high id beside a written minor that is too small, and beside a broken chunk table, side table and chunk."""
-    for width, mode, k, levels in SETTINGS:
-        name = f"{setting_name(width, mode, k)}-33-by-12"
+    for width, mode, k, size, levels in SETTINGS:
+        if size == 128:
+            some = list(guarded_128(streams, setting_name(width, mode, k, size)))
+            yield from some if (width, mode) in FULLY_128 else some[:2]
+            continue
+        name = f"{setting_name(width, mode, k, size)}-33-by-12"
         need = levels[0]
         yield f"{name}-low-ids", with_sides(streams[name], LOW_SIDES)
         yield f"{name}-low-ids-need-12", needing(with_sides(streams[name], LOW_SIDES), 12)
@@ -282,16 +335,27 @@ def guarded(streams):
     yield f"{name}-high-ids-need-9", needing(data, 9)
 
 
+def guarded_128(streams, setting):
+    """The same of groups of 128, whose need is 13 with a high id and without."""
+    name = f"{setting}-33-by-13"
+    yield f"{name}-low-ids", with_sides(streams[name], LOW_SIDES)
+    yield f"{name}-high-ids", with_sides(streams[name], HIGH_SIDES)
+    yield f"{name}-low-ids-need-12", needing(with_sides(streams[name], LOW_SIDES), 12)
+    yield f"{name}-high-ids-need-12", needing(with_sides(streams[name], HIGH_SIDES), 12)
+    yield f"{name}-high-ids-need-14", needing(with_sides(streams[name], HIGH_SIDES), 14)
+
+
 # ---- summaries
 
 def summarised(library, streams):
     """What each level adds to what it wrote: a summary of 33 values; and of the lowest level, of longer and shorter lists."""
     names = []
-    for width, mode, k, levels in SETTINGS:
-        name = setting_name(width, mode, k)
+    for width, mode, k, size, levels in SETTINGS:
+        name = setting_name(width, mode, k, size)
         names += [f"{name}-33-by-{level}" for level in levels]
         names += [f"{name}-{what}-by-{levels[0]}" for what in ("empty", "one", "field", "calm", "edges")]
-    for name in names + ["32-differences-resting-by-11", "64-differences-resting-by-11"]:
+    names += ["32-differences-resting-by-11", "64-differences-resting-by-11"]
+    for name in names + ["32-differences-groups-of-128-resting-by-13", "32-lossless-groups-of-128-1025-zeros-by-13"]:
         data = streams[name]
         number, detail, copy = library.add_summary(number_at(data, WRITTEN), data, len(data) + 2**12)
         if number != 0:
@@ -335,16 +399,18 @@ BESIDE = [(0, b"tide"), (9, b""), (HIGH - 1, b"gauge")]
 
 def beside(streams):
     """Summaries that are false, that have another id, or that stand beside other side parts; and in streams that are damaged besides."""
-    for width, mode, k, levels in SETTINGS:
-        name = f"{setting_name(width, mode, k)}-edges-by-{levels[0]}-summary"
+    for width, mode, k, size, levels in SETTINGS:
+        if size == 128 and (width, mode) not in FULLY_128:
+            continue
+        name = f"{setting_name(width, mode, k, size)}-edges-by-{levels[0]}-summary"
         part, plain = summary_of(streams[name])
         falses = list(false_summaries(width, part))
-        for what, false in falses if (width, mode) in ((32, 0), (64, 1)) else falses[:4]:
+        for what, false in falses if (width, mode) in ((32, 0), (64, 1)) and size == 32 else falses[:4]:
             yield f"{name}-{what}", with_summary(streams[name], false)
         yield f"{name}-id-2", with_summary(streams[name], part, 2)
         yield f"{name}-beside", with_sides(plain, sorted(BESIDE + [(1, part)]))
         yield f"{name}-short-beside", with_sides(plain, sorted(BESIDE + [(1, part[:-1])]))
-        yield f"{name}-high-id", needing(with_sides(plain, [(1, part), (HIGH, b"datum")]), 12)
+        yield f"{name}-high-id", needing(with_sides(plain, [(1, part), (HIGH, b"datum")]), max(12, levels[0]))
     name = "32-lossless-33-by-8-summary"
     data = streams[name]
     part, plain = summary_of(data)
@@ -362,7 +428,7 @@ def beside(streams):
     yield f"{name}-between-altered", with_group(data, 0, 0, w, codes[:8] + [codes[7]] + codes[9:])
 
 
-# Numbers of the header that are not those of the setting, or not those of 33 values.
+# Numbers of the header that are not those of the setting, or not those of 33 values: in groups of 32, and in groups of 128.
 BAD_NUMBERS = {
     (32, 0): [("major-0", MAJOR, 0), ("major-2", MAJOR, 2), ("written-7", WRITTEN, 7), ("need-7", NEEDED, 7),
               ("width-33", WIDTH, 33), ("mode-2", MODE, 2), ("k1", K, 1), ("n-0", COUNT, 0), ("n-32", COUNT, 32),
@@ -376,19 +442,37 @@ BAD_NUMBERS = {
               ("mode-1", MODE, 1), ("mode-3", MODE, 3), ("k1", K, 1), ("k-1", K, -1)],
     (64, 2): [("need-10", NEEDED, 10), ("mode-0", MODE, 0), ("mode-1", MODE, 1), ("k1", K, 1)],
 }
+BAD_NUMBERS_128 = {
+    (32, 0): [("mode-0", MODE, 0), ("mode-1", MODE, 1), ("mode-2", MODE, 2), ("mode-3", MODE, 3), ("mode-255", MODE, 255),
+              ("mode-259", MODE, 259), ("mode-512", MODE, 512), ("mode-65792", MODE, 65792), ("mode-2147483904", MODE, 2**31 + 256),
+              ("need-8", NEEDED, 8), ("need-12", NEEDED, 12), ("written-12", WRITTEN, 12), ("k1", K, 1), ("width-33", WIDTH, 33)],
+    (32, 1): [("mode-1", MODE, 1), ("mode-256", MODE, 256), ("mode-259", MODE, 259), ("need-9", NEEDED, 9), ("k104", K, 104), ("k-151", K, -151)],
+    (64, 0): [("mode-0", MODE, 0), ("mode-3", MODE, 3), ("mode-259", MODE, 259), ("need-10", NEEDED, 10), ("k-1", K, -1)],
+    (64, 1): [("mode-1", MODE, 1), ("mode-512", MODE, 512), ("need-10", NEEDED, 10), ("k971", K, 971), ("k-1076", K, -1076)],
+    (32, 2): [("mode-2", MODE, 2), ("mode-259", MODE, 259), ("mode-514", MODE, 514), ("need-11", NEEDED, 11), ("k1", K, 1), ("k-1", K, -1)],
+    (64, 2): [("mode-2", MODE, 2), ("mode-257", MODE, 257), ("need-11", NEEDED, 11), ("written-12", WRITTEN, 12), ("k1", K, 1)],
+}
 
 
-def bad_setting(width, mode, data):
+def bad_setting(numbers, data):
     """Of 33 values in any setting."""
     yield "cut-to-100", data[:100]
     yield "cut-last-byte", data[:-1]
     yield "added-byte", data + bytes(1)
-    for what, place, number in BAD_NUMBERS[width, mode]:
+    for what, place, number in numbers:
         yield f"header-{what}", with_number(data, place, number)
 
 
+def bad_sizes(streams):
+    """Groups of 128 in the header of 33 values in groups of 32, without the need of that."""
+    for width, mode, k, _, levels in SETTINGS[:6]:
+        name = setting_name(width, mode, k, 32)
+        yield f"{name}-bad-header-mode-{256 + mode}", with_number(streams[f"{name}-33-by-{levels[0]}"], MODE, 256 + mode)
+        yield f"{name}-bad-header-need-13", needing(streams[f"{name}-33-by-{levels[0]}"], 13)
+
+
 def bad_groups(width, mode, k, data):
-    """Every rule of a group broken, of the calm field: the bytes of all other groups are as they were."""
+    """Every rule of a group broken, of the calm field or the still one: the bytes of all other groups are as they were."""
     _, _, _, codes = group_of(data, 0, 0)
     yield "w-too-large-in-0-0", with_group(data, 0, 0, width + 1, [codes[0] | 1 << width] + codes[1:])
     start, end, _, _ = group_of(data, 1, 2)
@@ -469,15 +553,18 @@ def bad_others(streams):
 
 
 def damaged(streams):
-    for width, mode, k, levels in SETTINGS:
-        name = setting_name(width, mode, k)
-        calm_data = streams[f"{name}-calm-by-{levels[0]}"]
-        bads = [bad_setting(width, mode, streams[f"{name}-33-by-{levels[0]}"]), bad_groups(width, mode, k, calm_data),
-                bad_chunks(width, calm_data), bad_places(width, mode, k, calm_data)]
-        if (width, mode) == (32, 0):
+    for width, mode, k, size, levels in SETTINGS:
+        name = setting_name(width, mode, k, size)
+        calm_data = streams[f"{name}-{'calm' if size == 32 else 'still'}-by-{levels[0]}"]
+        numbers = (BAD_NUMBERS if size == 32 else BAD_NUMBERS_128)[width, mode]
+        bads = [bad_setting(numbers, streams[f"{name}-33-by-{levels[0]}"]), bad_groups(width, mode, k, calm_data)]
+        if size == 32 or (width, mode) in FULLY_128:
+            bads += [bad_chunks(width, calm_data), bad_places(width, mode, k, calm_data)]
+        if (width, mode, size) == (32, 0, 32):
             bads += [bad_tables(streams["32-lossless-calm-by-8"]), bad_sides(streams["32-lossless-33-by-8-2-sides"]),
                      bad_others(streams)]
         yield from ((f"{name}-bad-{what}", data) for bad in bads for what, data in bad)
+    yield from bad_sizes(streams)
 
 
 # ---- keeping
@@ -495,7 +582,7 @@ def keep(path, data):
 def main():
     folder, streams, status = pathlib.Path(sys.argv[1]), {}, 0
     with Caller(sys.argv[2:]) as library:
-        for some in (written(library), edited(streams), later(streams), guarded(streams), damaged(streams),
+        for some in (written(library), edited(streams), resized(streams), later(streams), guarded(streams), damaged(streams),
                      summarised(library, streams), beside(streams)):
             for name, data in some:
                 streams[name] = data

@@ -132,6 +132,7 @@ struct call {
     enum operation operation;
     uint32_t level, mode;
     int32_t k;
+    uint32_t group; /* the size of groups */
     const void *in; /* values, the bytes of a stream, or the one pattern or code of a number rule */
     size_t count;
     uint64_t index; /* of a list of chunks: x */
@@ -145,10 +146,10 @@ static uint64_t answer_of(const struct call *c, const void *in, void *out)
     const uint32_t *words = (const uint32_t *)in;
     const uint64_t *longs = (const uint64_t *)in;
     switch (c->operation) {
-    case PACK32: return gwz_pack32(c->level, c->mode, c->k, words, c->count, (uint8_t *)out, c->room);
-    case PACK64: return gwz_pack64(c->level, c->mode, c->k, longs, c->count, (uint8_t *)out, c->room);
-    case LENGTH32: return gwz_length32(c->level, c->mode, c->k, words, c->count);
-    case LENGTH64: return gwz_length64(c->level, c->mode, c->k, longs, c->count);
+    case PACK32: return gwz_pack32(c->level, c->mode, c->k, c->group, words, c->count, (uint8_t *)out, c->room);
+    case PACK64: return gwz_pack64(c->level, c->mode, c->k, c->group, longs, c->count, (uint8_t *)out, c->room);
+    case LENGTH32: return gwz_length32(c->level, c->mode, c->k, c->group, words, c->count);
+    case LENGTH64: return gwz_length64(c->level, c->mode, c->k, c->group, longs, c->count);
     case CHECK: return gwz_check(c->level, bytes, c->count);
     case UNPACK32: return gwz_unpack32(c->level, bytes, c->count, (uint32_t *)out, c->room);
     case UNPACK64: return gwz_unpack64(c->level, bytes, c->count, (uint64_t *)out, c->room);
@@ -186,43 +187,66 @@ static void expect_call(struct tally *tally, const char *what, struct call call,
     free(out_part.block);
 }
 
+/* In groups of 32. */
 static struct call packing(enum operation operation, uint32_t level, uint32_t mode, int32_t k, const void *values,
                            size_t n, size_t room)
 {
-    struct call call = {operation, level, mode, k, values, n, 0, room};
+    struct call call = {operation, level, mode, k, GWZ_GROUPS_OF_32, values, n, 0, room};
+    return call;
+}
+
+/* The same call in groups of another size. */
+static struct call in_groups_of(uint32_t group, struct call call)
+{
+    call.group = group;
     return call;
 }
 
 static struct call reading(enum operation operation, uint32_t level, const uint8_t *bytes, size_t len, size_t room)
 {
-    struct call call = {operation, level, 0, 0, bytes, len, 0, room};
+    struct call call = {operation, level, 0, 0, 0, bytes, len, 0, room};
     return call;
 }
 
 static struct call probing(enum operation operation, uint32_t level, const uint8_t *bytes, size_t len, uint64_t index)
 {
-    struct call call = {operation, level, 0, 0, bytes, len, index, 1};
+    struct call call = {operation, level, 0, 0, 0, bytes, len, index, 1};
     return call;
 }
 
 static struct call listing(enum operation operation, uint32_t level, uint64_t x, const uint8_t *bytes, size_t len,
                            size_t room)
 {
-    struct call call = {operation, level, 0, 0, bytes, len, x, room};
+    struct call call = {operation, level, 0, 0, 0, bytes, len, x, room};
     return call;
 }
 
 static struct call ruling(enum operation operation, int32_t k, const void *number)
 {
-    struct call call = {operation, 0, 0, k, number, 1, 0, 1};
+    struct call call = {operation, 0, 0, k, 0, number, 1, 0, 1};
     return call;
 }
 
 /* ---- Streams written by hand */
 
+/* As the header has it: k in two's complement, and the mode number 256 more in groups of 128. */
 struct setting {
-    uint32_t level, width, mode, k; /* k in two's complement */
+    uint32_t level, width, mode, k;
 };
+
+/* Both sizes of groups, and a level that writes and reads every mode and width in each. */
+static const uint32_t group_sizes[2] = {GWZ_GROUPS_OF_32, GWZ_GROUPS_OF_128};
+
+static uint32_t level_of_groups(uint32_t group)
+{
+    return group == GWZ_GROUPS_OF_128 ? GWZ_LEVEL_13 : GWZ_LEVEL_11;
+}
+
+/* The mode number of a mode in groups of 32 or 128. */
+static uint32_t mode_number(uint32_t mode, uint32_t group)
+{
+    return group == GWZ_GROUPS_OF_128 ? 256 + mode : mode;
+}
 
 static void put_number(uint8_t *at, uint32_t number)
 {
@@ -233,7 +257,7 @@ static void put_number(uint8_t *at, uint32_t number)
 /* The header, for data of so many bytes behind the chunk table, and no side parts. */
 static void put_header(uint8_t *stream, struct setting s, uint32_t n, size_t data_bytes)
 {
-    uint32_t need = s.mode == 2 ? 11 : s.width == 64 ? 10 : s.mode == 1 ? 9 : 8;
+    uint32_t need = s.mode >= 256 ? 13 : s.mode == 2 ? 11 : s.width == 64 ? 10 : s.mode == 1 ? 9 : 8;
     uint32_t chunks = (n + 1023) / 1024, data = 48 + 4 * chunks;
     const uint32_t numbers[] = {1, s.level, need, s.width, s.mode, s.k, n, chunks, 48, data, 0,
                                 data + (uint32_t)data_bytes};
@@ -257,16 +281,20 @@ static const uint8_t example[55] = {
     48, 0, 0, 0, 52, 0, 0, 0, 0, 0, 0, 0, 55, 0, 0, 0, 0, 0, 0, 0, 0x03, 0x10, 0x01
 };
 
-/* Three chunks of zeros: 2,049 values, 32 + 32 + 1 width bytes of 0. */
+/*
+ * Three chunks of zeros: 2,049 values, with so many bytes in each chunk. They are right with a width byte of 0 for each group,
+ * which is 32 + 32 + 1 in groups of 32 and 8 + 8 + 1 in groups of 128. Returns the length.
+ */
 enum { THREE_CHUNKS_BYTES = 48 + 12 + 65 };
 
-static void put_three_chunks(uint8_t *stream)
+static size_t put_three_chunks(uint8_t *stream, uint32_t group, uint32_t first, uint32_t second, uint32_t third)
 {
-    const struct setting lossless = {8, 32, 0, 0};
-    memset(stream, 0, THREE_CHUNKS_BYTES);
-    put_header(stream, lossless, 2049, 65);
-    put_number(stream + 52, 32);
-    put_number(stream + 56, 64);
+    const struct setting lossless = {13, 32, mode_number(GWZ_LOSSLESS, group), 0};
+    memset(stream, 0, 60 + first + second + third);
+    put_header(stream, lossless, 2049, first + second + third);
+    put_number(stream + 52, first);
+    put_number(stream + 56, first + second);
+    return 60 + first + second + third;
 }
 
 /* ---- The groups of cases */
@@ -286,10 +314,19 @@ static void test_helpers(struct tally *tally)
         {"the last chunk and group that a stream can have", gwz_bad_group(32767), 31},
         {"chunk 3, group 7", gwz_bad_chunk(103), 3},
         {"chunk 3, group 7", gwz_bad_group(103), 7},
-        {"longest stream of no values", GWZ_LONGEST_STREAM(32, 0), 48},
-        {"longest stream of 1025 values of 32 bits", GWZ_LONGEST_STREAM(32, 1025), 48 + 8 + 33 + 4100},
-        {"longest stream of 1 value of 64 bits", GWZ_LONGEST_STREAM(64, 1), 48 + 4 + 1 + 8},
-        {"longest stream of all", GWZ_LONGEST_STREAM(64, GWZ_MOST_VALUES), 8425520},
+        {"the last group of 128 that a stream can have", gwz_bad_chunk(1023 * 32 + 7), 1023},
+        {"the last group of 128 that a stream can have", gwz_bad_group(1023 * 32 + 7), 7},
+        {"longest stream of no values", GWZ_LONGEST_STREAM(32, GWZ_GROUPS_OF_32, 0), 48},
+        {"longest stream of 1025 values of 32 bits", GWZ_LONGEST_STREAM(32, 32, 1025), 48 + 8 + 33 + 4100},
+        {"longest stream of 1 value of 64 bits", GWZ_LONGEST_STREAM(64, 32, 1), 48 + 4 + 1 + 8},
+        {"longest stream of all", GWZ_LONGEST_STREAM(64, GWZ_GROUPS_OF_32, GWZ_MOST_VALUES), 8425520},
+        {"longest stream of no values, groups of 128", GWZ_LONGEST_STREAM(64, GWZ_GROUPS_OF_128, 0), 48},
+        {"longest stream of 1025 values of 32 bits, groups of 128", GWZ_LONGEST_STREAM(32, 128, 1025), 48 + 8 + 9 + 4100},
+        {"longest stream of 1 value of 64 bits, groups of 128", gwz_longest_stream(64, 128, 1), 48 + 4 + 1 + 8},
+        {"longest stream of 129 values of 64 bits, groups of 128", gwz_longest_stream(64, 128, 129), 48 + 4 + 2 + 1032},
+        {"longest stream of 129 values of 64 bits, groups of 32", gwz_longest_stream(64, 32, 129), 48 + 4 + 5 + 1032},
+        {"longest stream of all, groups of 128", gwz_longest_stream(64, 128, GWZ_MOST_VALUES), 8400944},
+        {"another size counts as 32", gwz_longest_stream(64, 0, 129), 48 + 4 + 5 + 1032},
         {"summary of no values", GWZ_SUMMARY_BYTES(32, 0), 12},
         {"summary of 1024 values of 32 bits", GWZ_SUMMARY_BYTES(32, 1024), 12 + 12},
         {"summary of 1025 values of 64 bits", gwz_summary_bytes(64, 1025), 12 + 2 * 20},
@@ -475,7 +512,7 @@ static void test_example(struct tally *tally)
     expect_call(tally, "length", packing(LENGTH32, 8, 0, 0, example_values, 3, 0), done(55), NULL, 0);
     expect_call(tally, "packed", packing(PACK32, 8, 0, 0, example_values, 3, 55), done(55), example, 55);
     expect_call(tally, "packed, longest room",
-                packing(PACK32, 8, 0, 0, example_values, 3, GWZ_LONGEST_STREAM(32, 3)), done(55), example, 55);
+                packing(PACK32, 8, 0, 0, example_values, 3, GWZ_LONGEST_STREAM(32, 32, 3)), done(55), example, 55);
     expect_call(tally, "room to spare", packing(PACK32, 8, 0, 0, example_values, 3, 999), done(55), example, 55);
     for (size_t room = 0; room < 55; room++)
         expect_call(tally, "too short", packing(PACK32, 8, 0, 0, example_values, 3, room), refused(4, 55), NULL, 0);
@@ -501,14 +538,15 @@ static void test_probe32(struct tally *tally)
     static const uint32_t kinds[] = {GWZ_FINITE, GWZ_FINITE, GWZ_FINITE, GWZ_FINITE, GWZ_INFINITY, GWZ_INFINITY,
                                      GWZ_NOT_A_NUMBER, GWZ_NOT_A_NUMBER, GWZ_NOT_A_NUMBER};
     const size_t n = COUNT(patterns);
-    uint8_t stream[GWZ_LONGEST_STREAM(32, COUNT(patterns))];
-    for (uint32_t mode = 0; mode <= 2; mode++) {
+    uint8_t stream[GWZ_LONGEST_STREAM(32, 32, COUNT(patterns))];
+    for (uint32_t i = 0; i < 6; i++) {
+        uint32_t mode = i % 3, group = group_sizes[i / 3], level = level_of_groups(group);
         int32_t k = mode == 1 ? GWZ_SMALLEST_K32 : 0;
-        size_t length = gwz_answer(gwz_pack32(11, mode, k, patterns, n, stream, sizeof stream));
-        for (size_t i = 0; i < n; i++)
-            expect_call(tally, "a value", probing(PROBE32, 11, stream, length, i), done(kinds[i]), &patterns[i], 1);
-        expect_call(tally, "index n", probing(PROBE32, 11, stream, length, n), refused(11, 0), NULL, 0);
-        expect_call(tally, "index 2^64 - 1", probing(PROBE32, 11, stream, length, UINT64_MAX), refused(11, 0), NULL, 0);
+        size_t length = gwz_answer(gwz_pack32(level, mode, k, group, patterns, n, stream, sizeof stream));
+        for (size_t at = 0; at < n; at++)
+            expect_call(tally, "a value", probing(PROBE32, level, stream, length, at), done(kinds[at]), &patterns[at], 1);
+        expect_call(tally, "index n", probing(PROBE32, level, stream, length, n), refused(11, 0), NULL, 0);
+        expect_call(tally, "index 2^64 - 1", probing(PROBE32, level, stream, length, UINT64_MAX), refused(11, 0), NULL, 0);
     }
 }
 
@@ -520,33 +558,37 @@ static void test_probe64(struct tally *tally)
     static const uint32_t kinds[] = {GWZ_FINITE, GWZ_FINITE, GWZ_FINITE, GWZ_FINITE, GWZ_INFINITY, GWZ_INFINITY,
                                      GWZ_NOT_A_NUMBER, GWZ_NOT_A_NUMBER, GWZ_NOT_A_NUMBER};
     const size_t n = COUNT(patterns);
-    uint8_t stream[GWZ_LONGEST_STREAM(64, COUNT(patterns))];
-    for (uint32_t mode = 0; mode <= 2; mode++) {
+    uint8_t stream[GWZ_LONGEST_STREAM(64, 32, COUNT(patterns))];
+    for (uint32_t i = 0; i < 6; i++) {
+        uint32_t mode = i % 3, group = group_sizes[i / 3], level = level_of_groups(group);
         int32_t k = mode == 1 ? GWZ_SMALLEST_K64 : 0;
-        size_t length = gwz_answer(gwz_pack64(11, mode, k, patterns, n, stream, sizeof stream));
-        for (size_t i = 0; i < n; i++)
-            expect_call(tally, "a value", probing(PROBE64, 11, stream, length, i), done(kinds[i]), &patterns[i], 1);
-        expect_call(tally, "index n", probing(PROBE64, 11, stream, length, n), refused(11, 0), NULL, 0);
-        expect_call(tally, "index 2^64 - 1", probing(PROBE64, 11, stream, length, UINT64_MAX), refused(11, 0), NULL, 0);
+        size_t length = gwz_answer(gwz_pack64(level, mode, k, group, patterns, n, stream, sizeof stream));
+        for (size_t at = 0; at < n; at++)
+            expect_call(tally, "a value", probing(PROBE64, level, stream, length, at), done(kinds[at]), &patterns[at], 1);
+        expect_call(tally, "index n", probing(PROBE64, level, stream, length, n), refused(11, 0), NULL, 0);
+        expect_call(tally, "index 2^64 - 1", probing(PROBE64, level, stream, length, UINT64_MAX), refused(11, 0), NULL, 0);
     }
 }
 
 /* What each setting needs, by what each level writes and reads. */
 static void test_levels(struct tally *tally)
 {
-    static const struct { enum operation pack, length, unpack; uint32_t width, mode, need; } settings[] = {
-        {PACK32, LENGTH32, UNPACK32, 32, 0, 8}, {PACK32, LENGTH32, UNPACK32, 32, 1, 9},
-        {PACK32, LENGTH32, UNPACK32, 32, 2, 11}, {PACK64, LENGTH64, UNPACK64, 64, 0, 10},
-        {PACK64, LENGTH64, UNPACK64, 64, 1, 10}, {PACK64, LENGTH64, UNPACK64, 64, 2, 11}
+    static const struct { enum operation pack, length, unpack; uint32_t width, mode, group, need; } settings[] = {
+        {PACK32, LENGTH32, UNPACK32, 32, 0, 32, 8}, {PACK32, LENGTH32, UNPACK32, 32, 1, 32, 9},
+        {PACK32, LENGTH32, UNPACK32, 32, 2, 32, 11}, {PACK64, LENGTH64, UNPACK64, 64, 0, 32, 10},
+        {PACK64, LENGTH64, UNPACK64, 64, 1, 32, 10}, {PACK64, LENGTH64, UNPACK64, 64, 2, 32, 11},
+        {PACK32, LENGTH32, UNPACK32, 32, 0, 128, 13}, {PACK32, LENGTH32, UNPACK32, 32, 1, 128, 13},
+        {PACK32, LENGTH32, UNPACK32, 32, 2, 128, 13}, {PACK64, LENGTH64, UNPACK64, 64, 0, 128, 13},
+        {PACK64, LENGTH64, UNPACK64, 64, 1, 128, 13}, {PACK64, LENGTH64, UNPACK64, 64, 2, 128, 13}
     };
     const uint64_t zero = 0;
     const uint8_t no_bits[] = {0};
     for (size_t i = 0; i < COUNT(settings); i++)
-        for (uint32_t level = 0; level <= 13; level++) {
-            uint32_t need = settings[i].need, mode = settings[i].mode;
-            int known = level >= 8 && level <= 12;
-            const struct setting written = {level, settings[i].width, mode, 0};
-            const struct setting later = {77, settings[i].width, mode, 0};
+        for (uint32_t level = 0; level <= 14; level++) {
+            uint32_t need = settings[i].need, mode = settings[i].mode, group = settings[i].group;
+            int known = level >= 8 && level <= 13;
+            const struct setting written = {level, settings[i].width, mode_number(mode, group), 0};
+            const struct setting later = {77, settings[i].width, mode_number(mode, group), 0};
             uint8_t stream[53], later_stream[53];
             put_stream(stream, written, 1, no_bits, 1);
             put_stream(later_stream, later, 1, no_bits, 1);
@@ -554,8 +596,10 @@ static void test_levels(struct tally *tally)
             uint64_t packed = !known ? refused(1, 0) : need > level ? refused(2, 0) : done(53);
             uint64_t read = !known ? refused(1, 0) : need > level ? refused(7, need) : done(1);
             size_t bytes = gwz_refusal(packed) == GWZ_DONE ? 53 : 0, values = gwz_refusal(read) == GWZ_DONE ? 1 : 0;
-            expect_call(tally, "pack", packing(settings[i].pack, level, mode, 0, &zero, 1, 53), packed, stream, bytes);
-            expect_call(tally, "length", packing(settings[i].length, level, mode, 0, &zero, 1, 0), packed, NULL, 0);
+            struct call pack = packing(settings[i].pack, level, mode, 0, &zero, 1, 53);
+            struct call length = packing(settings[i].length, level, mode, 0, &zero, 1, 0);
+            expect_call(tally, "pack", in_groups_of(group, pack), packed, stream, bytes);
+            expect_call(tally, "length", in_groups_of(group, length), packed, NULL, 0);
             expect_call(tally, "check", reading(CHECK, level, later_stream, 53, 0), read, NULL, 0);
             expect_call(tally, "unpack", reading(settings[i].unpack, level, later_stream, 53, 1), read, &zero, values);
         }
@@ -566,37 +610,73 @@ static void test_packing_refused(struct tally *tally)
 {
     static const struct { const char *what; uint32_t level, mode; int32_t k; uint32_t refusal32, refusal64; } rows[] = {
         {"level 7 before mode 3", 7, 3, 0, 1, 1},
-        {"level 13", 13, 0, 0, 1, 1},
+        {"level 14", 14, 0, 0, 1, 1},
         {"level 2^32 - 1", UINT32_MAX, 0, 0, 1, 1},
-        {"mode 3", 11, 3, 0, 2, 2},
-        {"mode 2 at level 10", 10, 2, 0, 2, 2},
-        {"k 1 in mode 2", 11, 2, 1, 2, 2},
-        {"k -1 in mode 2", 11, 2, -1, 2, 2},
-        {"mode 2 with k 0", 11, 2, 0, 4, 4},
-        {"k 1 in mode 0", 10, 0, 1, 2, 2},
-        {"k -1 in mode 0", 10, 0, -1, 2, 2},
-        {"k 104", 10, 1, 104, 2, 4},
-        {"k -151", 10, 1, -151, 2, 4},
-        {"k 971", 10, 1, 971, 2, 2},
-        {"k -1076", 10, 1, -1076, 2, 2},
-        {"smallest k of int32_t", 10, 1, INT32_MIN, 2, 2},
+        {"mode 3", 13, 3, 0, 2, 2},
+        {"k 1 in mode 2", 13, 2, 1, 2, 2},
+        {"k -1 in mode 2", 13, 2, -1, 2, 2},
+        {"mode 2 with k 0", 13, 2, 0, 4, 4},
+        {"k 1 in mode 0", 13, 0, 1, 2, 2},
+        {"k -1 in mode 0", 13, 0, -1, 2, 2},
+        {"k 104", 13, 1, 104, 2, 4},
+        {"k -151", 13, 1, -151, 2, 4},
+        {"k 971", 13, 1, 971, 2, 2},
+        {"k -1076", 13, 1, -1076, 2, 2},
+        {"smallest k of int32_t", 13, 1, INT32_MIN, 2, 2},
         {"tolerance at level 8, width 64 at level 9", 8, 1, 0, 2, 2},
-        {"the limits of k are allowed", 10, 1, 103, 4, 4},
-        {"the limits of k are allowed", 10, 1, -150, 4, 4},
+        {"the limits of k are allowed", 13, 1, 103, 4, 4},
+        {"the limits of k are allowed", 13, 1, -150, 4, 4},
+        {"mode 256, as the header has it", 13, 256, 0, 2, 2},
+        {"mode 257, as the header has it", 13, 257, -8, 2, 2},
+        {"mode 258, as the header has it", 13, 258, 0, 2, 2},
+        {"mode 2^32 - 1", 13, UINT32_MAX, 0, 2, 2},
     };
     const uint64_t zero = 0;
-    for (size_t i = 0; i < COUNT(rows); i++) {
-        uint32_t level = rows[i].level, mode = rows[i].mode;
-        int32_t k = rows[i].k;
-        uint64_t wanted32 = refused(rows[i].refusal32, rows[i].refusal32 == 4 ? 53 : 0);
-        uint64_t wanted64 = refused(rows[i].refusal64, rows[i].refusal64 == 4 ? 53 : 0);
-        expect_call(tally, rows[i].what, packing(PACK32, level, mode, k, &zero, 1, 52), wanted32, NULL, 0);
-        expect_call(tally, rows[i].what, packing(PACK64, level, mode, k, &zero, 1, 52), wanted64, NULL, 0);
-        expect_call(tally, rows[i].what, packing(LENGTH32, level, mode, k, &zero, 1, 0),
-                    rows[i].refusal32 == 4 ? done(53) : wanted32, NULL, 0);
-        expect_call(tally, rows[i].what, packing(LENGTH64, level, mode, k, &zero, 1, 0),
-                    rows[i].refusal64 == 4 ? done(53) : wanted64, NULL, 0);
+    for (size_t i = 0; i < 2 * COUNT(rows); i++) {
+        size_t row = i / 2;
+        uint32_t level = rows[row].level, mode = rows[row].mode, group = group_sizes[i % 2];
+        int32_t k = rows[row].k;
+        uint64_t wanted32 = refused(rows[row].refusal32, rows[row].refusal32 == 4 ? 53 : 0);
+        uint64_t wanted64 = refused(rows[row].refusal64, rows[row].refusal64 == 4 ? 53 : 0);
+        const char *what = rows[row].what;
+        expect_call(tally, what, in_groups_of(group, packing(PACK32, level, mode, k, &zero, 1, 52)), wanted32, NULL, 0);
+        expect_call(tally, what, in_groups_of(group, packing(PACK64, level, mode, k, &zero, 1, 52)), wanted64, NULL, 0);
+        expect_call(tally, what, in_groups_of(group, packing(LENGTH32, level, mode, k, &zero, 1, 0)),
+                    rows[row].refusal32 == 4 ? done(53) : wanted32, NULL, 0);
+        expect_call(tally, what, in_groups_of(group, packing(LENGTH64, level, mode, k, &zero, 1, 0)),
+                    rows[row].refusal64 == 4 ? done(53) : wanted64, NULL, 0);
     }
+}
+
+/* Pack and length of both widths, of one value 0 or of too many: the room is none, so that 4 comes last. */
+static void expect_not_packed(struct tally *tally, const char *what, uint32_t level, uint32_t mode, uint32_t group,
+                              const uint64_t *zeros, size_t n, uint64_t wanted)
+{
+    static const enum operation operations[] = {PACK32, PACK64, LENGTH32, LENGTH64};
+    for (size_t i = 0; i < COUNT(operations); i++)
+        expect_call(tally, what, in_groups_of(group, packing(operations[i], level, mode, 0, zeros, n, 0)), wanted, NULL, 0);
+}
+
+/* Sizes of groups other than 32 and 128, and 128 at a level below 13, are 2: after 1, before 3 and 4. */
+static void test_other_sizes(struct tally *tally)
+{
+    static const uint32_t others[] = {0, 1, 16, 31, 33, 64, 127, 129, 160, 256, 288, 384, 1024, 0x80000080, UINT32_MAX};
+    const size_t too_many = GWZ_MOST_VALUES + 1;
+    uint64_t *zeros = (uint64_t *)allocated(8 * too_many);
+    memset(zeros, 0, 8 * too_many);
+    for (uint32_t level = 7; level <= 14; level++)
+        for (uint32_t mode = 0; mode <= 3; mode++) {
+            uint64_t wanted = refused(level < 8 || level > 13 ? 1 : 2, 0);
+            for (size_t i = 0; i < COUNT(others); i++)
+                expect_not_packed(tally, "another size", level, mode, others[i], zeros, 1, wanted);
+            if (level < 13 || level > 13 || mode == 3)
+                expect_not_packed(tally, "128 below level 13", level, mode, GWZ_GROUPS_OF_128, zeros, 1, wanted);
+        }
+    expect_not_packed(tally, "2 before 3: size 64", 13, 0, 64, zeros, too_many, refused(2, 0));
+    expect_not_packed(tally, "2 before 3: 128 at level 12", 12, 0, 128, zeros, too_many, refused(2, 0));
+    expect_not_packed(tally, "1 before 2 and 3", 14, 256, 64, zeros, too_many, refused(1, 0));
+    expect_not_packed(tally, "3 in groups of 128", 13, 0, 128, zeros, too_many, refused(3, 0));
+    free(zeros);
 }
 
 /* One byte or one number of a stream replaced. */
@@ -645,40 +725,47 @@ static void test_differences(struct tally *tally)
 }
 
 /*
- * Differences across groups and chunks: 1,100 values that rest for more than two groups, so that groups of no bits
- * repeat the value before them, and that go on past the chunk's end, where the difference begins again from 0.
+ * Differences across groups and chunks: 1,100 values that rest for 300 at a time, so that groups of no bits repeat the
+ * value before them at both sizes of groups, and that go on past the chunk's end, where the difference begins again from 0.
  */
 static void test_differences_of_a_walk(struct tally *tally)
 {
     static uint32_t narrow[1100];
     static uint64_t wide[1100];
-    static uint8_t stream[GWZ_LONGEST_STREAM(64, 1100)];
+    static uint8_t stream[GWZ_LONGEST_STREAM(64, 32, 1100)];
     for (size_t i = 0; i < COUNT(narrow); i++) {
-        narrow[i] = 0x3F800000u + (uint32_t)(i / 100 % 3 == 1 ? 77 : i * i % 89);
-        wide[i] = 0x4000000000000000u - (i / 100 % 3 == 1 ? 77 : i * i % 89);
+        narrow[i] = 0x3F800000u + (uint32_t)(i / 300 % 2 == 1 ? 77 : i * i % 89);
+        wide[i] = 0x4000000000000000u - (i / 300 % 2 == 1 ? 77 : i * i % 89);
     }
-    size_t len = gwz_answer(gwz_pack32(11, GWZ_DIFFERENCES, 0, narrow, 1100, stream, sizeof stream));
-    expect_call(tally, "unpacked", reading(UNPACK32, 11, stream, len, 1100), done(1100), narrow, 1100);
-    expect_call(tally, "length", packing(LENGTH32, 11, GWZ_DIFFERENCES, 0, narrow, 1100, 0), done((uint32_t)len), NULL, 0);
-    for (size_t i = 0; i < COUNT(narrow); i++)
-        expect_call(tally, "probed", probing(PROBE32, 11, stream, len, i), done(GWZ_FINITE), &narrow[i], 1);
-    len = gwz_answer(gwz_pack64(11, GWZ_DIFFERENCES, 0, wide, 1100, stream, sizeof stream));
-    expect_call(tally, "unpacked", reading(UNPACK64, 11, stream, len, 1100), done(1100), wide, 1100);
-    expect_call(tally, "length", packing(LENGTH64, 11, GWZ_DIFFERENCES, 0, wide, 1100, 0), done((uint32_t)len), NULL, 0);
-    for (size_t i = 0; i < COUNT(wide); i++)
-        expect_call(tally, "probed", probing(PROBE64, 11, stream, len, i), done(GWZ_FINITE), &wide[i], 1);
+    for (size_t g = 0; g < 2; g++) {
+        uint32_t group = group_sizes[g], level = level_of_groups(group), mode = GWZ_DIFFERENCES;
+        size_t len = gwz_answer(gwz_pack32(level, mode, 0, group, narrow, 1100, stream, sizeof stream));
+        expect_call(tally, "unpacked", reading(UNPACK32, level, stream, len, 1100), done(1100), narrow, 1100);
+        expect_call(tally, "length", in_groups_of(group, packing(LENGTH32, level, mode, 0, narrow, 1100, 0)),
+                    done((uint32_t)len), NULL, 0);
+        for (size_t i = 0; i < COUNT(narrow); i++)
+            expect_call(tally, "probed", probing(PROBE32, level, stream, len, i), done(GWZ_FINITE), &narrow[i], 1);
+        len = gwz_answer(gwz_pack64(level, mode, 0, group, wide, 1100, stream, sizeof stream));
+        expect_call(tally, "unpacked", reading(UNPACK64, level, stream, len, 1100), done(1100), wide, 1100);
+        expect_call(tally, "length", in_groups_of(group, packing(LENGTH64, level, mode, 0, wide, 1100, 0)),
+                    done((uint32_t)len), NULL, 0);
+        for (size_t i = 0; i < COUNT(wide); i++)
+            expect_call(tally, "probed", probing(PROBE64, level, stream, len, i), done(GWZ_FINITE), &wide[i], 1);
+    }
 }
 
 static void test_damaged_example(struct tally *tally)
 {
     static const struct damage damages[] = {
         {"major 0", 0, 4, 0, 6, 0}, {"major 2", 0, 4, 2, 6, 0}, {"major 257", 0, 4, 257, 6, 0},
-        {"need 13", 8, 4, 13, 7, 13}, {"need 2^32 - 1", 8, 4, UINT32_MAX, 7, UINT32_MAX},
+        {"need 14", 8, 4, 14, 7, 14}, {"need 2^32 - 1", 8, 4, UINT32_MAX, 7, UINT32_MAX},
         {"need 7", 8, 4, 7, 8, 0}, {"need 9, not the setting's", 8, 4, 9, 8, 0},
-        {"need 11, not the setting's", 8, 4, 11, 8, 0},
+        {"need 11, not the setting's", 8, 4, 11, 8, 0}, {"need 13, not the setting's", 8, 4, 13, 8, 0},
         {"written 7 below needed 8", 4, 4, 7, 8, 0}, {"width 16", 12, 4, 16, 8, 0},
         {"width 64 and the need of 32", 12, 4, 64, 8, 0}, {"mode 1 and the need of mode 0", 16, 4, 1, 8, 0},
-        {"mode 2 and the need of mode 0", 16, 4, 2, 8, 0}, {"mode 3", 16, 4, 3, 8, 0}, {"k 1 in mode 0", 20, 4, 1, 8, 0}, {"n 1025 in 1 chunk", 24, 4, 1025, 8, 0},
+        {"mode 2 and the need of mode 0", 16, 4, 2, 8, 0}, {"mode 3", 16, 4, 3, 8, 0},
+        {"groups of 128 and the need of 32", 16, 4, 256, 8, 0}, {"mode 255", 16, 4, 255, 8, 0},
+        {"k 1 in mode 0", 20, 4, 1, 8, 0}, {"n 1025 in 1 chunk", 24, 4, 1025, 8, 0},
         {"n 0 in 1 chunk", 24, 4, 0, 8, 0}, {"n above the limit", 24, 4, 1048577, 8, 0},
         {"2 chunks", 28, 4, 2, 8, 0}, {"no chunks", 28, 4, 0, 8, 0}, {"chunk table at 52", 32, 4, 52, 8, 0},
         {"data at 48", 36, 4, 48, 8, 0}, {"65 side parts", 40, 4, 65, 8, 0},
@@ -709,27 +796,17 @@ static void test_damaged_setting(struct tally *tally)
         expect_damage(tally, stream, len, damages[i]);
 }
 
-/* Three chunks of zeros, the first two full: a width byte for each of their 32 groups, and one in the last. */
-static void put_three_chunks_of(uint8_t *stream, uint32_t first, uint32_t second, uint32_t third)
-{
-    put_three_chunks(stream);
-    memset(stream + 60, 0, first + second + third);
-    put_number(stream + 44, 60 + first + second + third);
-    put_number(stream + 52, first);
-    put_number(stream + 56, first + second);
-}
-
 /* Check and unpack name the first bad place, probe that of its own chunk. `bad`: each chunk's first bad group, or -1. */
 static void expect_places(struct tally *tally, const char *what, const uint8_t *stream, size_t len, const int bad[3])
 {
-    const uint32_t zero = 0;
+    const uint32_t zero = 0, level = GWZ_LEVEL_13;
     uint32_t chunk = bad[0] >= 0 ? 0 : bad[1] >= 0 ? 1 : 2;
     uint64_t wanted = refused(10, 32 * chunk + (uint32_t)bad[chunk]);
-    expect_call(tally, what, reading(CHECK, 8, stream, len, 0), wanted, NULL, 0);
-    expect_call(tally, what, reading(UNPACK32, 8, stream, len, 2049), wanted, NULL, 0);
+    expect_call(tally, what, reading(CHECK, level, stream, len, 0), wanted, NULL, 0);
+    expect_call(tally, what, reading(UNPACK32, level, stream, len, 2049), wanted, NULL, 0);
     for (uint32_t own = 0; own < 3; own++) {
         int good = bad[own] < 0;
-        expect_call(tally, what, probing(PROBE32, 8, stream, len, 1024 * own),
+        expect_call(tally, what, probing(PROBE32, level, stream, len, 1024 * own),
                     good ? done(GWZ_FINITE) : refused(10, 32 * own + (uint32_t)bad[own]), &zero, good ? 1 : 0);
     }
 }
@@ -738,46 +815,165 @@ static void expect_places(struct tally *tally, const char *what, const uint8_t *
 static void test_damaged_chunks(struct tally *tally)
 {
     static const struct damage tables[] = {
-        {"second chunk at 0", 52, 4, 0, 9, 0}, {"third chunk before the second", 56, 4, 31, 9, 0},
-        {"third chunk at the data's end", 56, 4, 65, 9, 0}, {"third chunk at 2^32 - 1", 56, 4, UINT32_MAX, 9, 0},
-        {"w 1 in chunk 0 takes a byte too many", 60, 1, 1, 10, 0},
+        {"second chunk at 0", 52, 4, 0, 9, 0}, {"third chunk before the second", 56, 4, 7, 9, 0},
+        {"third chunk at 2^32 - 1", 56, 4, UINT32_MAX, 9, 0},
+        {"w 1 in chunk 0, and no code of 1 bit", 60, 1, 1, 10, 0},
     };
     uint8_t stream[THREE_CHUNKS_BYTES];
-    put_three_chunks(stream);
-    for (size_t i = 0; i < COUNT(tables); i++)
-        expect_damage(tally, stream, sizeof stream, tables[i]);
-    for (uint32_t chunk = 0; chunk < 2; chunk++)
-        for (uint32_t group = 0; group < 32; group++) {
+    for (size_t g = 0; g < 2; g++) {
+        uint32_t size = group_sizes[g], groups = 1024 / size; /* 32 or 8 in a full chunk */
+        const struct damage at_end = {"third chunk at the data's end", 56, 4, 2 * groups + 1, 9, 0};
+        size_t len = put_three_chunks(stream, size, groups, groups, 1);
+        expect_call(tally, "three chunks", reading(CHECK, 13, stream, len, 0), done(2049), NULL, 0);
+        expect_damage(tally, stream, len, at_end);
+        for (size_t i = 0; i < COUNT(tables); i++)
+            expect_damage(tally, stream, len, tables[i]);
+        for (uint32_t i = 0; i < 2 * groups; i++) {
             int bad[3] = {-1, -1, -1};
-            bad[chunk] = (int)group;
-            put_three_chunks(stream);
-            stream[60 + 32 * chunk + group] = 33;
-            expect_places(tally, "a bad group", stream, sizeof stream, bad);
+            bad[i / groups] = (int)(i % groups);
+            put_three_chunks(stream, size, groups, groups, 1);
+            stream[60 + i] = 33;
+            expect_places(tally, "a bad group", stream, len, bad);
             bad[2] = 0; /* the last chunk is bad too: the first bad one is named */
-            stream[60 + 64] = 33;
-            expect_places(tally, "two bad chunks", stream, sizeof stream, bad);
+            stream[60 + 2 * groups] = 33;
+            expect_places(tally, "two bad chunks", stream, len, bad);
         }
+    }
 }
 
 /* Bytes left over count for the last group, after every other fault; missing ones for the group that lacks them. */
 static void test_chunk_ends(struct tally *tally)
 {
-    static const int full[3] = {31, -1, -1}, second[3] = {-1, 31, -1}, last[3] = {-1, -1, 0}, earlier[3] = {4, -1, -1};
-    static const int both[3] = {30, 31, -1}, without_codes[3] = {29, -1, -1};
     uint8_t stream[THREE_CHUNKS_BYTES + 9];
-    put_three_chunks_of(stream, 33, 32, 1);
-    expect_places(tally, "a byte behind a full chunk", stream, 126, full);
-    stream[60 + 4] = 33;
-    expect_places(tally, "a bad group before it", stream, 126, earlier);
-    put_three_chunks_of(stream, 32, 41, 1);
-    expect_places(tally, "nine bytes behind the second chunk", stream, 134, second);
-    put_three_chunks_of(stream, 32, 32, 2);
-    expect_places(tally, "a byte behind the last chunk", stream, 126, last);
-    put_three_chunks_of(stream, 30, 34, 1);
-    expect_places(tally, "no width byte for a group, and bytes behind the next chunk", stream, 125, both);
-    put_three_chunks_of(stream, 32, 32, 1);
-    stream[60 + 29] = 1;
-    expect_places(tally, "no codes for a group", stream, 125, without_codes);
+    for (size_t g = 0; g < 2; g++) {
+        uint32_t size = group_sizes[g], groups = 1024 / size;
+        int end = (int)groups - 1;
+        const int full[3] = {end, -1, -1}, second[3] = {-1, end, -1}, last[3] = {-1, -1, 0}, earlier[3] = {4, -1, -1};
+        const int both[3] = {end - 1, end, -1}, without_codes[3] = {end - 2, -1, -1};
+        size_t len = put_three_chunks(stream, size, groups + 1, groups, 1);
+        expect_places(tally, "a byte behind a full chunk", stream, len, full);
+        stream[60 + 4] = 33;
+        expect_places(tally, "a bad group before it", stream, len, earlier);
+        len = put_three_chunks(stream, size, groups, groups + 9, 1);
+        expect_places(tally, "nine bytes behind the second chunk", stream, len, second);
+        len = put_three_chunks(stream, size, groups, groups, 2);
+        expect_places(tally, "a byte behind the last chunk", stream, len, last);
+        len = put_three_chunks(stream, size, groups - 2, groups + 2, 1);
+        expect_places(tally, "no width byte for a group, and bytes behind the next chunk", stream, len, both);
+        len = put_three_chunks(stream, size, groups, groups, 1);
+        stream[60 + end - 2] = 1;
+        expect_places(tally, "no codes for a group", stream, len, without_codes);
+    }
+}
+
+/* ---- Groups of 128 */
+
+/*
+ * A list of 130 values as docs/FORMAT.md prints it: 0, but the pattern 00000001 at the places 1, 127 and 129. The codes of these
+ * are 4 in mode 0, and 2 in mode 1 with the smallest k, where the bin is the smallest number above 0. In mode 2 the differences 1
+ * and -1 have the codes 2 and 1.
+ */
+static uint32_t listed_in_128(size_t i)
+{
+    return i == 1 || i == 127 || i == 129 ? 1 : 0;
+}
+
+/* The codes of the list, w bits each, in two groups: 128 codes, and 2. Returns the bytes. */
+static size_t put_two_groups(uint8_t *data, uint32_t mode)
+{
+    size_t w = mode == GWZ_LOSSLESS ? 3 : 2, bytes[2] = {1 + 128 * w / 8, 2};
+    memset(data, 0, bytes[0] + bytes[1]);
+    data[0] = data[bytes[0]] = (uint8_t)w;
+    uint32_t before = 0;
+    for (size_t i = 0; i < 130; i++) {
+        uint32_t value = listed_in_128(i);
+        uint32_t code = mode == GWZ_LOSSLESS ? 4 * value : mode == GWZ_WITHIN_TOLERANCE ? 2 * value
+            : value == before ? 0 : value > before ? 2 : 1;
+        size_t bit = i % 128 * w, at = i < 128 ? 1 : bytes[0] + 1;
+        for (size_t b = 0; b < w; b++)
+            if ((code >> b & 1) != 0)
+                data[at + (bit + b) / 8] |= (uint8_t)(1u << (bit + b) % 8);
+        before = value;
+    }
+    return bytes[0] + bytes[1];
+}
+
+/* The list in each mode and width, written by level 13 and read at every level. */
+static void test_groups_of_128(struct tally *tally)
+{
+    uint32_t narrow[130];
+    uint64_t wide[130];
+    for (size_t i = 0; i < 130; i++)
+        wide[i] = narrow[i] = listed_in_128(i);
+    for (uint32_t i = 0; i < 6; i++) {
+        uint32_t mode = i % 3, width = i / 3 == 0 ? 32 : 64;
+        int32_t k = mode != 1 ? 0 : width == 32 ? GWZ_SMALLEST_K32 : GWZ_SMALLEST_K64;
+        const struct setting setting = {13, width, 256 + mode, (uint32_t)k};
+        enum operation pack = width == 32 ? PACK32 : PACK64, length = width == 32 ? LENGTH32 : LENGTH64;
+        enum operation unpack = width == 32 ? UNPACK32 : UNPACK64, probe = width == 32 ? PROBE32 : PROBE64;
+        const void *values = width == 32 ? (const void *)narrow : (const void *)wide;
+        uint8_t data[64], stream[128];
+        size_t len = put_stream(stream, setting, 130, data, put_two_groups(data, mode));
+        expect_call(tally, "length", in_groups_of(128, packing(length, 13, mode, k, values, 130, 0)), done(len), NULL, 0);
+        expect_call(tally, "packed", in_groups_of(128, packing(pack, 13, mode, k, values, 130, len)), done(len), stream, len);
+        for (uint32_t level = 8; level <= 13; level++) {
+            int read = level == 13;
+            expect_call(tally, "checked", reading(CHECK, level, stream, len, 0), read ? done(130) : refused(7, 13), NULL, 0);
+            expect_call(tally, "unpacked", reading(unpack, level, stream, len, 130), read ? done(130) : refused(7, 13), values,
+                        read ? 130 : 0);
+            for (size_t at = 0; at < 130; at++)
+                expect_call(tally, "probed", probing(probe, level, stream, len, at), read ? done(GWZ_FINITE) : refused(7, 13),
+                            width == 32 ? (const void *)&narrow[at] : (const void *)&wide[at], read ? 1 : 0);
+        }
+    }
+}
+
+/* The list in mode 0 with a number of the header or a byte altered. Group 0 is at 52 to 100, group 1 at 101 and 102. */
+static void test_damaged_groups_of_128(struct tally *tally)
+{
+    static const struct damage damages[] = {
+        {"mode 3", 16, 4, 3, 8, 0}, {"mode 255", 16, 4, 255, 8, 0}, {"mode 259", 16, 4, 259, 8, 0},
+        {"mode 384", 16, 4, 384, 8, 0}, {"mode 512", 16, 4, 512, 8, 0}, {"mode 514", 16, 4, 514, 8, 0},
+        {"mode 2^16 + 256", 16, 4, 0x10100, 8, 0}, {"mode 2^31 + 256", 16, 4, 0x80000100, 8, 0},
+        {"mode 2^32 - 1", 16, 4, UINT32_MAX, 8, 0},
+        {"groups of 32 and the need of 128", 16, 4, 0, 8, 0}, {"mode 2 and the need of 128", 16, 4, 2, 8, 0},
+        {"k 1 in mode 0", 20, 4, 1, 8, 0}, {"k 104 in mode 1", 20, 4, 104, 8, 0},
+        {"need 8", 8, 4, 8, 8, 0}, {"need 12", 8, 4, 12, 8, 0}, {"need 14", 8, 4, 14, 7, 14}, {"written 12", 4, 4, 12, 8, 0},
+        {"n 1025 in 1 chunk", 24, 4, 1025, 8, 0},
+        {"w 33 of group 0", 52, 1, 33, 10, 0}, {"w 255 of group 0", 52, 1, 255, 10, 0},
+        {"w 2 of group 0: bytes left over", 52, 1, 2, 10, 1},
+        {"w 4 of group 0: bytes missing", 52, 1, 4, 10, 0}, {"w 0 of group 0: bytes left over", 52, 1, 0, 10, 1},
+        {"w 33 of group 1", 101, 1, 33, 10, 1}, {"w 4 of group 1 is not smallest", 101, 1, 4, 10, 1},
+        {"w 5 of group 1: a byte missing", 101, 1, 5, 10, 1}, {"w 0 of group 1: a byte left over", 101, 1, 0, 10, 1},
+        {"the lowest padding bit", 102, 1, 0x60, 10, 1}, {"the highest padding bit", 102, 1, 0xA0, 10, 1},
+        {"129 values: bits behind them", 24, 4, 129, 10, 1}, {"one chunk of 128: a group left over", 24, 4, 128, 10, 0},
+    };
+    const struct setting within = {13, 32, 257, 0xFFFFFFFE}, plain = {13, 32, 256, 0};
+    uint8_t data[2 + 16 * 31 + 4], stream[sizeof data + 52], damaged[sizeof data + 52];
+    size_t bytes = put_two_groups(data, GWZ_LOSSLESS), len = put_stream(stream, plain, 130, data, bytes);
+    for (size_t i = 0; i < COUNT(damages); i++)
+        expect_damage(tally, stream, len, damages[i]);
+
+    /* The same bytes as groups of 32, with the need of that: group 0 is good, the next have no bits, and bytes are left over. */
+    memcpy(damaged, stream, len);
+    put_number(damaged + 16, 0);
+    put_number(damaged + 8, 8);
+    expect_call(tally, "read in groups of 32", reading(CHECK, 13, damaged, len, 0), refused(10, 4), NULL, 0);
+
+    /* Mode 1 at k = -2, 129 codes of 31 bits: the largest u is 905969663. Its groups begin at 52 and 549. */
+    memset(data, 0, sizeof data);
+    data[0] = data[1 + 16 * 31] = 31;
+    put_number(data + 1, 2u * 905969663u);
+    put_number(data + 2 + 16 * 31, 2u * 905969663u);
+    len = put_stream(stream, within, 129, data, 2 + 16 * 31 + 4);
+    expect_call(tally, "largest u in both groups", reading(CHECK, 13, stream, len, 0), done(129), NULL, 0);
+    for (uint32_t group = 0; group < 2; group++) {
+        memcpy(damaged, stream, len);
+        put_number(damaged + 53 + 497 * group, 2u * 905969664u);
+        expect_call(tally, "u too large", reading(CHECK, 13, damaged, len, 0), refused(10, group), NULL, 0);
+        expect_call(tally, "u too large", reading(UNPACK32, 13, damaged, len, 129), refused(10, group), NULL, 0);
+        expect_call(tally, "u too large", probing(PROBE32, 13, damaged, len, 0), refused(10, group), NULL, 0);
+    }
 }
 
 /* Two side parts behind the example: ids 1 and 9, of 2 bytes and none. A reader skips them: their ids are low. */
@@ -810,7 +1006,7 @@ static void put_ids(uint8_t *stream, uint32_t need, uint32_t first, uint32_t sec
 {
     const uint32_t entries[] = {first, 91, 2, second, 93, 0, third, 93, 1};
     memcpy(stream, example, sizeof example);
-    put_number(stream + 4, 12);
+    put_number(stream + 4, need > 12 ? need : 12);
     put_number(stream + 8, need);
     put_number(stream + 40, 3);
     for (size_t i = 0; i < COUNT(entries); i++)
@@ -828,7 +1024,7 @@ static void expect_ids(struct tally *tally, const char *what, uint32_t level, co
                 &example_values[2], read ? 1 : 0);
 }
 
-/* Ids on both sides of 2^31, with the right need and with others. */
+/* Ids on both sides of 2^31, with the right need and with others, at both sizes of groups. */
 static void test_must_be_understood(struct tally *tally)
 {
     const uint32_t high = GWZ_FIRST_HIGH_ID;
@@ -846,8 +1042,20 @@ static void test_must_be_understood(struct tally *tally)
         put_ids(stream, 8, 7, 8, high);
         expect_ids(tally, "a high id, and a need that is too small", level, stream, refused(8, 0));
         put_ids(stream, 13, 7, 8, high);
-        put_number(stream + 4, 13);
-        expect_ids(tally, "a high id, and a need that is too large", level, stream, refused(7, 13));
+        expect_ids(tally, "a high id, and the need of groups of 128", level, stream, level < 13 ? refused(7, 13) : refused(8, 0));
+        put_ids(stream, 14, 7, 8, high);
+        expect_ids(tally, "a high id, and a need that is too large", level, stream, refused(7, 14));
+        /* In groups of 128 the three values are the same bytes: the need is 13 with a high id and without. */
+        put_ids(stream, 13, 7, high, UINT32_MAX);
+        put_number(stream + 16, 256);
+        expect_ids(tally, "high ids in groups of 128", level, stream,
+                   level < 13 ? refused(7, 13) : refused(GWZ_MUST_BE_UNDERSTOOD, high));
+        put_ids(stream, 13, 7, 8, high - 1);
+        put_number(stream + 16, 256);
+        expect_ids(tally, "low ids in groups of 128", level, stream, level < 13 ? refused(7, 13) : done(3));
+        put_ids(stream, 12, 7, 8, high);
+        put_number(stream + 16, 256);
+        expect_ids(tally, "groups of 128, and the need of a high id", level, stream, level < 12 ? refused(7, 12) : refused(8, 0));
     }
 }
 
@@ -1026,14 +1234,14 @@ static void test_printed_summaries(struct tally *tally)
     static const uint32_t narrow[] = {0x80000000, 0x7FC00000};
     static const struct entry alone[] = {{0, 0x80000000, 0x80000000}, {1, 0, 0}};
     const uint32_t first = 0;
-    uint8_t stream[GWZ_LONGEST_STREAM(64, 4)];
-    size_t copy_len, len = gwz_answer(gwz_pack32(10, GWZ_WITHIN_TOLERANCE, -2, values32, 4, stream, sizeof stream));
+    uint8_t stream[GWZ_LONGEST_STREAM(64, 32, 4)];
+    size_t copy_len, len = gwz_answer(gwz_pack32(10, 1, -2, GWZ_GROUPS_OF_32, values32, 4, stream, sizeof stream));
     uint8_t *copy = copy_with(stream, len, 32, &within, 1, &copy_len);
     expect_summary(tally, "within a tolerance", stream, len, copy, copy_len);
     expect_list(tally, "within a tolerance, from 1", CHUNKS_FROM32, 0x3F800000, copy, copy_len, &first, 1);
     free(copy);
 
-    len = gwz_answer(gwz_pack64(10, GWZ_WITHIN_TOLERANCE, -2, values64, 2, stream, sizeof stream));
+    len = gwz_answer(gwz_pack64(10, 1, -2, GWZ_GROUPS_OF_32, values64, 2, stream, sizeof stream));
     copy = copy_with(stream, len, 64, &wide, 1, &copy_len);
     expect_summary(tally, "width 64", stream, len, copy, copy_len);
     expect_list(tally, "width 64, from 1", CHUNKS_FROM64, 0x3FF0000000000000, copy, copy_len, &first, 1);
@@ -1043,7 +1251,7 @@ static void test_printed_summaries(struct tally *tally)
     free(copy);
 
     for (uint32_t i = 0; i < 2; i++) {
-        len = gwz_answer(gwz_pack32(8, GWZ_LOSSLESS, 0, &narrow[i], 1, stream, sizeof stream));
+        len = gwz_answer(gwz_pack32(8, GWZ_LOSSLESS, 0, GWZ_GROUPS_OF_32, &narrow[i], 1, stream, sizeof stream));
         copy = copy_with(stream, len, 32, &alone[i], 1, &copy_len);
         expect_summary(tally, "one value", stream, len, copy, copy_len);
         expect_list(tally, "-0 is at least 0, a not-a-number is not", CHUNKS_FROM32, 0, copy, copy_len, &first, 1 - i);
@@ -1061,7 +1269,7 @@ static void test_printed_summaries(struct tally *tally)
 
 /*
  * Six chunks: 0 and one -0; -0; not-a-numbers; -1, one -infinity and a not-a-number; 1, one -1 and an infinity; and five
- * values, of which one is -0 and the others are not-a-numbers. Every mode gives them back as they are.
+ * values, of which one is -0 and the others are not-a-numbers. Every mode gives them back as they are, in groups of 32 and 128.
  */
 enum { SUMMED = 5 * 1024 + 5 };
 
@@ -1094,9 +1302,9 @@ static void expect_false(struct tally *tally, enum operation list, size_t value,
     for (size_t i = 0; i < 3 * chunks; i++) {
         uint8_t *number = copy + first + i / 3 * size + (i % 3 == 0 ? 0 : i % 3 == 1 ? 4 : 4 + value);
         *number ^= 1;
-        expect_call(tally, "one off", reading(CHECK, 11, copy, copy_len, 0), done(SUMMED), NULL, 0);
-        expect_call(tally, "one off", reading(TEST_SUMMARY, 11, copy, copy_len, 0), refused(17, 0), NULL, 0);
-        expect_call(tally, "one off", listing(list, 11, 0, copy, copy_len, chunks), refused(17, 0), NULL, 0);
+        expect_call(tally, "one off", reading(CHECK, 13, copy, copy_len, 0), done(SUMMED), NULL, 0);
+        expect_call(tally, "one off", reading(TEST_SUMMARY, 13, copy, copy_len, 0), refused(17, 0), NULL, 0);
+        expect_call(tally, "one off", listing(list, 13, 0, copy, copy_len, chunks), refused(17, 0), NULL, 0);
         *number ^= 1;
     }
 }
@@ -1119,7 +1327,7 @@ static void test_six_chunks(struct tally *tally)
     };
     static uint32_t narrow[SUMMED];
     static uint64_t wide[SUMMED];
-    static uint8_t stream[GWZ_LONGEST_STREAM(64, SUMMED)];
+    static uint8_t stream[GWZ_LONGEST_STREAM(64, 32, SUMMED)];
     struct entry entries[6];
     for (size_t i = 0; i < SUMMED; i++) {
         wide[i] = summed_value(i);
@@ -1130,16 +1338,17 @@ static void test_six_chunks(struct tally *tally)
         entries[i].smallest = narrowed(wide_entries[i].smallest);
         entries[i].largest = narrowed(wide_entries[i].largest);
     }
-    for (uint32_t mode = 0; mode <= 2; mode++) {
+    for (uint32_t setting = 0; setting < 6; setting++) {
+        uint32_t mode = setting % 3, group = group_sizes[setting / 3], level = level_of_groups(group);
         int32_t k = mode == 1 ? -8 : 0;
-        size_t copy_len, len = gwz_answer(gwz_pack32(11, mode, k, narrow, SUMMED, stream, sizeof stream));
+        size_t copy_len, len = gwz_answer(gwz_pack32(level, mode, k, group, narrow, SUMMED, stream, sizeof stream));
         uint8_t *copy = copy_with(stream, len, 32, entries, 6, &copy_len);
         expect_summary(tally, "six chunks of 32 bits", stream, len, copy, copy_len);
         for (size_t i = 0; i < COUNT(from); i++)
             expect_list(tally, from[i].what, CHUNKS_FROM32, from[i].narrow, copy, copy_len, from[i].chunks, from[i].count);
         expect_false(tally, CHUNKS_FROM32, 4, copy, copy_len, 6);
         free(copy);
-        len = gwz_answer(gwz_pack64(11, mode, k, wide, SUMMED, stream, sizeof stream));
+        len = gwz_answer(gwz_pack64(level, mode, k, group, wide, SUMMED, stream, sizeof stream));
         copy = copy_with(stream, len, 64, wide_entries, 6, &copy_len);
         expect_summary(tally, "six chunks of 64 bits", stream, len, copy, copy_len);
         for (size_t i = 0; i < COUNT(from); i++)
@@ -1241,7 +1450,7 @@ static void test_order_of_summaries(struct tally *tally)
     expect_refused(tally, "5 before 6", call, refused(5, 0), refused(5, 0), refused(5, 0), refused(5, 0));
     call.index = 0x7FF800017FF80001; /* a not-a-number at either width */
     expect_refused(tally, "2 before 5", call, refused(5, 0), refused(5, 0), refused(2, 0), refused(2, 0));
-    call.level = 13;
+    call.level = 14;
     expect_refused(tally, "1 before all", call, refused(1, 0), refused(1, 0), refused(1, 0), refused(1, 0));
 }
 
@@ -1253,13 +1462,13 @@ struct uniform {
     size_t length;
 };
 
-/* n values with the code 0 or 2^W - 1, and the stream written by hand. */
-static struct uniform uniform_of(uint32_t width, uint32_t n, int full)
+/* n values with the code 0 or 2^W - 1, and the stream written by hand, at the level that level_of_groups has. */
+static struct uniform uniform_of(uint32_t width, uint32_t group, uint32_t n, int full)
 {
-    const struct setting lossless = {10, width, 0, 0};
+    const struct setting lossless = {level_of_groups(group), width, mode_number(GWZ_LOSSLESS, group), 0};
     const uint32_t largest32 = 0x00800000; /* the pattern of the code FFFFFFFF */
     const uint64_t largest64 = 0x0010000000000000;
-    size_t w = full ? width : 0, chunks = (n + 1023) / 1024, groups = (n + 31) / 32;
+    size_t w = full ? width : 0, chunks = (n + 1023) / 1024, groups = (n + group - 1) / group, of_group = 1 + group / 8 * w;
     size_t data_bytes = groups + n * w / 8, data = 48 + 4 * chunks;
     struct uniform u = {allocated(n * width / 8), NULL, data + data_bytes};
 
@@ -1267,9 +1476,9 @@ static struct uniform uniform_of(uint32_t width, uint32_t n, int full)
     memset(u.stream, 0xFF, u.length);
     put_header(u.stream, lossless, n, data_bytes);
     for (size_t i = 0; i < chunks; i++)
-        put_number(u.stream + 48 + 4 * i, (uint32_t)(i * 32 * (1 + 4 * w)));
+        put_number(u.stream + 48 + 4 * i, (uint32_t)(i * (1024 / group) * of_group));
     for (size_t i = 0; i < groups; i++)
-        u.stream[data + i * (1 + 4 * w)] = (uint8_t)w;
+        u.stream[data + i * of_group] = (uint8_t)w;
     memset(u.values, 0, n * width / 8);
     for (size_t i = 0; full && i < n; i++)
         if (width == 32)
@@ -1280,7 +1489,8 @@ static struct uniform uniform_of(uint32_t width, uint32_t n, int full)
 }
 
 /* A summary in which each chunk has the one value as its smallest and largest. */
-static void expect_uniform_summary(struct tally *tally, uint32_t width, uint32_t n, int full, const struct uniform *u)
+static void expect_uniform_summary(struct tally *tally, uint32_t level, uint32_t width, uint32_t n, int full,
+                                   const struct uniform *u)
 {
     enum operation list = width == 32 ? CHUNKS_FROM32 : CHUNKS_FROM64;
     uint64_t value = !full ? 0 : width == 32 ? 0x00800000 : 0x0010000000000000;
@@ -1294,10 +1504,11 @@ static void expect_uniform_summary(struct tally *tally, uint32_t width, uint32_t
     }
     uint8_t *copy = copy_with(u->stream, u->length, width, entries, count, &copy_len);
     record(tally, "the bytes that a summary adds", copy_len == u->length + added ? NULL : "another number");
-    expect_call(tally, "summed up", reading(ADD_SUMMARY, 10, u->stream, u->length, copy_len), done(copy_len), copy, copy_len);
-    expect_call(tally, "a byte short", reading(ADD_SUMMARY, 10, u->stream, u->length, copy_len - 1),
+    expect_call(tally, "summed up", reading(ADD_SUMMARY, level, u->stream, u->length, copy_len), done(copy_len), copy,
+                copy_len);
+    expect_call(tally, "a byte short", reading(ADD_SUMMARY, level, u->stream, u->length, copy_len - 1),
                 refused(4, (uint32_t)copy_len), NULL, 0);
-    expect_call(tally, "tested", reading(TEST_SUMMARY, 10, copy, copy_len, 0), done(n), NULL, 0);
+    expect_call(tally, "tested", reading(TEST_SUMMARY, level, copy, copy_len, 0), done(n), NULL, 0);
     expect_list(tally, "all chunks", list, value, copy, copy_len, chunks, count);
     expect_list(tally, "no chunks", list, value + 1, copy, copy_len, chunks, 0);
     free(copy);
@@ -1305,46 +1516,53 @@ static void expect_uniform_summary(struct tally *tally, uint32_t width, uint32_t
     free(chunks);
 }
 
-static void expect_uniform(struct tally *tally, uint32_t width, uint32_t n, int full)
+static void expect_uniform(struct tally *tally, uint32_t width, uint32_t group, uint32_t n, int full)
 {
     enum operation pack = width == 32 ? PACK32 : PACK64, length = width == 32 ? LENGTH32 : LENGTH64;
     enum operation unpack = width == 32 ? UNPACK32 : UNPACK64, probe = width == 32 ? PROBE32 : PROBE64;
-    struct uniform u = uniform_of(width, n, full);
+    struct uniform u = uniform_of(width, group, n, full);
     uint64_t packed = done(u.length);
-    uint32_t needed = (uint32_t)u.length;
+    uint32_t needed = (uint32_t)u.length, level = level_of_groups(group);
+    struct call packs = in_groups_of(group, packing(pack, level, 0, 0, u.values, n, u.length));
 
-    expect_call(tally, "length", packing(length, 10, 0, 0, u.values, n, 0), packed, NULL, 0);
-    expect_call(tally, "packed", packing(pack, 10, 0, 0, u.values, n, u.length), packed, u.stream, u.length);
-    expect_call(tally, "packed, longest room", packing(pack, 10, 0, 0, u.values, n, GWZ_LONGEST_STREAM(width, n)),
-                packed, u.stream, u.length);
-    expect_call(tally, "a byte short", packing(pack, 10, 0, 0, u.values, n, u.length - 1), refused(4, needed), NULL, 0);
-    expect_call(tally, "checked", reading(CHECK, 10, u.stream, u.length, 0), done(n), NULL, 0);
-    expect_call(tally, "unpacked", reading(unpack, 10, u.stream, u.length, n), done(n), u.values, n);
+    expect_call(tally, "length", in_groups_of(group, packing(length, level, 0, 0, u.values, n, 0)), packed, NULL, 0);
+    expect_call(tally, "packed", packs, packed, u.stream, u.length);
+    packs.room = GWZ_LONGEST_STREAM(width, group, n);
+    expect_call(tally, "packed, longest room", packs, packed, u.stream, u.length);
+    if (full)
+        record(tally, "the longest there is", packs.room == u.length ? NULL : "another length");
+    packs.room = u.length - 1;
+    expect_call(tally, "a byte short", packs, refused(4, needed), NULL, 0);
+    expect_call(tally, "checked", reading(CHECK, level, u.stream, u.length, 0), done(n), NULL, 0);
+    expect_call(tally, "unpacked", reading(unpack, level, u.stream, u.length, n), done(n), u.values, n);
     if (n > 0) {
-        expect_call(tally, "a value short", reading(unpack, 10, u.stream, u.length, n - 1), refused(4, n), NULL, 0);
-        expect_call(tally, "the last probed", probing(probe, 10, u.stream, u.length, n - 1), done(GWZ_FINITE),
+        expect_call(tally, "a value short", reading(unpack, level, u.stream, u.length, n - 1), refused(4, n), NULL, 0);
+        expect_call(tally, "the last probed", probing(probe, level, u.stream, u.length, n - 1), done(GWZ_FINITE),
                     u.values, 1);
     }
-    expect_call(tally, "none behind the last", probing(probe, 10, u.stream, u.length, n), refused(11, 0), NULL, 0);
-    expect_uniform_summary(tally, width, n, full, &u);
+    expect_call(tally, "none behind the last", probing(probe, level, u.stream, u.length, n), refused(11, 0), NULL, 0);
+    expect_uniform_summary(tally, level, width, n, full, &u);
     free(u.values);
     free(u.stream);
 }
 
 static void test_lengths(struct tally *tally)
 {
-    static const uint32_t counts[] = {0, 1, 31, 32, 33, 1023, 1024, 1025, 2048, 2049};
+    static const uint32_t counts[] = {0, 1, 31, 32, 33, 127, 128, 129, 896, 897, 1023, 1024, 1025, 1152, 1153, 2048, 2049};
     static const uint32_t zeros[1025] = {0};
     const struct number_case stated[] = {
-        {"no values are 48 bytes", gwz_length32(8, 0, 0, zeros, 0), done(48)},
-        {"1,024 zeros are 84 bytes", gwz_length32(8, 0, 0, zeros, 1024), done(84)},
-        {"1,025 values have two chunks", gwz_length32(8, 0, 0, zeros, 1025), done(48 + 8 + 33)},
+        {"no values are 48 bytes", gwz_length32(8, 0, 0, GWZ_GROUPS_OF_32, zeros, 0), done(48)},
+        {"1,024 zeros are 84 bytes", gwz_length32(8, 0, 0, GWZ_GROUPS_OF_32, zeros, 1024), done(84)},
+        {"1,025 values have two chunks", gwz_length32(8, 0, 0, GWZ_GROUPS_OF_32, zeros, 1025), done(48 + 8 + 33)},
+        {"no values in groups of 128", gwz_length32(13, 0, 0, GWZ_GROUPS_OF_128, zeros, 0), done(48)},
+        {"1,024 zeros in groups of 128 are 60 bytes", gwz_length32(13, 0, 0, GWZ_GROUPS_OF_128, zeros, 1024), done(60)},
+        {"1,025 values in groups of 128", gwz_length32(13, 0, 0, GWZ_GROUPS_OF_128, zeros, 1025), done(48 + 8 + 9)},
     };
     expect_numbers(tally, stated, COUNT(stated));
-    for (size_t i = 0; i < COUNT(counts); i++)
+    for (size_t i = 0; i < 2 * COUNT(counts); i++)
         for (int full = 0; full <= 1; full++) {
-            expect_uniform(tally, 32, counts[i], full);
-            expect_uniform(tally, 64, counts[i], full);
+            expect_uniform(tally, 32, group_sizes[i % 2], counts[i / 2], full);
+            expect_uniform(tally, 64, group_sizes[i % 2], counts[i / 2], full);
         }
 }
 
@@ -1353,10 +1571,10 @@ static void test_limit(struct tally *tally)
 {
     const uint32_t limit = 1048576;
     uint64_t *values = (uint64_t *)allocated(8 * (size_t)(limit + 1));
-    size_t room = GWZ_LONGEST_STREAM(64, limit + 1);
-    for (int full = 0; full <= 1; full++) {
-        expect_uniform(tally, 32, limit, full);
-        expect_uniform(tally, 64, limit, full);
+    size_t room = GWZ_LONGEST_STREAM(64, GWZ_GROUPS_OF_32, limit + 1);
+    for (size_t i = 0; i < 4; i++) {
+        expect_uniform(tally, 32, group_sizes[i / 2], limit, (int)(i % 2));
+        expect_uniform(tally, 64, group_sizes[i / 2], limit, (int)(i % 2));
     }
     memset(values, 0, 8 * (size_t)(limit + 1));
     expect_call(tally, "32 bits", packing(PACK32, 8, 0, 0, values, limit + 1, room), refused(3, 0), NULL, 0);
@@ -1408,40 +1626,46 @@ static uint64_t pattern_back64(uint64_t pattern, int k)
 static void test_mixed32(struct tally *tally)
 {
     static uint32_t values[MIXED], back[MIXED];
-    static uint8_t stream[GWZ_LONGEST_STREAM(32, MIXED)];
+    static uint8_t stream[GWZ_LONGEST_STREAM(32, GWZ_GROUPS_OF_32, MIXED)];
     uint32_t state = 1;
-    for (uint32_t mode = 0; mode <= 1; mode++) {
-        int32_t k = mode == 0 ? 0 : -9;
+    for (uint32_t setting = 0; setting < 6; setting++) {
+        uint32_t mode = setting % 3, group = group_sizes[setting / 3], level = level_of_groups(group);
+        int32_t k = mode == 1 ? -9 : 0;
         for (size_t i = 0; i < MIXED; i++) {
             state = state * 1664525u + 1013904223u;
             values[i] = state;
-            back[i] = mode == 0 ? state : pattern_back32(state, k);
+            back[i] = mode == 1 ? pattern_back32(state, k) : state;
         }
-        uint64_t packed = gwz_pack32(9, mode, k, values, MIXED, stream, sizeof stream);
+        uint64_t packed = gwz_pack32(level, mode, k, group, values, MIXED, stream, sizeof stream);
         size_t length = gwz_answer(packed);
-        expect_call(tally, "length", packing(LENGTH32, 9, mode, k, values, MIXED, 0), packed, NULL, 0);
-        expect_call(tally, "packed", packing(PACK32, 9, mode, k, values, MIXED, length), packed, stream, length);
-        expect_call(tally, "unpacked", reading(UNPACK32, 9, stream, length, MIXED + 9), done(MIXED), back, MIXED);
+        struct call measure = packing(LENGTH32, level, mode, k, values, MIXED, 0);
+        struct call pack = packing(PACK32, level, mode, k, values, MIXED, length);
+        expect_call(tally, "length", in_groups_of(group, measure), packed, NULL, 0);
+        expect_call(tally, "packed", in_groups_of(group, pack), packed, stream, length);
+        expect_call(tally, "unpacked", reading(UNPACK32, level, stream, length, MIXED + 9), done(MIXED), back, MIXED);
     }
 }
 
 static void test_mixed64(struct tally *tally)
 {
     static uint64_t values[MIXED], back[MIXED];
-    static uint8_t stream[GWZ_LONGEST_STREAM(64, MIXED)];
+    static uint8_t stream[GWZ_LONGEST_STREAM(64, GWZ_GROUPS_OF_32, MIXED)];
     uint64_t state = 1;
-    for (uint32_t mode = 0; mode <= 1; mode++) {
-        int32_t k = mode == 0 ? 0 : -30;
+    for (uint32_t setting = 0; setting < 6; setting++) {
+        uint32_t mode = setting % 3, group = group_sizes[setting / 3], level = level_of_groups(group);
+        int32_t k = mode == 1 ? -30 : 0;
         for (size_t i = 0; i < MIXED; i++) {
             state = state * 6364136223846793005u + 1442695040888963407u;
             values[i] = state;
-            back[i] = mode == 0 ? state : pattern_back64(state, k);
+            back[i] = mode == 1 ? pattern_back64(state, k) : state;
         }
-        uint64_t packed = gwz_pack64(10, mode, k, values, MIXED, stream, sizeof stream);
+        uint64_t packed = gwz_pack64(level, mode, k, group, values, MIXED, stream, sizeof stream);
         size_t length = gwz_answer(packed);
-        expect_call(tally, "length", packing(LENGTH64, 10, mode, k, values, MIXED, 0), packed, NULL, 0);
-        expect_call(tally, "packed", packing(PACK64, 10, mode, k, values, MIXED, length), packed, stream, length);
-        expect_call(tally, "unpacked", reading(UNPACK64, 10, stream, length, MIXED + 9), done(MIXED), back, MIXED);
+        struct call measure = packing(LENGTH64, level, mode, k, values, MIXED, 0);
+        struct call pack = packing(PACK64, level, mode, k, values, MIXED, length);
+        expect_call(tally, "length", in_groups_of(group, measure), packed, NULL, 0);
+        expect_call(tally, "packed", in_groups_of(group, pack), packed, stream, length);
+        expect_call(tally, "unpacked", reading(UNPACK64, level, stream, length, MIXED + 9), done(MIXED), back, MIXED);
     }
 }
 
@@ -1455,12 +1679,15 @@ static void test_no_elements(struct tally *tally)
     put_header(empty32, narrow, 0, 0);
     put_header(empty64, wide, 0, 0);
     const struct number_case cases[] = {
-        {"pack32 of no values", gwz_pack32(10, 0, 0, NULL, 0, packed32, 48), done(48)},
-        {"pack32 into no room", gwz_pack32(10, 0, 0, NULL, 0, NULL, 0), refused(4, 48)},
-        {"pack64 of no values", gwz_pack64(10, 0, 0, NULL, 0, packed64, 48), done(48)},
-        {"pack64 into no room", gwz_pack64(10, 0, 0, NULL, 0, NULL, 0), refused(4, 48)},
-        {"length32", gwz_length32(10, 0, 0, NULL, 0), done(48)},
-        {"length64", gwz_length64(10, 0, 0, NULL, 0), done(48)},
+        {"pack32 of no values", gwz_pack32(10, 0, 0, GWZ_GROUPS_OF_32, NULL, 0, packed32, 48), done(48)},
+        {"pack32 into no room", gwz_pack32(10, 0, 0, GWZ_GROUPS_OF_32, NULL, 0, NULL, 0), refused(4, 48)},
+        {"pack64 of no values", gwz_pack64(10, 0, 0, GWZ_GROUPS_OF_32, NULL, 0, packed64, 48), done(48)},
+        {"pack64 into no room", gwz_pack64(10, 0, 0, GWZ_GROUPS_OF_32, NULL, 0, NULL, 0), refused(4, 48)},
+        {"length32", gwz_length32(10, 0, 0, GWZ_GROUPS_OF_32, NULL, 0), done(48)},
+        {"length64", gwz_length64(10, 0, 0, GWZ_GROUPS_OF_32, NULL, 0), done(48)},
+        {"pack32 into no room, groups of 128", gwz_pack32(13, 0, 0, GWZ_GROUPS_OF_128, NULL, 0, NULL, 0), refused(4, 48)},
+        {"length32, groups of 128", gwz_length32(13, 0, 0, GWZ_GROUPS_OF_128, NULL, 0), done(48)},
+        {"length64, groups of 128", gwz_length64(13, 0, 0, GWZ_GROUPS_OF_128, NULL, 0), done(48)},
         {"check of no bytes", gwz_check(10, NULL, 0), refused(5, 0)},
         {"unpack32 of no bytes", gwz_unpack32(10, NULL, 0, NULL, 0), refused(5, 0)},
         {"unpack64 of no bytes", gwz_unpack64(10, NULL, 0, NULL, 0), refused(5, 0)},
@@ -1507,10 +1734,13 @@ int main(void)
         {"differences", test_differences},
         {"differences of a walk", test_differences_of_a_walk},
         {"packing refused", test_packing_refused},
+        {"sizes of groups refused", test_other_sizes},
         {"damaged example", test_damaged_example},
         {"damaged setting", test_damaged_setting},
         {"damaged chunks", test_damaged_chunks},
         {"chunks too long and too short", test_chunk_ends},
+        {"groups of 128, byte by byte", test_groups_of_128},
+        {"groups of 128, damaged", test_damaged_groups_of_128},
         {"side parts", test_side_parts},
         {"side parts that must be understood", test_must_be_understood},
         {"order of the late 8 and of 15", test_order_of_ids},

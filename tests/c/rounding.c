@@ -51,17 +51,18 @@ static void draw_values(int32_t k)
 /* The stream of the drawn values, then its values unpacked behind it: all that a setting of the processor could change. */
 static size_t result_of(unsigned width, int32_t k, uint8_t *result)
 {
-    uint64_t packed = width == 32 ? gwz_pack32(10, GWZ_WITHIN_TOLERANCE, k, values32, VALUES, result, STREAM)
-                                  : gwz_pack64(10, GWZ_WITHIN_TOLERANCE, k, values64, VALUES, result, STREAM);
+    uint32_t group = k % 2 == 0 ? GWZ_GROUPS_OF_32 : GWZ_GROUPS_OF_128; /* both, in turn */
+    uint64_t packed = width == 32 ? gwz_pack32(13, GWZ_WITHIN_TOLERANCE, k, group, values32, VALUES, result, STREAM)
+                                  : gwz_pack64(13, GWZ_WITHIN_TOLERANCE, k, group, values64, VALUES, result, STREAM);
     size_t length = (size_t)gwz_answer(packed);
     if (gwz_refusal(packed) != GWZ_DONE)
         return 0;
     if (width == 32) {
-        gwz_unpack32(10, result, length, back32, VALUES);
+        gwz_unpack32(13, result, length, back32, VALUES);
         memcpy(result + length, back32, sizeof back32);
         return length + sizeof back32;
     }
-    gwz_unpack64(10, result, length, back64, VALUES);
+    gwz_unpack64(13, result, length, back64, VALUES);
     memcpy(result + length, back64, sizeof back64);
     return length + sizeof back64;
 }

@@ -4,13 +4,15 @@
  * second/src/compare/caller.rs and tests/caller/caller.py are the other ends.
  *
  *
- * A CALL has a head of 80 bytes, then the lent input, then the lent buffer as it is before the call. Every number is little-endian.
+ * A CALL has a head of 88 bytes, then the lent input, then the lent buffer as it is before the call. Every number is little-endian.
  *
  *     24 bytes   the function's name without gwz_, as `pack32`, and zeros behind it (at least one)
  *     4          level
  *     4          mode
  *     4          k, in two's complement
+ *     4          group: the group size
  *     4          width, of `bound` alone: the others have it in their names
+ *     4          nothing: 0
  *     8          number: the index, the tolerance, the pattern (of `chunks_from` x) or the code
  *     8          count: elements of the input, values or bytes
  *     8          before: elements of the buffer that lie before the room
@@ -43,7 +45,7 @@ struct call {
     char name[24];
     uint32_t level, mode;
     int32_t k;
-    uint32_t width;
+    uint32_t group, width, nothing;
     uint64_t number, count, before, room, behind;
 };
 
@@ -51,31 +53,31 @@ struct answer {
     uint64_t result, bytes;
 };
 
-typedef char head_of_a_call_is_80_bytes[sizeof(struct call) == 80 ? 1 : -1];
+typedef char head_of_a_call_is_88_bytes[sizeof(struct call) == 88 ? 1 : -1];
 typedef char head_of_an_answer_is_16_bytes[sizeof(struct answer) == 16 ? 1 : -1];
 
 /* ---- the functions */
 
 static uint64_t call_pack32(const struct call *c, const void *in, void *out)
 {
-    return gwz_pack32(c->level, c->mode, c->k, in, c->count, out, c->room);
+    return gwz_pack32(c->level, c->mode, c->k, c->group, in, c->count, out, c->room);
 }
 
 static uint64_t call_pack64(const struct call *c, const void *in, void *out)
 {
-    return gwz_pack64(c->level, c->mode, c->k, in, c->count, out, c->room);
+    return gwz_pack64(c->level, c->mode, c->k, c->group, in, c->count, out, c->room);
 }
 
 static uint64_t call_length32(const struct call *c, const void *in, void *out)
 {
     (void)out;
-    return gwz_length32(c->level, c->mode, c->k, in, c->count);
+    return gwz_length32(c->level, c->mode, c->k, c->group, in, c->count);
 }
 
 static uint64_t call_length64(const struct call *c, const void *in, void *out)
 {
     (void)out;
-    return gwz_length64(c->level, c->mode, c->k, in, c->count);
+    return gwz_length64(c->level, c->mode, c->k, c->group, in, c->count);
 }
 
 static uint64_t call_check(const struct call *c, const void *in, void *out)

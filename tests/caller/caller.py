@@ -12,7 +12,7 @@ import struct
 import subprocess
 
 MARGIN = 64
-HEAD_OF_CALL = struct.Struct("<24sIIiI5Q")
+HEAD_OF_CALL = struct.Struct("<24sIIiIII5Q")
 HEAD_OF_ANSWER = struct.Struct("<QQ")
 
 
@@ -37,13 +37,13 @@ class Caller:
         result, out = self.call_lent(f"probe{width}", data, width // 8, 1, lambda kind: 1, level=level, number=index)
         return *parted(result), None if out is None else int.from_bytes(out, "little")
 
-    def pack(self, width, level, mode, k, values, room):
+    def pack(self, width, level, mode, k, group, values, room):
         result, out = self.call_lent(f"pack{width}", list_bytes(width, values), 1, room, lambda answer: answer,
-                                     count=len(values), level=level, mode=mode, k=k)
+                                     count=len(values), level=level, mode=mode, k=k, group=group)
         return *parted(result), out
 
-    def length(self, width, level, mode, k, values):
-        return parted(self.call(f"length{width}", list_bytes(width, values), count=len(values), level=level, mode=mode, k=k))
+    def length(self, width, level, mode, k, group, values):
+        return parted(self.call(f"length{width}", list_bytes(width, values), count=len(values), level=level, mode=mode, k=k, group=group))
 
     def add_summary(self, level, data, room):
         result, out = self.call_lent("add_summary", data, 1, room, lambda answer: answer, level=level)
@@ -80,10 +80,10 @@ class Caller:
 
     # ---- the pipe
 
-    def exchange(self, name, given, buffer, level=0, mode=0, k=0, width=0, number=0, count=None, before=0, room=0, behind=0):
+    def exchange(self, name, given, buffer, level=0, mode=0, k=0, group=0, width=0, number=0, count=None, before=0, room=0, behind=0):
         """The result, and the buffer as it is after the call. Without a count the input is bytes."""
         count = len(given) if count is None else count
-        head = HEAD_OF_CALL.pack(name.encode(), level, mode, k, width, number, count, before, room, behind)
+        head = HEAD_OF_CALL.pack(name.encode(), level, mode, k, group, width, 0, number, count, before, room, behind)
         try:
             self.program.stdin.write(head + given + buffer)
             self.program.stdin.flush()

@@ -13,27 +13,40 @@ VALUES = [0x3F800000, 0x3F800000, 0x3F800001]
 
 
 def good_calls(library):
-    number, length = library.length(32, 8, 0, 0, VALUES)
+    number, length = library.length(32, 8, 0, 0, 32, VALUES)
     assert number == 0
-    done = library.pack(32, 8, 0, 0, VALUES, length + 3)
+    done = library.pack(32, 8, 0, 0, 32, VALUES, length + 3)
     stream = done[2]
     assert done[:2] == (0, length) and len(stream) == length
-    assert library.pack(32, 8, 0, 0, VALUES, length - 1) == (4, length, None)
+    assert library.pack(32, 8, 0, 0, 32, VALUES, length - 1) == (4, length, None)
     assert library.check(8, stream) == (0, 3) and library.check(7, stream) == (1, 0)
     assert library.unpack(32, 8, stream, 3) == (0, 3, VALUES)
     assert library.unpack(32, 8, stream, 2) == (4, 3, None) and library.unpack(64, 10, stream, 3) == (14, 0, None)
     assert library.probe(32, 8, stream, 2) == (0, 0, VALUES[2]) and library.probe(32, 8, stream, 3) == (11, 0, None)
     doubles = [0x7FF0 << 48, 1, (1 << 64) - 1]
-    stream = library.pack(64, 10, 1, -20, doubles, 100)[2]
+    stream = library.pack(64, 10, 1, -20, 32, doubles, 100)[2]
     assert library.unpack(64, 10, stream, 3) == (0, 3, [0x7FF0 << 48, 0, (1 << 64) - 1])
     assert library.probe(64, 10, stream, 2) == (0, 2, (1 << 64) - 1)
+    groups_of_128(library)
     summaries(library)
     assert library.bound(32, 0x3EB0 << 48) == (0, -20) and library.bound(64, 0x4000 << 48) == (0, 1) and library.bound(16, 1) == (2, 0)
 
 
+def groups_of_128(library):
+    """1,024 zeros are 8 bytes of data in groups of 128, which need 13; no other size is taken but 32."""
+    zeros = [0] * 1024
+    assert library.length(32, 13, 0, 0, 128, zeros) == (0, 60) and library.length(32, 13, 0, 0, 32, zeros) == (0, 84)
+    assert library.length(32, 12, 0, 0, 128, zeros) == (2, 0) and library.length(32, 13, 0, 0, 64, zeros) == (2, 0)
+    assert library.length(32, 13, 256, 0, 128, zeros) == (2, 0)
+    number, length, stream = library.pack(64, 13, 2, 0, 128, [7] * 130, 200)
+    assert (number, length) == (0, 48 + 4 + 1 + 64 + 1) and stream[16:18] == b"\x02\x01"
+    assert library.check(13, stream) == (0, 130) and library.check(12, stream) == (7, 13)
+    assert library.unpack(64, 13, stream, 130) == (0, 130, [7] * 130) and library.probe(64, 13, stream, 129) == (0, 0, 7)
+
+
 def summaries(library):
     """1,025 doubles in mode 2: a chunk of 1.0, and one of -0 alone."""
-    stream = library.pack(64, 11, 2, 0, [0x3FF0 << 48] * 1024 + [1 << 63], 20000)[2]
+    stream = library.pack(64, 11, 2, 0, 32, [0x3FF0 << 48] * 1024 + [1 << 63], 20000)[2]
     length = len(stream) + 12 + 2 * 20
     done = library.add_summary(11, stream, length + 3)
     copy = done[2]
@@ -62,7 +75,7 @@ def main():
     library = Caller(command)
     assert fails(lambda: library.call("no_function", b"")) and fails(library.close)
     # Programs that answer with too little, too much, or a buffer of another length.
-    for said in ("head -c 15 /dev/zero", "head -c 17 /dev/zero; cat >/dev/null", "head -c 80 >/dev/null; printf 0123456789abcdef"):
+    for said in ("head -c 15 /dev/zero", "head -c 17 /dev/zero; cat >/dev/null", "head -c 88 >/dev/null; printf 0123456789abcdef"):
         library = Caller(["sh", "-c", said])
         assert fails(lambda: (library.bound(32, 1), library.close())), said
 

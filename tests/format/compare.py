@@ -1,13 +1,14 @@
 #!/usr/bin/env python3
-"""That docs/FORMAT.md is complete: reader.py was written from that page alone, with nothing else seen.
+"""That docs/FORMAT.md is complete: reader.py was written from that page alone, with nothing else seen, but for what it says
+that the writers of the page added.
 
     tests/format/compare.py STREAMS SEED COMMAND...      COMMAND starts the library behind a pipe (tests/caller)
 
 It and the library get the same streams, clean and damaged, and have to answer the same: check, unpack and probe with
-number, detail and every value; and pack, length and bound. One stream in fourteen has up to three chunks, most of them
-damaged within, for the place that refusal 10 names. Two in fourteen have side parts, for the high ids, the need and the
-order 9 8 15 10. Two in fourteen have a summary or are to get one: added, tested and listed from, true and false. The last
-line is 'N passed, M failed', a stream each.
+number, detail and every value; and pack, length and bound. Half of the streams have groups of 128. One stream in fourteen
+has up to three chunks, most of them damaged within, for the place that refusal 10 names. Two in fourteen have side parts,
+for the high ids, the need and the order 9 8 15 10. Two in fourteen have a summary or are to get one: added, tested and
+listed from, true and false. The last line is 'N passed, M failed', a stream each.
 """
 
 import itertools
@@ -22,27 +23,31 @@ from caller import Caller  # noqa: E402  the folder has to be named first
 
 HEADER_WORDS = 12
 LEVEL = reader.LEVELS[-1]
-INTERESTING = [0, 1, 2, 3, 7, 8, 9, 10, 11, 12, 31, 32, 33, 48, 52, 63, 64, 65, 1023, 1024, 1025, 1048576, 1048577,
-               2**31 - 1, 2**31, 2**32 - 2, 2**32 - 1]
+INTERESTING = [0, 1, 2, 3, 7, 8, 9, 10, 11, 12, 13, 14, 31, 32, 33, 48, 52, 63, 64, 65, 128, 255, 256, 257, 258, 259, 512, 1023,
+               1024, 1025, 1048576, 1048577, 2**31 - 1, 2**31, 2**32 - 2, 2**32 - 1]
 
 
 # ---- what is packed
 
 def some_count(pick):
-    return pick.choice([0, 1, 2, 31, 32, 33, pick.randrange(100), pick.randrange(200), pick.randrange(1100)] + [pick.randrange(64)] * 12)
+    return pick.choice([0, 1, 2, 31, 32, 33, 127, 128, 129, pick.randrange(100), pick.randrange(200), pick.randrange(1100)] + [pick.randrange(64)] * 12)
 
 
 def some_setting(pick):
+    """A width, a mode, a k and a group size."""
     width, mode = pick.choice([32, 64]), pick.choice([0, 1, 2])
     low, high = reader.ALLOWED_K[width]
     k = pick.choice([low, high, pick.randrange(low, high + 1), pick.randrange(-12, 3)]) if mode == 1 else 0
-    return width, mode, k
+    return width, mode, k, pick.choice(reader.SIZES)
 
 
-def other_setting(pick, width):
-    """A mode and a k that are mostly not allowed."""
+def other_setting(pick, width, mode, k):
+    """A mode and a k that are mostly not allowed, and a group size that may be; or those that were, with another group size."""
     low, high = reader.ALLOWED_K[width]
-    return pick.choice([0, 1, 2, 3, 2**32 - 1]), pick.choice([0, 1, -1, low - 1, high + 1, -2**31, 2**31 - 1])
+    if pick.random() < 0.3:
+        return mode, k, pick.choice([0, 1, 31, 33, 64, 127, 129, 256, 1024, 2**32 - 1])
+    return (pick.choice([0, 1, 2, 3, 255, 256, 257, 258, 2**32 - 1]), pick.choice([0, 1, -1, low - 1, high + 1, -2**31, 2**31 - 1]),
+            pick.choice([32, 32, 128, 64]))
 
 
 def some_level(pick):
@@ -94,11 +99,16 @@ def some_ids(pick):
     return sorted(chosen + pick.sample(range(3 * count), count - len(chosen)))
 
 
+def need_in(data):
+    """The need of the width and the mode number in a header."""
+    return reader.need(reader.word(data, 12), *reader.said(reader.word(data, 16)))
+
+
 def with_need(pick, data, ids=()):
-    """Written and needed in the header: mostly the need of the stream, else any from 7 to 14, and mostly a written minor not below it."""
-    width, mode = reader.word(data, 12), reader.word(data, 16)
-    right = max([reader.need(width, mode)] + [reader.HIGH_ID_NEED] * any(part_id >= reader.HIGH_ID for part_id in ids))
-    needed = pick.choice([right] * 5 + [reader.need(width, mode), pick.randrange(7, 15), pick.randrange(7, 15)])
+    """Written and needed in the header: mostly the need of the stream, else any from 7 to 15, and mostly a written minor not below it."""
+    of_setting = need_in(data)
+    right = max([of_setting] + [reader.HIGH_ID_NEED] * any(part_id >= reader.HIGH_ID for part_id in ids))
+    needed = pick.choice([right] * 5 + [of_setting, pick.randrange(7, 16), pick.randrange(7, 16)])
     written = pick.choice([needed, needed + 1, max(needed, LEVEL), 2**32 - 1] * 3 + [needed - 1, 0])
     return data[:4] + words([written, needed]) + data[12:]
 
@@ -127,11 +137,12 @@ def other_word(pick, data):
 
 
 def other_mode(pick, data):
-    """Another mode, k and need in the header: mostly the need of that mode, so that the codes are read by other rules."""
-    needed, width, _, k = (reader.word(data, at) for at in (8, 12, 16, 20))
-    mode = pick.choice([0, 1, 2, 2, 3])
-    needed = pick.choice([reader.need(width, mode)] * 4 + [needed, pick.randrange(7, 15)])
-    return data[:8] + words([needed, width, mode, pick.choice([k, 0, 0, 1])]) + data[24:]
+    """Another mode number, k and need in the header: mostly the need of that mode and group size, so that the codes are read by other rules.
+    At times the mode is the same, and the group size alone another."""
+    needed, width, number, k = (reader.word(data, at) for at in (8, 12, 16, 20))
+    number = pick.choice([0, 1, 2, 2, 3, 256, 257, 258, 259, 512, number ^ 256, number ^ 256])
+    needed = pick.choice([reader.need(width, *reader.said(number))] * 4 + [needed, pick.randrange(7, 16)])
+    return data[:8] + words([needed, width, number, pick.choice([k, k, 0, 0, 1])]) + data[24:]
 
 
 def other_byte(pick, data):
@@ -159,11 +170,11 @@ def damaged(pick, data):
 def chunks_of(data):
     """The chunks of a clean stream, each as the list of its groups."""
     h = reader.header_of(data)
-    chunks, at = [], h.data_at
+    chunks, at, size = [], h.data_at, reader.said(h.mode)[1]
     for first in range(0, h.n, reader.CHUNK):
         chunks.append([])
-        for left in range(min(reader.CHUNK, h.n - first), 0, -reader.GROUP):
-            behind = at + 1 + (data[at] * min(reader.GROUP, left) + 7) // 8
+        for left in range(min(reader.CHUNK, h.n - first), 0, -size):
+            behind = at + 1 + (data[at] * min(size, left) + 7) // 8
             chunks[-1].append(data[at:behind])
             at = behind
     return chunks
@@ -275,14 +286,14 @@ def other_part(pick, data):
 
 def calls_of_any(pick, library):
     """The calls for one more stream of any kind: those that write, and those that read it once it is damaged."""
-    width, mode, k = some_setting(pick)
+    width, mode, k, size = some_setting(pick)
     values = some_values(pick, width, k)
-    asked = (mode, k) if pick.random() < 0.95 else other_setting(pick, width)
+    asked = (mode, k, size) if pick.random() < 0.92 else other_setting(pick, width, mode, k)
     setting = width, some_level(pick), *asked, values
     room = reader.length(*setting)[1] + pick.choice([0, 0, 0, -1, 5])
     calls = [("pack", *setting, max(room, 0)), ("length", *setting),
              ("bound", pick.choice([32, 64, 64, 16]), pick.choice([pick.randrange(2**63), pick.randrange(2**64), pick.randrange(2**54), 1, 0]))]
-    data = damaged(pick, library.pack(width, LEVEL, mode, k, values, 2**14)[2])
+    data = damaged(pick, library.pack(width, LEVEL, mode, k, size, values, 2**14)[2])
     acting, n = some_level(pick), len(values)
     other = width if pick.random() < 0.95 else 96 - width
     calls += [("check", acting, data), ("unpack", other, acting, data, max(n + pick.choice([0, 0, 0, 1, -1]), 0))]
@@ -292,10 +303,10 @@ def calls_of_any(pick, library):
 
 def calls_of_chunks(pick, library):
     """The calls for one more stream of up to three chunks: the one that writes it, and those that read it once it is damaged within them."""
-    width, mode, k = some_setting(pick)
-    n = pick.choice([1024, 1025, 2048, pick.randrange(1, 1024), pick.randrange(1, 3072), 32 * pick.randrange(1, 96)])
+    width, mode, k, size = some_setting(pick)
+    n = pick.choice([1024, 1025, 2048, pick.randrange(1, 1024), pick.randrange(1, 3072), size * pick.randrange(1, 3072 // size)])
     values = list(itertools.islice(itertools.cycle(some_values(pick, width, k) or [0]), n))
-    packing = ("pack", width, LEVEL, mode, k, values, 2**15)
+    packing = ("pack", width, LEVEL, mode, k, size, values, 2**15)
     data = damaged_within(pick, width, library.pack(*packing[1:])[2])
     if pick.random() < 0.2:
         data = with_sides(pick, data)
@@ -306,9 +317,9 @@ def calls_of_chunks(pick, library):
 def calls_of_sides(pick, library):
     """The calls for one more stream with side parts, which have high ids or not: its need, its tables and its chunks can be wrong, and
     the reader can be that of the other width, lack room or look behind the values."""
-    width, mode, k = some_setting(pick)
+    width, mode, k, size = some_setting(pick)
     values = some_values(pick, width, k)
-    data, n = library.pack(width, LEVEL, mode, k, values, 2**14)[2], len(values)
+    data, n = library.pack(width, LEVEL, mode, k, size, values, 2**14)[2], len(values)
     if pick.random() < 0.3:
         data = damaged_within(pick, width, data)
     data = with_sides(pick, data)
@@ -323,9 +334,9 @@ def calls_of_sides(pick, library):
 def calls_of_summaries(pick, library):
     """The calls for one more summary: added, at times to a stream that is damaged or has side parts already; and tested and listed from, true or
     false, at times in a stream that is damaged besides."""
-    width, mode, k = some_setting(pick)
+    width, mode, k, size = some_setting(pick)
     values = some_chunks(pick, width, k)
-    data = library.pack(width, LEVEL, mode, k, values, 2**15)[2]
+    data = library.pack(width, LEVEL, mode, k, size, values, 2**15)[2]
     bytes_needed = len(data) + 12 + reader.chunks_in(len(values)) * reader.entry_length(width)
     copy = library.add_summary(LEVEL, data, bytes_needed)[2]
     if pick.random() < 0.6:

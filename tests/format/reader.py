@@ -1,5 +1,5 @@
 """A reader and a writer of packed streams, written from FORMAT.md alone;
-what concerns summaries was added by the writer of that page.
+what concerns summaries and groups of 128 was added by the writers of that page.
 
 Whole numbers only, standard library only. Names in quotes are the page's own.
 No function raises on any level, bytes or index, and the work is bounded by
@@ -8,7 +8,7 @@ the bytes at hand and by the page's limits, never by what a header claims.
 
 from collections import namedtuple
 
-LEVELS = (8, 9, 10, 11, 12)                   # "knownLevel"
+LEVELS = (8, 9, 10, 11, 12, 13)               # "knownLevel"
 WIDTHS = (32, 64)                             # "knownWidth"
 FRACTION_BITS = {32: 23, 64: 52}              # "fractionBits": m
 BIN_OFFSET = {32: 150, 64: 1075}              # "binOf": j = k + this
@@ -18,14 +18,15 @@ MOST_PARTS = 64
 HIGH_ID = 1 << 31                             # "highId": from here up a part must be understood
 HIGH_ID_NEED = 12                             # what a high id needs
 CHUNK = 1024                                  # values in a chunk
-GROUP = 32                                    # codes in a group
-GROUPS = 32                                   # groups in a full chunk
+SIZES = (32, 128)                             # "knownSize": codes in a group
+LARGE_NUMBER = 256                            # added to the mode number in groups of 128
+DETAIL_GROUPS = 32                            # what a chunk counts in the detail of 10, at both sizes
 HEADER_BYTES = 48
 ENTRY_BYTES = 12                              # one entry of the side table
 SIDES_AT = 40                                 # the place of s
 SUMMARY_ID = 1                                # "summaryId"
 
-# The twelve numbers of the header, in order.
+# The twelve numbers of the header, in order; `mode` is the mode number.
 Header = namedtuple("Header", "major written needed width mode k n c table_at data_at s end")
 
 
@@ -156,9 +157,19 @@ def restored(width, mode, k, codes):
     return running_sums(width, codes)
 
 
-def allowed_setting(width, mode, k):
+def mode_number(mode, size):
+    """The mode number of the header ("modeNumber")."""
+    return mode + LARGE_NUMBER if size == 128 else mode
+
+
+def said(number):
+    """The mode and the group size that a mode number says ("saidMode", "saidSize")."""
+    return (number, 32) if number < LARGE_NUMBER else (number - LARGE_NUMBER, 128)
+
+
+def allowed_setting(width, mode, k, size):
     """"allowedSetting", with the width's own rule."""
-    if width not in WIDTHS:
+    if width not in WIDTHS or size not in SIZES:
         return False
     if mode in (0, 2):
         return k == 0
@@ -166,8 +177,11 @@ def allowed_setting(width, mode, k):
     return mode == 1 and low <= k <= high
 
 
-def need(width, mode):
-    """That of width and mode: 11 in mode 2, else 10 at width 64, else 9 in mode 1, else 8 ("need")."""
+def need(width, mode, size):
+    """That of width, mode and group size: 13 in groups of 128, else 11 in mode 2, else 10 at width 64,
+    else 9 in mode 1, else 8 ("need")."""
+    if size == 128:
+        return 13
     if mode == 2:
         return 11
     if width == 64:
@@ -193,16 +207,17 @@ def header_of(data):
 
 
 def need_right(h):
-    """Needed not below the need of width and mode, written not below needed ("needRight").
+    """Needed not below the need of width, mode and group size, written not below needed ("needRight").
 
     Whether needed is above the need of the stream is not asked here: the ids are not known yet.
     """
-    return need(h.width, h.mode) <= h.needed <= h.written
+    return need(h.width, *said(h.mode)) <= h.needed <= h.written
 
 
 def setting_right(h):
-    """Refusal 8 at its first place, first half: width, mode, k, needed and written."""
-    return allowed_setting(h.width, h.mode, h.k) and need_right(h)
+    """Refusal 8 at its first place, first half: width, mode number, k, needed and written."""
+    mode, size = said(h.mode)
+    return allowed_setting(h.width, mode, h.k, size) and need_right(h)
 
 
 def layout_right(h, count):
@@ -274,8 +289,8 @@ def high_ids(h, data):
 
 
 def stream_need(h, high):
-    """The need of the stream: that of width and mode, with a high id 12 at least ("streamNeed")."""
-    return max(need(h.width, h.mode), HIGH_ID_NEED if high else 0)
+    """The need of the stream: that of width, mode and group size, with a high id 12 at least ("streamNeed")."""
+    return max(need(h.width, *said(h.mode)), HIGH_ID_NEED if high else 0)
 
 
 def sides_refusal(h, data):
@@ -318,7 +333,7 @@ def group_codes(h, chunk, at, g):
         return None
     if bits >> (w * g) != 0:                                 # 4
         return None
-    if h.mode == 1 and largest // 2 > largest_u(h.width, h.k):   # 5
+    if said(h.mode)[0] == 1 and largest // 2 > largest_u(h.width, h.k):   # 5
         return None
     return codes, behind
 
@@ -328,15 +343,15 @@ def groups_codes(h, chunk, count):
 
     Where bytes are left over behind the last group, that one is bad ("firstFault").
     """
-    codes, at = [], 0
-    for first in range(0, count, GROUP):
-        group = group_codes(h, chunk, at, min(GROUP, count - first))
+    codes, at, size = [], 0, said(h.mode)[1]
+    for first in range(0, count, size):
+        group = group_codes(h, chunk, at, min(size, count - first))
         if group is None:
-            return first // GROUP, None
+            return first // size, None
         codes += group[0]
         at = group[1]
     if at < len(chunk):
-        return (count - 1) // GROUP, None
+        return (count - 1) // size, None
     return None, codes
 
 
@@ -348,7 +363,7 @@ def chunk_codes(h, data, i):
     chunk = data[h.data_at + start_at(h, data, i):h.data_at + start_at(h, data, i + 1)]
     bad, codes = groups_codes(h, chunk, min(CHUNK, h.n - CHUNK * i))
     if bad is not None:
-        return (10, GROUPS * i + bad), None
+        return (10, DETAIL_GROUPS * i + bad), None
     return None, codes
 
 
@@ -395,7 +410,7 @@ def unpack(width, level, data, room):
         refusal, chunks = all_codes(h, data)
     if refusal is not None:
         return refusal + (None,)
-    return 0, h.n, [p for codes in chunks for p in restored(width, h.mode, h.k, codes)]
+    return 0, h.n, [p for codes in chunks for p in restored(width, said(h.mode)[0], h.k, codes)]
 
 
 def kind_of(width, p):
@@ -423,7 +438,7 @@ def probe(width, level, data, index):
         refusal, codes = chunk_codes(h, data, index // CHUNK)
     if refusal is not None:
         return refusal + (None,)
-    p = restored(width, h.mode, h.k, codes[:index % CHUNK + 1])[-1]
+    p = restored(width, said(h.mode)[0], h.k, codes[:index % CHUNK + 1])[-1]
     return 0, kind_of(width, p), p
 
 
@@ -457,7 +472,8 @@ def summary_entry(width, values):
 
 def summary(h, chunks):
     """The true summary, of the codes of each chunk ("summary")."""
-    return b"".join(summary_entry(h.width, restored(h.width, h.mode, h.k, codes)) for codes in chunks)
+    mode = said(h.mode)[0]
+    return b"".join(summary_entry(h.width, restored(h.width, mode, h.k, codes)) for codes in chunks)
 
 
 def side_part(h, data, wanted):
@@ -547,13 +563,13 @@ def group_bytes(codes):
     return bytes([w]) + bits.to_bytes((w * len(codes) + 7) // 8, "little")
 
 
-def chunk_bytes(codes):
-    return b"".join(group_bytes(codes[i:i + GROUP]) for i in range(0, len(codes), GROUP))
+def chunk_bytes(size, codes):
+    return b"".join(group_bytes(codes[i:i + size]) for i in range(0, len(codes), size))
 
 
-def stream(width, level, mode, k, values):
+def stream(width, level, mode, k, size, values):
     """The only stream of a level, an allowed setting and the values ("stream")."""
-    chunks = [chunk_bytes(codes_of(width, mode, k, values[i:i + CHUNK]))
+    chunks = [chunk_bytes(size, codes_of(width, mode, k, values[i:i + CHUNK]))
               for i in range(0, len(values), CHUNK)]
     starts, total = [], 0
     for chunk in chunks:
@@ -561,40 +577,40 @@ def stream(width, level, mode, k, values):
         total += len(chunk)
     c = len(chunks)
     data_at = HEADER_BYTES + 4 * c
-    numbers = Header(major=1, written=level, needed=need(width, mode), width=width, mode=mode,
-                     k=k, n=len(values), c=c, table_at=HEADER_BYTES, data_at=data_at, s=0,
-                     end=data_at + total)
+    numbers = Header(major=1, written=level, needed=need(width, mode, size), width=width,
+                     mode=mode_number(mode, size), k=k, n=len(values), c=c, table_at=HEADER_BYTES,
+                     data_at=data_at, s=0, end=data_at + total)
     return b"".join(map(spell, numbers)) + b"".join(map(spell, starts)) + b"".join(chunks)
 
 
-def writer_refusal(width, level, mode, k, values):
+def writer_refusal(width, level, mode, k, size, values):
     """Tests 1 2 3 of pack and length."""
     if level not in LEVELS:
         return (1, 0)
-    if not allowed_setting(width, mode, k) or need(width, mode) > level:
+    if not allowed_setting(width, mode, k, size) or need(width, mode, size) > level:
         return (2, 0)
     if len(values) > MOST_VALUES:
         return (3, 0)
     return None
 
 
-def pack(width, level, mode, k, values, room):
+def pack(width, level, mode, k, size, values, room):
     """Order 1 2 3 4. Gives (0, bytes written, bytes), or (number, detail, None)."""
-    refusal = writer_refusal(width, level, mode, k, values)
+    refusal = writer_refusal(width, level, mode, k, size, values)
     if refusal is not None:
         return refusal + (None,)
-    data = stream(width, level, mode, k, values)
+    data = stream(width, level, mode, k, size, values)
     if room < len(data):
         return 4, len(data), None
     return 0, len(data), data
 
 
-def length(width, level, mode, k, values):
+def length(width, level, mode, k, size, values):
     """Order 1 2 3. Gives (0, the bytes that pack would write), or the refusal."""
-    refusal = writer_refusal(width, level, mode, k, values)
+    refusal = writer_refusal(width, level, mode, k, size, values)
     if refusal is not None:
         return refusal
-    return 0, len(stream(width, level, mode, k, values))
+    return 0, len(stream(width, level, mode, k, size, values))
 
 
 def bound(width, t):

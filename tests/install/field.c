@@ -1,10 +1,13 @@
-/* A small field through the installed library, by C and by C++: packed, read back, cut, summed up, and the helpers. Prints what it saw; status 0 is all well. */
+/*
+ * A small field through the installed library, by C and by C++: packed at both sizes of groups, read back, cut, summed up, and the helpers. Prints what it saw;
+ * status 0 is all well.
+ */
 #include <gwizdorad.h>
 
 #include <stdio.h>
 #include <string.h>
 
-enum { CELLS = 6, LONGEST = GWZ_LONGEST_STREAM(32, CELLS), ADDED = GWZ_SUMMARY_BYTES(32, CELLS) };
+enum { CELLS = 6, LONGEST = GWZ_LONGEST_STREAM(32, GWZ_GROUPS_OF_32, CELLS), ADDED = GWZ_SUMMARY_BYTES(32, CELLS) };
 
 static int failures = 0;
 
@@ -26,7 +29,7 @@ int main(void)
     const double tolerance = 0.005;
     size_t length;
 
-    result = gwz_pack32(GWZ_HIGHEST_LEVEL, GWZ_LOSSLESS, 0, cells, CELLS, stream, LONGEST);
+    result = gwz_pack32(GWZ_HIGHEST_LEVEL, GWZ_LOSSLESS, 0, GWZ_GROUPS_OF_32, cells, CELLS, stream, LONGEST);
     expect("packed", gwz_refusal(result) == GWZ_DONE);
     length = gwz_answer(result);
     expect("unpacked", gwz_unpack32(GWZ_HIGHEST_LEVEL, stream, length, back, CELLS) == CELLS);
@@ -39,7 +42,11 @@ int main(void)
     expect("a chunk from 1.5 on", gwz_chunks_from32(GWZ_HIGHEST_LEVEL, cells[2], copy, length + ADDED, &chunk, 1) == 1 && chunk == 0);
     memcpy(&pattern, &tolerance, sizeof pattern);
     expect("the exponent of 0.005 is -8", gwz_exponent(gwz_bound(32, pattern)) == -8);
-    expect("the longest stream", gwz_longest_stream(32, CELLS) == LONGEST);
+    result = gwz_pack32(GWZ_HIGHEST_LEVEL, GWZ_LOSSLESS, 0, GWZ_GROUPS_OF_128, cells, CELLS, stream, LONGEST);
+    expect("in groups of 128", gwz_refusal(result) == GWZ_DONE && stream[8] == GWZ_LEVEL_13 && stream[17] == 1);
+    expect("and unpacked", gwz_unpack32(GWZ_HIGHEST_LEVEL, stream, gwz_answer(result), back, CELLS) == CELLS);
+    expect("the same again", memcmp(cells, back, sizeof cells) == 0);
+    expect("the longest stream", gwz_longest_stream(32, GWZ_GROUPS_OF_32, CELLS) == LONGEST);
     expect("the bytes of a summary", gwz_summary_bytes(32, CELLS) == ADDED);
     expect("header and library have one version", strcmp(GWZ_VERSION, gwz_version()) == 0);
     expect("and one format", GWZ_FORMAT_MAJOR == gwz_format_major() && GWZ_HIGHEST_LEVEL == gwz_highest_level());

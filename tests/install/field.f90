@@ -3,9 +3,9 @@ module gwizdorad
     use, intrinsic :: iso_c_binding
     implicit none
     interface
-        function gwz_pack32(level, mode, k, values, n, out, room) bind(c) result(r)
+        function gwz_pack32(level, mode, k, group, values, n, out, room) bind(c) result(r)
             import
-            integer(c_int32_t), value :: level, mode, k
+            integer(c_int32_t), value :: level, mode, k, group
             integer(c_size_t), value :: n, room
             integer(c_int32_t), intent(in) :: values(n)
             integer(c_int8_t), intent(inout) :: out(room)
@@ -70,9 +70,9 @@ module gwizdorad
             integer(c_int64_t), value :: answer
             integer(c_int32_t) :: r
         end function
-        function gwz_longest_stream(width, n) bind(c) result(r)
+        function gwz_longest_stream(width, group, n) bind(c) result(r)
             import
-            integer(c_int32_t), value :: width
+            integer(c_int32_t), value :: width, group
             integer(c_size_t), value :: n
             integer(c_size_t) :: r
         end function
@@ -119,6 +119,7 @@ program field
     use gwizdorad
     implicit none
     integer, parameter :: cells = 5
+    integer(c_int32_t), parameter :: lossless = 0, no_k = 0, groups_of_32 = 32, groups_of_128 = 128
     real(c_float) :: levels(cells) = [1.8125, 1.8203, -0.0, 0.0, 1.8295]
     integer(c_int32_t) :: patterns(cells), back(cells), level, chunks(1) = 9
     integer(c_int8_t), allocatable :: stream(:), copy(:)
@@ -128,8 +129,8 @@ program field
 
     level = gwz_highest_level()
     patterns = transfer(levels, patterns)
-    allocate (stream(gwz_longest_stream(32_c_int32_t, int(cells, c_size_t))))
-    answer = gwz_pack32(level, 0_c_int32_t, 0_c_int32_t, patterns, int(cells, c_size_t), stream, size(stream, kind=c_size_t))
+    allocate (stream(gwz_longest_stream(32_c_int32_t, groups_of_32, int(cells, c_size_t))))
+    answer = gwz_pack32(level, lossless, no_k, groups_of_32, patterns, int(cells, c_size_t), stream, size(stream, kind=c_size_t))
     call expect('packed', gwz_refusal(answer) == 0)
     length = gwz_answer(answer)
     answer = gwz_unpack32(level, stream, length, back, int(cells, c_size_t))
@@ -145,6 +146,11 @@ program field
     call expect('and tested', answer == cells)
     answer = gwz_chunks_from32(level, transfer(1.8203, level), copy, size(copy, kind=c_size_t), chunks, 1_c_size_t)
     call expect('a chunk from 1.8203 on', answer == 1 .and. chunks(1) == 0)
+    answer = gwz_pack32(level, lossless, no_k, groups_of_128, patterns, int(cells, c_size_t), stream, size(stream, kind=c_size_t))
+    call expect('in groups of 128', answer == length .and. stream(18) == 1)
+    back = 9
+    answer = gwz_unpack32(level, stream, length, back, int(cells, c_size_t))
+    call expect('and unpacked', answer == cells .and. all(patterns == back))
     answer = gwz_bound(32_c_int32_t, transfer(0.005_c_double, answer))
     call expect('the exponent of 0.005 is -8', gwz_exponent(answer) == -8)
     print '(i0, a, i0, a, a)', cells, ' cells in ', length, ' bytes and back, version ', text_of(gwz_version())

@@ -7,37 +7,37 @@
 use crate::faults::{planted, Fault};
 use second::numbers::{difference_code, difference_pattern, Tolerance, Width, WIDTH_64};
 
-/// The pattern a difference is taken from, told by the patterns before in the
-/// list, and their codes.
-type Before = fn(&[u64], &[u64]) -> u64;
+/// The pattern a difference is taken from, told by the group size, the patterns
+/// before in the list, and their codes.
+type Before = fn(usize, &[u64], &[u64]) -> u64;
 
 /// The code of a pattern, told by the one before it and itself.
 type Code = fn(Width, u64, u64) -> u64;
 
 /// Values whose right stream is the one a planted fault makes of these.
-pub fn as_packed(width: Width, patterns: &[u64]) -> Vec<u64> {
-    let mut codes = coded(width, patterns, packer_before(), packer_code);
+pub fn as_packed(width: Width, group: usize, patterns: &[u64]) -> Vec<u64> {
+    let mut codes = coded(width, group, patterns, (packer_before(), packer_code));
     if planted(Fault::second_fold) {
         codes.chunks_mut(1024).for_each(|chunk| fold_again(width, chunk));
     }
-    restored(width, &codes, before_in_chunk)
+    restored(width, group, &codes, before_in_chunk)
 }
 
 /// The values a planted fault reads where these are the right ones.
-pub fn as_read(width: Width, patterns: &[u64]) -> Vec<u64> {
-    let codes = coded(width, patterns, before_in_chunk, difference_code);
-    let mut read = restored(width, &codes, reader_before());
+pub fn as_read(width: Width, group: usize, patterns: &[u64]) -> Vec<u64> {
+    let codes = coded(width, group, patterns, (before_in_chunk, difference_code));
+    let mut read = restored(width, group, &codes, reader_before());
     if planted(Fault::empty_group_is_zeros) {
-        let groups = read.chunks_mut(32).zip(codes.chunks(32));
+        let groups = read.chunks_mut(group).zip(codes.chunks(group));
         groups.filter(|(_, codes)| is_empty(codes)).for_each(|(group, _)| group.fill(0));
     }
     read
 }
 
 /// The first value in mode 2 whose code a planted fault refuses.
-pub fn first_refused(width: Width, patterns: &[u64]) -> Option<usize> {
+pub fn first_refused(width: Width, group: usize, patterns: &[u64]) -> Option<usize> {
     let limit = Tolerance::allowed(width, 0)?.largest_magnitude_code();
-    let codes = coded(width, patterns, before_in_chunk, difference_code);
+    let codes = coded(width, group, patterns, (before_in_chunk, difference_code));
     codes.iter().position(|code| planted(Fault::largest_u_in_mode_2) && code / 2 > limit)
 }
 
@@ -53,18 +53,18 @@ pub fn need(width: Width) -> u32 {
 
 // ------------------------------------------------------ patterns and codes
 
-fn coded(width: Width, patterns: &[u64], before: Before, code: Code) -> Vec<u64> {
+fn coded(width: Width, group: usize, patterns: &[u64], (before, code): (Before, Code)) -> Vec<u64> {
     let mut codes = Vec::with_capacity(patterns.len());
     for (index, &pattern) in patterns.iter().enumerate() {
-        codes.push(code(width, before(&patterns[..index], &codes), pattern));
+        codes.push(code(width, before(group, &patterns[..index], &codes), pattern));
     }
     codes
 }
 
-fn restored(width: Width, codes: &[u64], before: Before) -> Vec<u64> {
+fn restored(width: Width, group: usize, codes: &[u64], before: Before) -> Vec<u64> {
     let mut patterns = Vec::with_capacity(codes.len());
     for (index, &code) in codes.iter().enumerate() {
-        patterns.push(difference_pattern(width, before(&patterns, &codes[..index]), code));
+        patterns.push(difference_pattern(width, before(group, &patterns, &codes[..index]), code));
     }
     patterns
 }
@@ -99,6 +99,8 @@ fn packer_before() -> Before {
         before_in_list
     } else if planted(Fault::restarted_at_group) {
         before_in_group
+    } else if planted(Fault::restarted_at_block) {
+        before_in_block
     } else {
         before_in_chunk
     }
@@ -112,33 +114,38 @@ fn reader_before() -> Before {
     }
 }
 
-fn before_in_list(patterns: &[u64], _: &[u64]) -> u64 {
+fn before_in_list(_: usize, patterns: &[u64], _: &[u64]) -> u64 {
     patterns.last().copied().unwrap_or(0)
 }
 
 /// The right rule.
-fn before_in_chunk(patterns: &[u64], codes: &[u64]) -> u64 {
-    restarting(1024, patterns, codes)
+fn before_in_chunk(_: usize, patterns: &[u64], _: &[u64]) -> u64 {
+    restarting(1024, patterns)
 }
 
-fn before_in_group(patterns: &[u64], codes: &[u64]) -> u64 {
-    restarting(32, patterns, codes)
+fn before_in_group(group: usize, patterns: &[u64], _: &[u64]) -> u64 {
+    restarting(group, patterns)
 }
 
-fn restarting(after: usize, patterns: &[u64], codes: &[u64]) -> u64 {
+/// A block is 32 values of a group of 128.
+fn before_in_block(group: usize, patterns: &[u64], _: &[u64]) -> u64 {
+    restarting(if group == 128 { 32 } else { 1024 }, patterns)
+}
+
+fn restarting(after: usize, patterns: &[u64]) -> u64 {
     if patterns.len().is_multiple_of(after) {
         0
     } else {
-        before_in_list(patterns, codes)
+        patterns.last().copied().unwrap_or(0)
     }
 }
 
-fn before_without_empty_group(patterns: &[u64], codes: &[u64]) -> u64 {
-    let at_group = codes.len().is_multiple_of(32);
-    if at_group && codes.rchunks(32).next().is_some_and(is_empty) {
+fn before_without_empty_group(group: usize, patterns: &[u64], codes: &[u64]) -> u64 {
+    let at_group = codes.len().is_multiple_of(group);
+    if at_group && codes.rchunks(group).next().is_some_and(is_empty) {
         0
     } else {
-        before_in_chunk(patterns, codes)
+        restarting(1024, patterns)
     }
 }
 

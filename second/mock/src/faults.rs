@@ -79,6 +79,78 @@ faults! {
     /// Any k is read in mode 2.
     any_k_read,
 
+    // Groups of 128.
+    /// Level 13 is not known.
+    level_13_unknown,
+    /// The 256 of the header's mode number is forgotten.
+    size_not_stated,
+    /// Groups of 128 are packed as groups of 32.
+    packed_by_32,
+    /// The width byte is that of the first block of 32 codes, to which all are cut.
+    width_of_first_block,
+    /// Each block of 32 codes has its own width byte.
+    width_byte_each_block,
+    /// A short group of 128 is filled up to whole blocks.
+    filled_to_block,
+    /// A short group of 128 is filled up to a whole one.
+    filled_to_group,
+    /// The last block of a group stands first.
+    last_block_first,
+    /// Length counts the width bytes of groups of 32.
+    length_by_32,
+    /// Groups of 128 need 12.
+    size_needs_12,
+    /// Groups of 128 are packed at level 12, too, and need 13.
+    size_packed_at_12,
+    /// Pack writes 13 as the need of the size at width 32 only.
+    size_needs_13_at_32,
+    /// Size 64 is taken for 128.
+    size_64_taken,
+    /// Size 0 is taken for 32.
+    size_0_taken,
+    /// Sizes are looked at by their lowest byte.
+    size_by_lowest_byte,
+    /// The modes 256 to 258 of a call are taken as those of a header.
+    mode_256_taken,
+    /// The size is tested after too many values.
+    order_3_before_size,
+    /// The mode number 259 is read as 258.
+    mode_259_read,
+    /// Any bit from 256 up means groups of 128.
+    mode_512_read,
+    /// The mode number is read by its lowest 16 bits.
+    mode_in_16_bits,
+    /// A need that is not that of the size is refused before the level is looked at.
+    order_8_before_7_at_128,
+    /// Refusal 10 is counted in eights: chunk·8 + group.
+    detail_in_eights,
+    /// Refusal 10 is counted in blocks: chunk·32 + 4·group.
+    detail_in_blocks,
+    /// The smallest width is looked for in the first block alone.
+    smallest_by_first_block,
+    /// The smallest width is looked for in the last block alone.
+    smallest_by_last_block,
+    /// u is compared with its largest in the first block alone.
+    limit_by_first_block,
+    /// The difference begins anew at each block, when packed and unpacked.
+    restarted_at_block,
+    /// The values of a short last block behind a whole one come back as zeros.
+    short_block_lost,
+    /// The second to fourth block are read as the first.
+    first_block_repeated,
+    /// Probe looks for its value in the first block of its group.
+    probe_in_first_block,
+    /// Probe finds its group by 32 values.
+    probe_by_32,
+    /// A high id needs 12 also where the size needs 13.
+    need_12_at_128,
+    /// The listing counts groups of 32.
+    listing_groups_by_32,
+    /// The listing prints the mode without 256.
+    listing_mode_without_256,
+    /// The listing checks at level 12.
+    listing_at_level_12,
+
     // The need, and ids that must be understood.
     /// Level 12 is not known.
     level_12_unknown,
@@ -234,9 +306,9 @@ faults! {
     order_4_before_3,
 
     // Reading.
-    /// Level 13 is known.
-    level_13_known,
-    /// A need of 10, 11 or 12 counts as its last digit.
+    /// Level 14 is known.
+    level_14_known,
+    /// A need of 10 to 13 counts as its last digit.
     minor_by_last_digit,
     /// A written minor above the highest level is refused 8.
     written_limited,

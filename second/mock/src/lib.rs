@@ -9,9 +9,11 @@ mod naming;
 mod needs;
 mod packing;
 mod reading;
+mod sizes;
 mod summaries;
 
 use faults::{planted, Fault};
+use packing::Asked;
 use second::numbers::{Tolerance, Width, WIDTH_32, WIDTH_64};
 use second::{stream, Refusal};
 use std::slice::{from_raw_parts, from_raw_parts_mut};
@@ -92,13 +94,14 @@ macro_rules! operations {
             level: u32,
             mode: u32,
             k: i32,
+            group: u32,
             values: *const $word,
             n: usize,
             out: *mut u8,
             room: usize,
         ) -> u64 {
-            let values = from_raw_parts(values, n);
-            let answer = packing::pack(level, mode, k, values, from_raw_parts_mut(out, room));
+            let (values, lent) = (from_raw_parts(values, n), from_raw_parts_mut(out, room));
+            let answer = packing::pack(Asked { level, mode, k, group }, values, lent);
             if planted(Fault::past_room_written) {
                 *out.add(room) = 0;
             }
@@ -112,10 +115,12 @@ macro_rules! operations {
             level: u32,
             mode: u32,
             k: i32,
+            group: u32,
             values: *const $word,
             n: usize,
         ) -> u64 {
-            packed_number(packing::length(level, mode, k, from_raw_parts(values, n)))
+            let asked = Asked { level, mode, k, group };
+            packed_number(packing::length(asked, from_raw_parts(values, n)))
         }
 
         /// # Safety

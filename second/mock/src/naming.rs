@@ -2,6 +2,7 @@
 
 use crate::faults::{planted, Fault};
 use crate::reading::{count, number, put, stretch};
+use crate::sizes;
 use second::stream::{check, HIGHEST_LEVEL};
 
 /// The detail a planted fault gives in place of the right one.
@@ -16,7 +17,7 @@ pub fn named(stream: &[u8], detail: usize) -> usize {
     if planted(Fault::group_dropped) {
         return 32 * chunk;
     }
-    32 * chunk + Walk::through(stream, chunk).named(detail % 32)
+    sizes::detail(stream, chunk, Walk::through(stream, chunk).named(detail % 32))
 }
 
 /// What is found in a chunk by going on after a bad group, as long as it is
@@ -40,11 +41,12 @@ impl Walk {
     fn through(stream: &[u8], chunk: usize) -> Walk {
         let values = (count(stream) as usize - 1024 * chunk).min(1024);
         let bytes = &stream[stretch(stream, chunk, number(stream, 7) as usize)];
+        let size = sizes::group(stream);
         let mut walk =
-            Walk { groups: values.div_ceil(32), bad: Vec::new(), ended: End::WithLastGroup };
+            Walk { groups: values.div_ceil(size), bad: Vec::new(), ended: End::WithLastGroup };
         let mut at = 0;
         for group in 0..walk.groups {
-            let count = (values - 32 * group).min(32);
+            let count = (values - size * group).min(size);
             let Some(&w) = bytes.get(at) else {
                 return walk.ending(group, End::BeforeWidthByte);
             };

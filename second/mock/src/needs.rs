@@ -3,6 +3,7 @@
 
 use crate::faults::{planted, Fault};
 use crate::reading::{number, put};
+use crate::sizes::{group, mode};
 use second::stream::{check, pack, HIGHEST_LEVEL};
 use second::Refusal;
 
@@ -13,7 +14,8 @@ const NEED_OF_HIGH_ID: u32 = 12;
 pub fn faced_level(level: u32) -> u32 {
     match level {
         12 if planted(Fault::level_12_unknown) => HIGHEST_LEVEL + 1,
-        13 if planted(Fault::level_13_known) => HIGHEST_LEVEL,
+        13 if planted(Fault::level_13_unknown) => HIGHEST_LEVEL + 1,
+        14 if planted(Fault::level_14_known) => HIGHEST_LEVEL,
         _ => level,
     }
 }
@@ -45,7 +47,7 @@ impl Need {
         if self.high_ids.is_empty() {
             self.of_setting
         } else {
-            NEED_OF_HIGH_ID
+            self.of_setting.max(NEED_OF_HIGH_ID)
         }
     }
 
@@ -61,13 +63,13 @@ impl Need {
     }
 }
 
-/// What width, mode and k need, if they are allowed: a list of no values tells.
+/// What the setting needs, if it is allowed: a list of no values tells.
 fn need_of_setting(stream: &[u8]) -> Option<u32> {
-    let (mode, k) = (number(stream, 4), number(stream, 5) as i32);
+    let (mode, k, group) = (mode(stream), number(stream, 5) as i32, group(stream) as u32);
     let mut header = [0; 48];
     match number(stream, 3) {
-        32 => pack::<u32>(HIGHEST_LEVEL, mode, k, &[], &mut header).ok()?,
-        64 => pack::<u64>(HIGHEST_LEVEL, mode, k, &[], &mut header).ok()?,
+        32 => pack::<u32>(HIGHEST_LEVEL, mode, k, group, &[], &mut header).ok()?,
+        64 => pack::<u64>(HIGHEST_LEVEL, mode, k, group, &[], &mut header).ok()?,
         _ => return None,
     };
     Some(number(&header, 2))
@@ -161,6 +163,7 @@ pub fn changed(level: u32, stream: &[u8], refusal: Refusal) -> Refusal {
         8 if planted(Fault::small_need_is_15) => first,
         15 if planted(Fault::last_high_id_told) => refused_id(need.high_ids.last()),
         15 if planted(Fault::detail_of_15) => Some(Refusal::bare(15)),
+        15 if planted(Fault::need_12_at_128) && group(stream) == 128 => Some(Refusal::bare(8)),
         15 if planted(Fault::order_10_before_15) => {
             let of_chunk = check(level, &without_high_ids(stream, &need)).err();
             of_chunk.filter(|refusal| refusal.number == 10)

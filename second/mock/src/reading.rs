@@ -4,6 +4,7 @@
 //! first; one that refuses otherwise, by changing the refusal afterwards.
 
 use crate::faults::{planted, Fault};
+use crate::sizes::{self, group, mode};
 use crate::{codes, differences, naming, needs, Word};
 use second::numbers::{self, bit_length, Tolerance, Width};
 use second::stream::{self, Probed, HIGHEST_LEVEL};
@@ -50,6 +51,7 @@ pub fn unpack<P: Word>(level: u32, stream: &[u8], out: &mut [P]) -> Answer {
     let mut values = out.to_vec();
     let answer = stream::unpack(level, &mended, &mut values).and_then(|n| {
         codes_allowed(&mended, &values[..n as usize])?;
+        sizes::groups_allowed(&mended, 0..number(&mended, 7) as usize)?;
         Ok(n)
     });
     match answer {
@@ -79,12 +81,15 @@ pub fn probe<P: Word>(level: u32, stream: &[u8], index: u64) -> Result<(u64, u64
     let (level, mended) = faced(level, stream);
     let mended = needs::faced_by_probe(level, mended);
     let index = if planted(Fault::index_in_32_bits) { index as u32 as u64 } else { index };
+    let index = sizes::faced_index(&mended, index);
     let answer = pattern_at::<P>(level, &mended, index).and_then(|pattern| {
-        let pattern = match number(&mended, 4) {
+        let chunk = index as usize / 1024;
+        sizes::groups_allowed(&mended, chunk..chunk + 1)?;
+        let pattern = match mode(&mended) {
             2 => probed_difference::<P>(level, &mended, index, pattern)?,
             _ => {
                 let allowed = codes_allowed(&mended, &[P::of_number(pattern)]);
-                allowed.map_err(|_| Refusal::with_detail(10, index / 32))?;
+                allowed.map_err(|_| named_group(&mended, index))?;
                 restored(&mended, pattern)
             }
         };
@@ -95,9 +100,7 @@ pub fn probe<P: Word>(level: u32, stream: &[u8], index: u64) -> Result<(u64, u64
     }
     let beyond = index >= count(stream);
     match answer.map_err(|refusal| refusal.number) {
-        Err(10) if planted(Fault::probe_names_own_group) => {
-            Err(Refusal::with_detail(10, index / 32))
-        }
+        Err(10) if planted(Fault::probe_names_own_group) => Err(named_group(stream, index)),
         Err(14) if planted(Fault::order_11_before_14) && beyond => Err(Refusal::bare(11)),
         Err(11) if planted(Fault::order_9_before_11) && refused_tables(level, stream) => {
             Err(Refusal::bare(9))
@@ -107,6 +110,11 @@ pub fn probe<P: Word>(level: u32, stream: &[u8], index: u64) -> Result<(u64, u64
             refused => changed(level, stream, refused).and(answer),
         },
     }
+}
+
+/// Refusal 10 for the group of a value.
+fn named_group(stream: &[u8], index: u64) -> Refusal {
+    Refusal::with_detail(10, index / 1024 * 32 + index % 1024 / group(stream) as u64)
 }
 
 /// The pattern of a value, or the refusal.
@@ -125,7 +133,8 @@ fn probed_difference<P: Word>(
     index: u64,
     pattern: u64,
 ) -> Result<u64, Refusal> {
-    let (group, chunk) = (index / 32 * 32, index / 1024 * 1024);
+    let size = group(stream) as u64;
+    let (group, chunk) = (index / size * size, index / 1024 * 1024);
     let faulty = if planted(Fault::probe_from_group_start) && group > chunk {
         pattern.wrapping_sub(pattern_at::<P>(level, stream, group - 1)?)
     } else if planted(Fault::probe_from_chunk_before) && chunk > 0 {
@@ -187,9 +196,10 @@ fn equal_starts(stream: &[u8]) -> Option<u64> {
 
 fn touch_values<P: Word>(stream: &[u8], out: &mut [P], n: usize) {
     let mut patterns: Vec<u64> = numbers_of(&out[..n]);
-    if number(stream, 4) == 2 {
-        patterns = differences::as_read(P::WIDTH, &patterns);
+    if mode(stream) == 2 {
+        patterns = differences::as_read(P::WIDTH, group(stream), &patterns);
     }
+    sizes::touch_patterns(stream, &mut patterns);
     for (value, pattern) in out.iter_mut().zip(patterns) {
         *value = P::of_number(restored(stream, pattern));
     }
@@ -203,7 +213,7 @@ fn touch_values<P: Word>(stream: &[u8], out: &mut [P], n: usize) {
 
 /// What a planted fault makes of a value restored from a stream.
 fn restored(stream: &[u8], pattern: u64) -> u64 {
-    match (Width::numbered(number(stream, 3)), number(stream, 4)) {
+    match (Width::numbered(number(stream, 3)), mode(stream)) {
         (Some(width), 0) => codes::lossless_restored(width, numbers::lossless_code(width, pattern)),
         (Some(width), 1) => codes::restored_pattern(width, pattern),
         _ => pattern,
@@ -236,13 +246,13 @@ fn quiet(width: Width, pattern: u64) -> u64 {
 
 /// Refusal 10 for the first group with a code that a planted fault refuses.
 fn codes_allowed<P: Word>(stream: &[u8], values: &[P]) -> Result<(), Refusal> {
-    let refused = match number(stream, 4) {
+    let refused = match mode(stream) {
         1 => first_refused(number(stream, 5) as i32, values),
-        2 => differences::first_refused(P::WIDTH, &numbers_of(values)),
+        2 => differences::first_refused(P::WIDTH, group(stream), &numbers_of(values)),
         _ => None,
     };
     match refused {
-        Some(index) => Err(Refusal::with_detail(10, index as u64 / 32)),
+        Some(index) => Err(named_group(stream, index as u64)),
         None => Ok(()),
     }
 }
@@ -259,6 +269,7 @@ fn checked<P: Word>(level: u32, stream: &[u8]) -> Answer {
     let mut values = vec![P::default(); n as usize];
     stream::unpack(level, stream, &mut values)?;
     codes_allowed(stream, &values)?;
+    sizes::groups_allowed(stream, 0..number(stream, 7) as usize)?;
     Ok(n)
 }
 
@@ -267,6 +278,7 @@ fn checked<P: Word>(level: u32, stream: &[u8]) -> Answer {
 /// Level and stream as a planted fault sees them.
 fn faced(level: u32, stream: &[u8]) -> (u32, Vec<u8>) {
     let (level, stream) = faced_header(faced_level(level, number(stream, 2)), stream);
+    let (level, stream) = sizes::faced_header(level, stream);
     let (level, stream) = needs::faced(level, stream);
     let mended = match stream::check(level, &stream).map_err(|refusal| refusal.number) {
         Err(9) => without_sides(&stream),
@@ -292,7 +304,7 @@ fn is_known(level: u32) -> bool {
 /// Level and stream such that a mode 2 of another need, or of any k, is read.
 fn faced_header(level: u32, stream: &[u8]) -> (u32, Vec<u8>) {
     let mut stream = stream.to_vec();
-    let in_mode_2 = stream.len() >= 48 && number(&stream, 4) == 2;
+    let in_mode_2 = stream.len() >= 48 && number(&stream, 4) == 2; // with groups of 32
     let Some(width) = Width::numbered(number(&stream, 3)).filter(|_| in_mode_2) else {
         return (level, stream);
     };
@@ -345,7 +357,12 @@ fn without_sides(stream: &[u8]) -> Option<Vec<u8>> {
 
 /// The stream with its chunks written again as a planted fault reads them.
 fn rebuilt(stream: &[u8]) -> Option<Vec<u8>> {
-    let faults = [Fault::padding_ignored, Fault::smallest_width_ignored, Fault::leftover_ignored];
+    let faults = [
+        Fault::padding_ignored,
+        Fault::smallest_width_ignored,
+        Fault::leftover_ignored,
+        Fault::limit_by_first_block,
+    ];
     if !faults.into_iter().any(planted) {
         return None;
     }
@@ -357,7 +374,7 @@ fn rebuilt(stream: &[u8]) -> Option<Vec<u8>> {
         let values = (n - 1024 * chunk).min(1024);
         let bytes = &stream[stretch(stream, chunk, c)];
         put(&mut front, 12 + chunk, data.len() as u32);
-        data.extend(chunk_again(bytes, values, number(stream, 3)));
+        data.extend(chunk_again(stream, bytes, values));
     }
     let moved = (place + data.len()) as u32;
     if moved as usize != end && number(stream, 10) != 0 {
@@ -378,11 +395,12 @@ pub fn stretch(stream: &[u8], chunk: usize, c: usize) -> Range<usize> {
 
 /// A chunk's bytes with each group written again; from the first group that
 /// cannot be read on, as they stand.
-fn chunk_again(mut bytes: &[u8], values: usize, width: u32) -> Vec<u8> {
+fn chunk_again(stream: &[u8], mut bytes: &[u8], values: usize) -> Vec<u8> {
     let mut again = Vec::new();
-    for from in (0..values).step_by(32) {
-        let count = (values - from).min(32);
-        let Some((group, rest)) = group_again(bytes, count, width) else {
+    let size = group(stream);
+    for from in (0..values).step_by(size) {
+        let count = (values - from).min(size);
+        let Some((group, rest)) = group_again(stream, bytes, count) else {
             break;
         };
         again.extend(group);
@@ -394,24 +412,33 @@ fn chunk_again(mut bytes: &[u8], values: usize, width: u32) -> Vec<u8> {
     again
 }
 
-fn group_again(bytes: &[u8], count: usize, width: u32) -> Option<(Vec<u8>, &[u8])> {
+fn group_again<'a>(stream: &[u8], bytes: &'a [u8], count: usize) -> Option<(Vec<u8>, &'a [u8])> {
+    let (mut codes, rest) = codes_of_group(bytes, count, number(stream, 3))?;
+    let (w, length) = (bytes[0] as usize, bytes.len() - rest.len());
+    let refused_above = sizes::without_limit(stream, &mut codes);
+    let smallest = bit_length(codes.iter().copied().max()?) as usize;
+    let any_width = planted(Fault::smallest_width_ignored) || refused_above;
+    let w_again = if any_width { smallest } else { w };
+    let mut again = written(&codes, w_again);
+    if !planted(Fault::padding_ignored) && w_again == w && !refused_above {
+        again = bytes[..length].to_vec();
+    }
+    Some((again, rest))
+}
+
+/// The codes of the group that begins the bytes, and the bytes after it; nothing if
+/// it is too wide or cut.
+pub fn codes_of_group(bytes: &[u8], count: usize, width: u32) -> Option<(Vec<u64>, &[u8])> {
     let (&w, rest) = bytes.split_first()?;
     let length = (count * w as usize).div_ceil(8);
     let packed = rest.get(..length).filter(|_| w as u32 <= width)?;
     let bit = |place: usize| (packed[place / 8] >> (place % 8) & 1) as u64;
     let w = w as usize;
     let code = |index: usize| (0..w).map(|b| bit(index * w + b) << b).sum::<u64>();
-    let codes: Vec<u64> = (0..count).map(code).collect();
-    let smallest = bit_length(codes.iter().copied().max()?) as usize;
-    let w_again = if planted(Fault::smallest_width_ignored) { smallest } else { w };
-    let mut again = written(&codes, w_again);
-    if !planted(Fault::padding_ignored) && w_again == w {
-        again = bytes[..1 + length].to_vec();
-    }
-    Some((again, &rest[length..]))
+    Some(((0..count).map(code).collect(), &rest[length..]))
 }
 
-fn written(codes: &[u64], w: usize) -> Vec<u8> {
+pub fn written(codes: &[u64], w: usize) -> Vec<u8> {
     let mut bytes = vec![0; 1 + (codes.len() * w).div_ceil(8)];
     bytes[0] = w as u8;
     for (index, code) in codes.iter().enumerate() {

@@ -19,10 +19,18 @@ pub const K: i32 = -10;
 pub struct Setting {
     pub mode: u32,
     pub k: i32,
+    pub group: u32,
 }
 
-pub const SETTINGS: [Setting; 3] =
-    [Setting { mode: 0, k: 0 }, Setting { mode: 1, k: K }, Setting { mode: 2, k: 0 }];
+/// Every mode with groups of 32, and then with groups of 128.
+pub const SETTINGS: [Setting; 6] = [
+    Setting { mode: 0, k: 0, group: 32 },
+    Setting { mode: 1, k: K, group: 32 },
+    Setting { mode: 2, k: 0, group: 32 },
+    Setting { mode: 0, k: 0, group: 128 },
+    Setting { mode: 1, k: K, group: 128 },
+    Setting { mode: 2, k: 0, group: 128 },
+];
 
 pub struct Codec<P> {
     pub who: Who,
@@ -45,9 +53,9 @@ pub fn codec_of<L: Operations<P>, P>(who: Who) -> Codec<P> {
         who,
         pack: |setting, values, output| {
             let room = 0..output.len();
-            L::pack(LEVEL, setting.mode, setting.k, values, output, room)
+            L::pack(LEVEL, setting.mode, setting.k, setting.group, values, output, room)
         },
-        length: |setting, values| L::length(LEVEL, setting.mode, setting.k, values),
+        length: |setting, values| L::length(LEVEL, setting.mode, setting.k, setting.group, values),
         check: |stream| L::check(LEVEL, stream),
         unpack: |stream, output| {
             let room = 0..output.len();
@@ -65,15 +73,16 @@ impl<P: Value> Operations<P> for Tuned {
         level: u32,
         mode: u32,
         k: i32,
+        group: u32,
         values: &[P],
         buffer: &mut [u8],
         room: Range<usize>,
     ) -> u64 {
-        answered(plain::pack(level, mode, k, values, &mut buffer[room]))
+        answered(plain::pack(level, mode, k, group, values, &mut buffer[room]))
     }
 
-    fn length(level: u32, mode: u32, k: i32, values: &[P]) -> u64 {
-        answered(plain::length(level, mode, k, values))
+    fn length(level: u32, mode: u32, k: i32, group: u32, values: &[P]) -> u64 {
+        answered(plain::length(level, mode, k, group, values))
     }
 
     fn check(level: u32, stream: &[u8]) -> u64 {
@@ -96,7 +105,8 @@ pub fn tuned_codec<P: Value>() -> Codec<P> {
     codec_of::<Tuned, P>(Who::Tuned)
 }
 
-/// The length no packed stream of n values exceeds.
+/// The length no packed stream of n values exceeds, at either group size: groups of
+/// 32 have more width bytes.
 pub fn most_bytes<P>(n: usize) -> usize {
     48 + 4 * n.div_ceil(1024) + n.div_ceil(32) + n * size_of::<P>()
 }

@@ -2,7 +2,6 @@
 //! hold what a summary may go wrong at, with the answer that each call must have.
 
 use super::call::Call;
-use super::groups::Setting;
 use super::judge::Judge;
 use super::known::kind_of;
 use super::outcome::{answered, refused};
@@ -14,18 +13,19 @@ use crate::stream::{HIGHEST_LEVEL, MOST_VALUES};
 use crate::Refusal;
 
 pub fn added(judge: &mut Judge, rng: &mut XorShift, extent: Extent) {
-    let one_in = if extent == Extent::Quick { 10 } else { 1 };
+    // Each palette and length with about one of the two group sizes.
+    let one_in = if extent == Extent::Quick { 20 } else { 2 };
     for setting in settings() {
         compare_whole(judge, rng, setting, vec![]);
         for palette in palettes(setting.width) {
-            for n in [1, 2, 31, 32, 33] {
+            for n in [1, 2, 32, 33, 129] {
                 if rng.chance(one_in) {
                     let patterns = chunk_of(rng, &palette, n);
                     compare_whole(judge, rng, setting, patterns);
                 }
             }
         }
-        for n in [1023, 1024, 1025, 2047, 2048, 2049, 3000] {
+        for n in [1023, 1024, 1025, 2048, 3000] {
             let patterns = some_chunks(rng, setting, n);
             compare_whole(judge, rng, setting, patterns);
         }
@@ -40,11 +40,11 @@ pub fn added(judge: &mut Judge, rng: &mut XorShift, extent: Extent) {
 
 /// A field written at any level that allows it, now and then at a later one.
 fn field_of(rng: &mut XorShift, setting: Setting, patterns: Vec<u64>) -> Field {
-    let need = need(setting.width, setting.mode);
+    let need = setting.need();
     let level = need + rng.below((HIGHEST_LEVEL - need + 1) as u64) as u32;
     let mut field = Field::packed(setting, level, patterns);
     if rng.chance(8) {
-        put(&mut field.plain, WRITTEN, rng.one_of(&[13, 20, 4_000_000_000]));
+        put(&mut field.plain, WRITTEN, rng.one_of(&[14, 20, 4_000_000_000]));
     }
     field
 }
@@ -63,7 +63,7 @@ fn compare_whole(judge: &mut Judge, rng: &mut XorShift, setting: Setting, patter
     let field = &field_of(rng, setting, patterns);
     let summarized = Summarized { field, copy: field.with_summary() };
     summarized.compare_rooms(judge);
-    for level in 7..=13 {
+    for level in 7..=14 {
         summarized.compare_at(judge, rng, level);
     }
     for x in patterns_asked(rng, field) {
@@ -165,8 +165,8 @@ fn patterns_asked(rng: &mut XorShift, field: &Field) -> Vec<u64> {
 /// Seventy chunks of all palettes, and as many chunks as a stream can have, all
 /// zeros but for a few: the numbers of many chunks are listed.
 fn many_chunks(judge: &mut Judge, rng: &mut XorShift, extent: Extent) {
-    for width in WIDTHS {
-        let setting = Setting { width, mode: 0, k: 0 };
+    for (width, group) in WIDTHS.into_iter().zip(SIZES) {
+        let setting = Setting { width, mode: 0, k: 0, group };
         let patterns = some_chunks(rng, setting, 70 * VALUES_IN_CHUNK as usize - 5);
         let field = field_of(rng, setting, patterns);
         let summarized = Summarized { field: &field, copy: field.with_summary() };
@@ -182,7 +182,7 @@ fn many_chunks(judge: &mut Judge, rng: &mut XorShift, extent: Extent) {
 }
 
 fn longest_list(judge: &mut Judge) {
-    let setting = Setting { width: WIDTHS[0], mode: 0, k: 0 };
+    let setting = Setting { width: WIDTHS[0], mode: 0, k: 0, group: 128 };
     let mut patterns = vec![0; MOST_VALUES as usize];
     for (place, pattern) in [(0, 1), (5000, 1), (1_048_575, 2)] {
         patterns[place] = pattern;

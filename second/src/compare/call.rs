@@ -60,6 +60,7 @@ pub enum Call<'a> {
         level: u32,
         mode: u32,
         k: i32,
+        group: u32,
         values: Values<'a>,
         room: usize,
     },
@@ -67,6 +68,7 @@ pub enum Call<'a> {
         level: u32,
         mode: u32,
         k: i32,
+        group: u32,
         values: Values<'a>,
     },
     Unpack {
@@ -217,12 +219,12 @@ const SHOWN: usize = 4096;
 impl fmt::Display for Call<'_> {
     fn fmt(&self, f: &mut fmt::Formatter) -> fmt::Result {
         match *self {
-            Call::Pack { level, mode, k, values, room } => {
-                write!(f, "level {level} mode {mode} k {k} room {room} ")?;
+            Call::Pack { level, mode, k, group, values, room } => {
+                write!(f, "level {level} mode {mode} k {k} group {group} room {room} ")?;
                 write_values(f, values)
             }
-            Call::Length { level, mode, k, values } => {
-                write!(f, "level {level} mode {mode} k {k} ")?;
+            Call::Length { level, mode, k, group, values } => {
+                write!(f, "level {level} mode {mode} k {k} group {group} ")?;
                 write_values(f, values)
             }
             Call::Unpack { level, stream, room, .. } | Call::AddSummary { level, stream, room } => {

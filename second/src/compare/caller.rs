@@ -17,7 +17,7 @@ const READ_AT_A_TIME: usize = 1 << 16;
 
 /// The bytes of the heads, and of a function's name in the first.
 const NAME: usize = 24;
-const HEAD_OF_CALL: usize = 80;
+const HEAD_OF_CALL: usize = 88;
 const HEAD_OF_ANSWER: usize = 16;
 
 /// The program, running.
@@ -159,11 +159,11 @@ impl<W: Write, R: Read> Wire<W, R> {
     }
 
     fn add_head(&mut self, call: &Call, count: usize, buffer: usize, room: Range<usize>) {
-        let Numbers { level, mode, k, width, number } = Numbers::of(call);
+        let Numbers { level, mode, k, group, width, number } = Numbers::of(call);
         let mut name = [0; NAME];
         name[..call.operation().len()].copy_from_slice(call.operation().as_bytes());
         self.bytes.extend(name);
-        u32::add(&mut self.bytes, &[level, mode, k as u32, width]);
+        u32::add(&mut self.bytes, &[level, mode, k as u32, group, width, 0]);
         let sizes = [count, room.start, room.len(), buffer - room.end].map(|size| size as u64);
         u64::add(&mut self.bytes, &[number]);
         u64::add(&mut self.bytes, &sizes);
@@ -196,6 +196,7 @@ struct Numbers {
     level: u32,
     mode: u32,
     k: i32,
+    group: u32,
     width: u32,
     number: u64,
 }
@@ -204,8 +205,9 @@ impl Numbers {
     fn of(call: &Call) -> Numbers {
         let none = Numbers::default();
         match *call {
-            Call::Pack { level, mode, k, .. } | Call::Length { level, mode, k, .. } => {
-                Numbers { level, mode, k, ..none }
+            Call::Pack { level, mode, k, group, .. }
+            | Call::Length { level, mode, k, group, .. } => {
+                Numbers { level, mode, k, group, ..none }
             }
             Call::Unpack { level, .. }
             | Call::Check { level, .. }

@@ -13,9 +13,15 @@ use crate::stream::HIGHEST_LEVEL;
 // ------------------------------------------------------ sound streams
 
 /// A sound stream of these patterns.
-fn packed(width: Width, mode: u32, k: i32, patterns: &[u64]) -> Vec<u8> {
+fn packed_with(setting: Setting, patterns: &[u64]) -> Vec<u8> {
+    let Setting { width, mode, k, group } = setting;
     let list = List::of(width, patterns.iter().copied());
-    reference::packed(HIGHEST_LEVEL, mode, k, list.values()).expect("an allowed setting")
+    reference::packed(HIGHEST_LEVEL, mode, k, group, list.values()).expect("an allowed setting")
+}
+
+/// The same with groups of 32.
+fn packed(width: Width, mode: u32, k: i32, patterns: &[u64]) -> Vec<u8> {
+    packed_with(Setting { width, mode, k, group: 32 }, patterns)
 }
 
 /// The patterns of singles.
@@ -29,9 +35,37 @@ fn doubles<const N: usize>(values: [f64; N]) -> [u64; N] {
 }
 
 /// Streams of at most some 150 bytes: every setting, no values, one group and
-/// more, one chunk and more, and side parts. All are sound, but that the last
-/// two have ids that must be understood.
+/// more, one chunk and more, and side parts. All are sound, but that some have
+/// ids that must be understood.
 pub fn small_streams() -> Vec<Vec<u8>> {
+    [small_streams_of_32(), small_streams_of_128()].concat()
+}
+
+fn small_streams_of_128() -> Vec<Vec<u8>> {
+    let packed = |width, mode, k, patterns: &[u64]| {
+        packed_with(Setting { width, mode, k, group: 128 }, patterns)
+    };
+    let mut many = [0; 2049];
+    many[1030] = 4;
+    let mut streams = vec![
+        packed(WIDTH_32, 0, 0, &[0, 1 << 31, 1]),
+        packed(WIDTH_64, 1, -2, &[]),
+        packed(WIDTH_32, 1, -2, &singles([0.25, -0.75, f32::INFINITY, f32::NAN])),
+        packed(WIDTH_64, 0, 0, &doubles([1.0, -0.0])),
+        packed(WIDTH_64, 1, -2, &doubles([0.5; 130])),
+        packed(WIDTH_32, 2, 0, &equal_but_last(130)),
+        packed(WIDTH_64, 2, 0, &doubles([1.0, -1.0, f64::NAN])),
+        packed(WIDTH_32, 0, 0, &many),
+        packed(WIDTH_64, 0, 0, &many[..1025]),
+    ];
+    let low = vec![(0, vec![]), (FIRST_HIGH_ID - 1, vec![1])];
+    let high = vec![(6, vec![4]), (FIRST_HIGH_ID, vec![]), (u32::MAX, vec![1, 2])];
+    let sided = [(0, &low), (6, &low), (0, &high)];
+    streams.extend(sided.map(|(plain, sides)| with_sides(&streams[plain], sides)));
+    streams
+}
+
+fn small_streams_of_32() -> Vec<Vec<u8>> {
     let below_threshold = f32::from_bits(0x4A7F_FFFF); // 4194303.75
     let mixed = singles([0.25, -0.75, below_threshold, f32::INFINITY, f32::NAN, -0.0]);
     let mixed_doubles = doubles([0.25, -0.75, 1e300, f64::NEG_INFINITY, f64::NAN]);
@@ -83,11 +117,11 @@ fn equal_but_last(n: usize) -> Vec<u64> {
 /// A stream of any kind, now and then with side parts; sound, but for ids that
 /// must be understood.
 pub fn some_stream(rng: &mut XorShift) -> Vec<u8> {
-    let (width, mode) = (rng.one_of(&WIDTHS), rng.below(3) as u32);
+    let (width, mode, group) = (rng.one_of(&WIDTHS), rng.below(3) as u32, rng.one_of(&SIZES));
     let k = some_k_of_mode(rng, width, mode);
     let n = some_length(rng);
     let patterns = some_patterns_of_mode(rng, width, mode, k, n);
-    let stream = packed(width, mode, k, &patterns);
+    let stream = packed_with(Setting { width, mode, k, group }, &patterns);
     if rng.chance(3) {
         with_sides(&stream, &some_sides(rng))
     } else {
@@ -113,7 +147,7 @@ pub fn some_sides(rng: &mut XorShift) -> Vec<Side> {
 
 // ------------------------------------------------------ bytes and cuts
 
-/// Every byte of the small streams altered, bit by bit and to some values.
+/// Every byte of the small streams altered, bit by bit and to two other values.
 pub fn bytes_altered(judge: &mut Judge, rng: &mut XorShift, extent: Extent) {
     for mut stream in small_streams() {
         for place in 0..stream.len() {
@@ -122,7 +156,8 @@ pub fn bytes_altered(judge: &mut Judge, rng: &mut XorShift, extent: Extent) {
                 stream[place] = other;
                 read(judge, HIGHEST_LEVEL, &stream);
                 if (4..12).contains(&place) {
-                    read_at_levels(judge, &[8, 9, 10, 11], &stream);
+                    let levels = &LEVELS[..LEVELS.len() - 1];
+                    read_at_levels(judge, levels, &stream);
                 }
             }
             stream[place] = byte;
@@ -132,7 +167,9 @@ pub fn bytes_altered(judge: &mut Judge, rng: &mut XorShift, extent: Extent) {
 
 pub fn other_bytes(rng: &mut XorShift, byte: u8, extent: Extent) -> Vec<u8> {
     let mut others: Vec<u8> = (0..8).map(|bit| byte ^ 1 << bit).collect();
-    others.extend([0, 255, byte.wrapping_add(1), byte.wrapping_sub(1), rng.next() as u8]);
+    let random = rng.next() as u8;
+    others.push(rng.one_of(&[0, 255]));
+    others.push(rng.one_of(&[byte.wrapping_add(1), byte.wrapping_sub(1), random]));
     without(byte, others, rng, extent)
 }
 
@@ -175,19 +212,28 @@ pub fn cuts_and_additions(judge: &mut Judge, rng: &mut XorShift, extent: Extent)
 
 // ------------------------------------------------------ header numbers
 
-/// Every header number of the small streams set to many others, read at every
-/// level.
-pub fn header_numbers(judge: &mut Judge, _: &mut XorShift, extent: Extent) {
-    let levels: &[u32] = if extent == Extent::Quick { &[HIGHEST_LEVEL] } else { &LEVELS };
+/// Every header number of the small streams set to many others.
+pub fn header_numbers(judge: &mut Judge, rng: &mut XorShift, extent: Extent) {
     for stream in small_streams() {
         for order in MAJOR..=DATA_END {
             for number in other_numbers(&stream, order) {
-                read_at_levels(judge, levels, &with(&stream, &[(order, number)]));
+                let levels = levels_for(rng, order, extent);
+                read_at_levels(judge, &levels, &with(&stream, &[(order, number)]));
             }
         }
     }
     for stream in small_streams() {
-        other_settings(judge, &stream);
+        other_settings(judge, rng, &stream);
+    }
+}
+
+/// Every level for the numbers that have to do with it; else the highest and
+/// another one.
+fn levels_for(rng: &mut XorShift, order: usize, extent: Extent) -> Vec<u32> {
+    match order {
+        _ if extent == Extent::Quick => vec![HIGHEST_LEVEL],
+        WRITTEN | NEEDED | MODE => LEVELS.to_vec(),
+        _ => vec![HIGHEST_LEVEL, rng.one_of(&LEVELS[..LEVELS.len() - 1])],
     }
 }
 
@@ -198,12 +244,15 @@ pub fn other_numbers(stream: &[u8], order: usize) -> Vec<u32> {
     let length = stream.len() as u32;
     #[rustfmt::skip]
     let mut numbers = vec![
-        0, 1, 2, 3, 7, 8, 9, 10, 11, 12, 13, 31, 32, 33, 47, 48, 49, 63, 64, 65, 100, 108, 256, 257,
+        0, 1, 2, 3, 7, 8, 9, 10, 11, 12, 13, 14, 31, 32, 33, 47, 48, 49, 63, 64, 65, 100, 108,
         1023, 1024, 1025, 1 << 20, (1 << 20) + 1, 1 << 30, 1 << 31, u32::MAX - 1023, u32::MAX,
         length - 1, length, length + 1,
     ];
     for step in [1, 2, 4, 12, 256, 1 << 16, 1 << 24, 1 << 30, 1 << 31] {
         numbers.extend([old.wrapping_add(step), old.wrapping_sub(step)]);
+    }
+    if order == MODE {
+        numbers.extend([128, 255, 256, 257, 258, 259, 512, 513, u32::MAX - 255]);
     }
     if order == K {
         let edges = [-1076, -1075, -151, -150, -149, -1, 102, 103, 104, 970, 971];
@@ -216,13 +265,15 @@ pub fn other_numbers(stream: &[u8], order: usize) -> Vec<u32> {
 }
 
 /// The same bytes under every other setting, its need put right.
-fn other_settings(judge: &mut Judge, stream: &[u8]) {
-    for width in WIDTHS {
-        let others = [(0, 1), (1, 100), (1, -1075), (1, 970), (2, 1), (2, -2), (3, 0)];
-        for (mode, k) in MODES.into_iter().chain(others) {
-            let numbers =
-                [(WIDTH, width.bits()), (MODE, mode), (K, k as u32), (NEEDED, need(width, mode))];
-            read_at_levels(judge, &LEVELS, &with(stream, &numbers));
+fn other_settings(judge: &mut Judge, rng: &mut XorShift, stream: &[u8]) {
+    let others = [(0, 1), (1, 100), (1, -1075), (1, 970), (2, 1), (2, -2), (3, 0)];
+    for (mode, k) in MODES.into_iter().chain(others) {
+        for (width, group) in [(WIDTH_32, 32), (WIDTH_32, 128), (WIDTH_64, 32), (WIDTH_64, 128)] {
+            let setting = Setting { width, mode, k, group };
+            let (mode, need) = (setting.mode_number(), setting.need());
+            let numbers = [(WIDTH, width.bits()), (MODE, mode), (K, k as u32), (NEEDED, need)];
+            let levels = [HIGHEST_LEVEL, rng.one_of(&LEVELS)];
+            read_at_levels(judge, &levels, &with(stream, &numbers));
         }
     }
 }
@@ -237,7 +288,7 @@ pub fn several_header_numbers(judge: &mut Judge, rng: &mut XorShift, extent: Ext
             let number = some_number(rng, &stream, order);
             put(&mut stream, order, number);
         }
-        let level = rng.one_of(&[8, 9, 10, 11, 12, 12, 12]);
+        let level = rng.one_of(&[8, 9, 10, 11, 12, 13, 13, 13]);
         read(judge, level, &stream);
     }
 }
@@ -246,9 +297,9 @@ pub fn several_header_numbers(judge: &mut Judge, rng: &mut XorShift, extent: Ext
 fn some_number(rng: &mut XorShift, stream: &[u8], order: usize) -> u32 {
     let likely: &[u32] = match order {
         MAJOR => &[1],
-        WRITTEN | NEEDED => &[7, 8, 9, 10, 11, 12, 13],
+        WRITTEN | NEEDED => &[7, 8, 9, 10, 11, 12, 13, 14],
         WIDTH => &[32, 64],
-        MODE => &[0, 1, 2, 3],
+        MODE => &[0, 1, 2, 3, 256, 257, 258, 259],
         K => &[0, -2i32 as u32, -150i32 as u32, 103, 970, -1075i32 as u32],
         SIDES => &[0, 1, 2, 64, 65],
         _ => &[],
@@ -267,7 +318,7 @@ fn some_number(rng: &mut XorShift, stream: &[u8], order: usize) -> u32 {
 pub fn random_damage(judge: &mut Judge, rng: &mut XorShift, extent: Extent) {
     for _ in 0..extent.rounds(12_000) {
         let stream = damaged_stream(rng);
-        let level = rng.one_of(&[12, 12, 12, 12, 12, 11, 10, 9, 8, 7, 13]);
+        let level = rng.one_of(&[13, 13, 13, 13, 13, 13, 12, 11, 10, 9, 8, 7, 14]);
         read(judge, level, &stream);
     }
 }

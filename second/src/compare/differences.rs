@@ -4,7 +4,7 @@
 use super::judge::Judge;
 use super::known::KnownList;
 use super::random::{XorShift, WIDTHS};
-use super::streams::{stream_of_codes, VALUES_IN_CHUNK};
+use super::streams::{stream_of_codes, Setting, SIZES, VALUES_IN_CHUNK};
 use super::walks::some_walk;
 use super::Extent;
 use crate::numbers::Width;
@@ -24,7 +24,8 @@ pub fn differences(judge: &mut Judge, rng: &mut XorShift, extent: Extent) {
 fn walks(judge: &mut Judge, rng: &mut XorShift, extent: Extent, width: Width) {
     for n in [1, 2, 31, 32, 33, 100, 1000, 1024, 1025, 1100, 2100] {
         for _ in 0..extent.rounds(5) {
-            let list = known_list(width, some_walk(rng, width, n));
+            let group = rng.one_of(&SIZES);
+            let list = known_list(width, group, some_walk(rng, width, n));
             list.compare_whole(judge);
             list.compare_probes(judge, 0..n);
         }
@@ -34,17 +35,24 @@ fn walks(judge: &mut Judge, rng: &mut XorShift, extent: Extent, width: Width) {
 /// Groups of no bits between others: their values are those before them, and
 /// what comes after goes on from there.
 fn groups_of_no_bits(judge: &mut Judge, rng: &mut XorShift, width: Width) {
-    for first in [1, 31, 32, 64] {
-        for groups in [1, 2, 3, 15, 29] {
-            let mut patterns = random_patterns(rng, width, first);
-            let last = patterns[first - 1];
-            patterns.resize(first.next_multiple_of(32) + 32 * groups, last);
-            patterns.extend(random_patterns(rng, width, 40));
-            let n = patterns.len();
-            let list = known_list(width, patterns);
-            list.compare_whole(judge);
-            list.compare_probes(judge, (0..n).step_by(11).chain(n - 45..n));
-        }
+    let groups_of = |group, firsts: [usize; 4], counts: &[usize]| {
+        let counts = counts.to_vec();
+        firsts.into_iter().flat_map(move |first| {
+            counts.clone().into_iter().map(move |count| (group, first, count))
+        })
+    };
+    let of_32 = groups_of(32, [1, 31, 32, 64], &[1, 2, 3, 15, 29]);
+    let of_128 = groups_of(128, [1, 32, 127, 128], &[1, 2, 3, 6]);
+    for (group, first, groups) in of_32.chain(of_128) {
+        let mut patterns = random_patterns(rng, width, first);
+        let last = patterns[first - 1];
+        let size = group as usize;
+        patterns.resize(first.next_multiple_of(size) + size * groups, last);
+        patterns.extend(random_patterns(rng, width, 40));
+        let n = patterns.len();
+        let list = known_list(width, group, patterns);
+        list.compare_whole(judge);
+        list.compare_probes(judge, (0..n).step_by(11).chain(n - 45..n));
     }
 }
 
@@ -64,7 +72,7 @@ fn equal_across_chunks(judge: &mut Judge, rng: &mut XorShift, width: Width) {
                     *pattern = rng.next() >> (64 - width.bits());
                 }
             }
-            let list = known_list(width, patterns);
+            let list = known_list(width, rng.one_of(&SIZES), patterns);
             list.compare_whole(judge);
             let edges = (1..=n / CHUNK).flat_map(|chunk| CHUNK * chunk - 2..CHUNK * chunk + 2);
             list.compare_probes(judge, edges.filter(|&index| index < n).chain([0, n - 1]));
@@ -74,9 +82,11 @@ fn equal_across_chunks(judge: &mut Judge, rng: &mut XorShift, width: Width) {
 
 // ------------------------------------------------------------ the codes
 
-fn known_list(width: Width, patterns: Vec<u64>) -> KnownList {
-    let stream = stream_of_codes(width, 2, 0, &difference_codes(width, &patterns));
-    KnownList { width, level: HIGHEST_LEVEL, mode: 2, patterns, stream }
+/// A list in mode 2, and its stream written by hand.
+pub fn known_list(width: Width, group: u32, patterns: Vec<u64>) -> KnownList {
+    let setting = Setting { width, mode: 2, k: 0, group };
+    let stream = stream_of_codes(setting, &difference_codes(width, &patterns));
+    KnownList { setting, level: HIGHEST_LEVEL, patterns, stream }
 }
 
 /// The codes of a list, chunk by chunk.

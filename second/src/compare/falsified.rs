@@ -236,8 +236,10 @@ fn other_faults(judge: &mut Judge, field: &Field) {
         let id = Refusal::with_detail(15, FIRST_HIGH_ID as u64 + 3);
         compare_fault(judge, field.width, &understood, id);
         let needed = number_at(&field.plain, NEEDED).unwrap_or(0);
-        let need_kept = with(&understood, &[(NEEDED, needed)]);
-        compare_fault(judge, field.width, &need_kept, Refusal::bare(8));
+        if needed < NEED_OF_HIGH_ID {
+            let need_kept = with(&understood, &[(NEEDED, needed)]);
+            compare_fault(judge, field.width, &need_kept, Refusal::bare(8));
+        }
         let sided = field.with_parts(&sides);
         compare_fault(judge, field.width, &[&sided[..], &[0]].concat(), Refusal::bare(9));
         if field.n() > 0 {
@@ -360,7 +362,7 @@ fn random_damage(judge: &mut Judge, rng: &mut XorShift) {
     if !rng.chance(4) {
         damage(rng, &mut stream);
     }
-    let level = rng.one_of(&[12, 12, 12, 12, 11, 10, 9, 8, 7, 13]);
+    let level = rng.one_of(&[13, 13, 13, 13, 13, 12, 11, 10, 9, 8, 7, 14]);
     add(judge, level, &stream);
     judge.compare(Call::TestSummary { level, stream: &stream });
     for width in WIDTHS {

@@ -4,36 +4,22 @@
 use super::judge::Judge;
 use super::random::{XorShift, WIDTHS};
 use super::readings::read;
-use super::streams::{group, Draft};
+use super::streams::{group, Draft, Setting, SIZES};
 use super::walks::some_k_of_mode;
 use super::Extent;
-use crate::numbers::{bit_length, Tolerance, Width};
+use crate::numbers::bit_length;
 use crate::stream::HIGHEST_LEVEL;
 
-/// Width, mode and k of the groups' codes.
-#[derive(Clone, Copy)]
-pub struct Setting {
-    pub width: Width,
-    pub mode: u32,
-    pub k: i32,
-}
-
-impl Setting {
-    /// The largest code: in mode 1 that of the largest u.
-    pub fn largest_code(self) -> u64 {
-        let tolerance = Tolerance::allowed(self.width, self.k).filter(|_| self.mode == 1);
-        match tolerance {
-            Some(tolerance) => 2 * tolerance.largest_magnitude_code() + 1,
-            None => u64::MAX >> (64 - self.width.bits()),
-        }
-    }
-}
+/// Counts at the edges of bytes, and of blocks of 32.
+const COUNTS_OF_32: [usize; 8] = [1, 2, 3, 7, 8, 9, 31, 32];
+const COUNTS_OF_128: [usize; 12] = [1, 7, 8, 31, 32, 33, 63, 64, 65, 96, 127, 128];
 
 pub fn groups(judge: &mut Judge, rng: &mut XorShift, extent: Extent) {
     for _ in 0..extent.rounds(400) {
-        let (width, mode) = (rng.one_of(&WIDTHS), rng.below(3) as u32);
-        let setting = Setting { width, mode, k: some_k_of_mode(rng, width, mode) };
-        let count = rng.one_of(&[1, 2, 3, 7, 8, 9, 31, 32]);
+        let (width, mode, group) = (rng.one_of(&WIDTHS), rng.below(3) as u32, rng.one_of(&SIZES));
+        let setting = Setting { width, mode, k: some_k_of_mode(rng, width, mode), group };
+        let count =
+            if group == 32 { rng.one_of(&COUNTS_OF_32) } else { rng.one_of(&COUNTS_OF_128) };
         for bytes in variants(rng, setting, count) {
             read_alone(judge, setting, count, &bytes);
             read_among_chunks(judge, rng, setting, count, &bytes);
@@ -136,11 +122,9 @@ fn around_largest_code(rng: &mut XorShift, setting: Setting, count: usize) -> Ve
 
 /// The only group of the only chunk, and the second one.
 fn read_alone(judge: &mut Judge, setting: Setting, count: usize, bytes: &[u8]) {
-    let Setting { width, mode, k } = setting;
-    let mut draft =
-        Draft { width, mode, k, n: count as u32, chunks: vec![bytes.to_vec()], sides: vec![] };
+    let mut draft = Draft { setting, n: count as u32, chunks: vec![bytes.to_vec()], sides: vec![] };
     read(judge, HIGHEST_LEVEL, &draft.stream());
-    draft.n += 32;
+    draft.n += setting.group;
     draft.chunks = vec![[&[0], bytes].concat()];
     read(judge, HIGHEST_LEVEL, &draft.stream());
 }
@@ -154,24 +138,24 @@ fn read_among_chunks(
     count: usize,
     bytes: &[u8],
 ) {
-    let Setting { width, mode, k } = setting;
-    let mut chunks = vec![vec![0; 32]; 2];
+    let groups = 1024 / setting.values_in_group();
+    let mut chunks = vec![vec![0; groups]; 2];
     for chunk in &mut chunks {
         if rng.chance(2) {
-            let place = rng.below(32) as usize;
+            let place = rng.below(groups as u64) as usize;
             let whole = whole_group(rng, setting);
             chunk.splice(place..place + 1, whole);
         }
     }
     chunks.push(if rng.chance(3) { vec![0] } else { bytes.to_vec() });
     let n = 2048 + count as u32;
-    let draft = Draft { width, mode, k, n, chunks, sides: vec![] };
+    let draft = Draft { setting, n, chunks, sides: vec![] };
     read(judge, HIGHEST_LEVEL, &draft.stream());
 }
 
 /// A whole group, sound or with a fault.
 fn whole_group(rng: &mut XorShift, setting: Setting) -> Vec<u8> {
-    let variants = variants(rng, setting, 32);
+    let variants = variants(rng, setting, setting.values_in_group());
     let chosen = rng.below(variants.len() as u64) as usize;
     variants.into_iter().nth(chosen).unwrap_or_default()
 }

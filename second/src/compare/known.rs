@@ -5,7 +5,9 @@ use super::call::{Call, List};
 use super::judge::Judge;
 use super::outcome::refused;
 use super::random::XorShift;
-use super::streams::{bytes_of, stated_count, stream_of_codes, LEVELS};
+use super::streams::{
+    bytes_of, every_setting, stated_count, stream_of_codes, Setting, LEVELS, SIZES,
+};
 use super::Extent;
 use crate::numbers::{Width, WIDTH_32, WIDTH_64};
 use crate::stream::HIGHEST_LEVEL;
@@ -92,6 +94,9 @@ pub fn known_values(judge: &mut Judge, _: &mut XorShift, _: Extent) {
     example_of_high_ids(judge);
     example_of_summary(judge);
     summary_of_two_chunks(judge);
+    example_of_128(judge);
+    longest_streams(judge);
+    levels_of_128(judge);
 }
 
 fn lossless_codes(judge: &mut Judge) {
@@ -115,12 +120,79 @@ fn tolerance_codes(judge: &mut Judge) {
     judge.compare_known(above, refused(Refusal::bare(10)), &[]);
 }
 
-/// Level 8, mode 0: no values, 1,024 zeros, and 1,025, which have two chunks.
+/// Mode 0: no values, 1,024 zeros, and 1,025, which have two chunks. A group of
+/// zeros is its width byte.
 fn lengths(judge: &mut Judge) {
-    for (n, length) in [(0, 48), (1024, 48 + 4 + 32), (1025, 48 + 8 + 33)] {
+    let of_32 = [(0, 48), (1024, 48 + 4 + 32), (1025, 48 + 8 + 33)];
+    let of_128 = [(0, 48), (1, 53), (128, 53), (129, 54), (1024, 48 + 4 + 8), (1025, 48 + 8 + 9)];
+    let of_32 = of_32.map(|(n, length)| (8, 32, n, length));
+    let of_128 = of_128.map(|(n, length)| (13, 128, n, length));
+    for (level, group, n, length) in of_32.into_iter().chain(of_128) {
         let list = List::of(WIDTH_32, vec![0; n]);
-        let call = Call::Length { level: 8, mode: 0, k: 0, values: list.values() };
+        let call = Call::Length { level, mode: 0, k: 0, group, values: list.values() };
         judge.compare_known(call, length, &[]);
+    }
+}
+
+/// The list 0, -0, 2^-149 with groups of 128: another need and mode number, and the
+/// same data. 1,024 zeros are 8 bytes of data.
+fn example_of_128(judge: &mut Judge) {
+    let (setting, level) = (Setting { width: WIDTH_32, mode: 0, k: 0, group: 128 }, 13);
+    let mut stream = bytes_of(&[1, 13, 13, 32, 256, 0, 3, 1, 48, 52, 0, 55, 0]);
+    stream.extend([0x03, 0x10, 0x01]);
+    KnownList { setting, level, patterns: vec![0, 0x8000_0000, 1], stream }.compare(judge);
+
+    let mut stream = bytes_of(&[1, 13, 13, 32, 256, 0, 1024, 1, 48, 52, 0, 60, 0]);
+    stream.extend([0; 8]);
+    KnownList { setting, level, patterns: vec![0; 1024], stream }.compare_whole(judge);
+}
+
+/// The length formula: 48 + 4c + (n/size rounded up) + n·W/8, where all codes have W
+/// bits: the least normal number's are all ones.
+fn longest_streams(judge: &mut Judge) {
+    for (width, least_normal, bytes) in [(WIDTH_32, 1 << 23, 4), (WIDTH_64, 1 << 52, 8)] {
+        for group in SIZES {
+            for n in [0, 1, 31, 32, 33, 127, 128, 129, 1023, 1024, 1025, 2500] {
+                let list = List::of(width, vec![least_normal; n]);
+                let (level, mode, k, values) = (13, 0, 0, list.values());
+                let groups = n.div_ceil(group as usize);
+                let length = 48 + 4 * n.div_ceil(1024) + groups + n * bytes;
+                let measured = Call::Length { level, mode, k, group, values };
+                judge.compare_known(measured, length as u64, &[]);
+                let pack = Call::Pack { level, mode, k, group, values, room: length };
+                judge.compare_known(pack, length as u64, &[1, 0, 0, 0, 13]);
+            }
+        }
+    }
+}
+
+/// Groups of 128 need 13 in every mode and width: the writers of lower levels refuse
+/// them by 2, the readers by 7.
+fn levels_of_128(judge: &mut Judge) {
+    for setting in every_setting().into_iter().filter(|setting| setting.group == 128) {
+        let Setting { width, mode, k, group } = setting;
+        let list = List::of(width, [5, 7]);
+        let values = list.values();
+        let stream = &stream_of_codes(setting, &[10, 4]);
+        for level in [8, 9, 10, 11, 12] {
+            let refusal = refused(Refusal::bare(2));
+            judge.compare_known(Call::Length { level, mode, k, group, values }, refusal, &[]);
+            let pack = Call::Pack { level, mode, k, group, values, room: 60 };
+            judge.compare_known(pack, refusal, &[]);
+
+            let refusal = refused(Refusal::with_detail(7, 13));
+            for call in [
+                Call::Check { level, stream },
+                Call::Unpack { width, level, stream, room: 2 },
+                Call::Probe { width, level, stream, index: 0 },
+                Call::AddSummary { level, stream, room: 200 },
+                Call::TestSummary { level, stream },
+                Call::ChunksFrom { width, level, x: 0, stream, room: 2 },
+            ] {
+                judge.compare_known(call, refusal, &[]);
+            }
+        }
+        judge.compare_known(Call::Check { level: 13, stream }, 2, &[]);
     }
 }
 
@@ -129,14 +201,22 @@ fn example(judge: &mut Judge) {
     let mut stream = bytes_of(&[1, 8, 8, 32, 0, 0, 3, 1, 48, 52, 0, 55, 0]);
     stream.extend([0x03, 0x10, 0x01]);
     let patterns = vec![0, 0x8000_0000, 1];
-    KnownList { width: WIDTH_32, level: 8, mode: 0, patterns, stream }.compare(judge);
+    let setting = Setting { width: WIDTH_32, mode: 0, k: 0, group: 32 };
+    KnownList { setting, level: 8, patterns, stream }.compare(judge);
+}
+
+/// Mode 2 with groups of 32.
+fn by_differences(width: Width) -> Setting {
+    Setting { width, mode: 2, k: 0, group: 32 }
 }
 
 fn differences(judge: &mut Judge, width: Width, lists: &[Differences]) {
     for (patterns, codes) in lists {
-        let stream = stream_of_codes(width, 2, 0, codes);
-        let patterns = patterns.to_vec();
-        KnownList { width, level: HIGHEST_LEVEL, mode: 2, patterns, stream }.compare(judge);
+        for group in SIZES {
+            let setting = Setting { group, ..by_differences(width) };
+            let (patterns, stream) = (patterns.to_vec(), stream_of_codes(setting, codes));
+            KnownList { setting, level: HIGHEST_LEVEL, patterns, stream }.compare(judge);
+        }
     }
     difference_levels(judge, width);
 }
@@ -144,16 +224,16 @@ fn differences(judge: &mut Judge, width: Width, lists: &[Differences]) {
 /// The list 5, 7, 7, 4 in mode 2, byte for byte; and 1,025 sevens, of which the
 /// second chunk's only one is again the difference from 0.
 fn example_of_differences(judge: &mut Judge) {
-    let (width, level, mode) = (WIDTH_32, 11, 2);
+    let (setting, level) = (by_differences(WIDTH_32), 11);
     let mut stream = bytes_of(&[1, 11, 11, 32, 2, 0, 4, 1, 48, 52, 0, 55, 0]);
     stream.extend([0x04, 0x4A, 0x50]);
-    KnownList { width, level, mode, patterns: vec![5, 7, 7, 4], stream }.compare(judge);
+    KnownList { setting, level, patterns: vec![5, 7, 7, 4], stream }.compare(judge);
 
     let mut stream = bytes_of(&[1, 11, 11, 32, 2, 0, 1025, 2, 48, 56, 0, 106, 0, 48]);
     stream.extend([0x04, 0x0E]);
     stream.resize(104, 0);
     stream.extend([0x04, 0x0E]);
-    KnownList { width, level, mode, patterns: vec![7; 1025], stream }.compare(judge);
+    KnownList { setting, level, patterns: vec![7; 1025], stream }.compare(judge);
 }
 
 /// Mode 2 needs 11 at both widths, and its k is 0.
@@ -161,13 +241,14 @@ fn difference_levels(judge: &mut Judge, width: Width) {
     let list = List::of(width, [5, 7]);
     let values = list.values();
     for (level, k, number) in
-        [(7, 0, 1), (8, 0, 2), (9, 0, 2), (10, 0, 2), (11, 1, 2), (12, -2, 2), (13, 0, 1)]
+        [(7, 0, 1), (8, 0, 2), (9, 0, 2), (10, 0, 2), (11, 1, 2), (13, -2, 2), (14, 0, 1)]
     {
-        let refusal = refused(Refusal::bare(number));
-        judge.compare_known(Call::Length { level, mode: 2, k, values }, refusal, &[]);
-        judge.compare_known(Call::Pack { level, mode: 2, k, values, room: 60 }, refusal, &[]);
+        let (mode, group, refusal) = (2, 32, refused(Refusal::bare(number)));
+        judge.compare_known(Call::Length { level, mode, k, group, values }, refusal, &[]);
+        let pack = Call::Pack { level, mode, k, group, values, room: 60 };
+        judge.compare_known(pack, refusal, &[]);
     }
-    let stream = &stream_of_codes(width, 2, 0, &[10, 4]);
+    let stream = &stream_of_codes(by_differences(width), &[10, 4]);
     for level in [8, 9, 10] {
         let refusal = refused(Refusal::with_detail(7, 11));
         judge.compare_known(Call::Check { level, stream }, refusal, &[]);
@@ -180,7 +261,7 @@ fn difference_levels(judge: &mut Judge, width: Width) {
 /// may be skipped, at each level with each need.
 fn example_of_high_ids(judge: &mut Judge) {
     for needed in LEVELS {
-        let mut stream = bytes_of(&[1, 12, needed, 32, 0, 0, 3, 1, 48, 52, 3, 55, 0]);
+        let mut stream = bytes_of(&[1, 13, needed, 32, 0, 0, 3, 1, 48, 52, 3, 55, 0]);
         stream.extend([0x03, 0x10, 0x01]);
         stream.extend(bytes_of(&[0x7FFF_FFFF, 91, 0, 0x8000_0000, 91, 0, 0x8000_0001, 91, 0]));
         for level in LEVELS {
@@ -238,7 +319,7 @@ fn summary_of_two_chunks(judge: &mut Judge) {
     let mut codes = vec![0; 1025];
     codes[0] = 1;
     codes[1024] = (1 << 53) - 1;
-    let plain = stream_of_codes(width, 2, 0, &codes);
+    let plain = stream_of_codes(by_differences(width), &codes);
     let mut copy = plain.clone();
     copy[40] = 1;
     copy.extend(bytes_of(&[1, plain.len() as u32 + 12, 40]));
@@ -270,9 +351,8 @@ fn compare_summary(judge: &mut Judge, level: u32, plain: &[u8], copy: &[u8]) {
 /// A list and its stream at a level, in a mode whose k is 0 and which alters no
 /// value.
 pub struct KnownList {
-    pub width: Width,
+    pub setting: Setting,
     pub level: u32,
-    pub mode: u32,
     pub patterns: Vec<u64>,
     pub stream: Vec<u8>,
 }
@@ -285,12 +365,13 @@ impl KnownList {
 
     /// All operations but probe.
     pub fn compare_whole(&self, judge: &mut Judge) {
-        let KnownList { width, level, mode, ref patterns, ref stream } = *self;
+        let KnownList { setting, level, ref patterns, ref stream } = *self;
+        let Setting { width, mode, k, group } = setting;
         let bytes: Vec<u64> = stream.iter().map(|&byte| byte as u64).collect();
         let list = List::of(width, patterns.iter().copied());
         let (values, n, length) = (list.values(), patterns.len(), stream.len());
-        judge.compare_known(Call::Length { level, mode, k: 0, values }, length as u64, &[]);
-        let pack = Call::Pack { level, mode, k: 0, values, room: length + 5 };
+        judge.compare_known(Call::Length { level, mode, k, group, values }, length as u64, &[]);
+        let pack = Call::Pack { level, mode, k, group, values, room: length + 5 };
         judge.compare_known(pack, length as u64, &bytes);
         judge.compare_known(Call::Check { level, stream }, n as u64, &[]);
         let unpack = Call::Unpack { width, level, stream, room: n + 1 };
@@ -298,7 +379,7 @@ impl KnownList {
     }
 
     pub fn compare_probes(&self, judge: &mut Judge, indices: impl Iterator<Item = usize>) {
-        let KnownList { width, level, ref patterns, ref stream, .. } = *self;
+        let KnownList { setting: Setting { width, .. }, level, ref patterns, ref stream } = *self;
         for index in indices {
             let pattern = patterns[index];
             let probe = Call::Probe { width, level, stream, index: index as u64 };

@@ -9,8 +9,8 @@
 //!   that suit mode 2.
 //! * `summaries`: streams and their summaries.
 //! * `known`, `rules`, `lists`, `orders`, `damage`, `tables`, `groups`,
-//!   `places`, `differences`, `needs`, `adding`, `falsified`: the sections, each a
-//!   source of calls.
+//!   `places`, `differences`, `needs`, `adding`, `falsified`, `sizes`: the sections,
+//!   each a source of calls.
 //! * [`listings`]: the inputs for the listing program, which is run apart.
 
 pub mod call;
@@ -36,6 +36,7 @@ mod places;
 mod readings;
 mod rules;
 mod shrink;
+mod sizes;
 mod streams;
 mod summaries;
 mod tables;
@@ -74,7 +75,7 @@ pub struct Options {
 
 type Section = (&'static str, fn(&mut Judge, &mut XorShift, Extent));
 
-const SECTIONS: [Section; 27] = [
+const SECTIONS: [Section; 28] = [
     ("known values", known::known_values),
     ("lossless codes", rules::lossless_codes),
     ("tolerance codes", rules::tolerance_codes),
@@ -102,15 +103,17 @@ const SECTIONS: [Section; 27] = [
     ("summaries", adding::added),
     ("false summaries", falsified::falsified),
     ("summaries in damaged streams", falsified::damaged),
+    ("groups of 128", sizes::sizes),
 ];
 
-const BRIEF_SECTIONS: [Section; 6] = [
+const BRIEF_SECTIONS: [Section; 7] = [
     ("lists for every k", lists::every_k),
     ("random lists", lists::random_lists),
     ("random damage", damage::random_damage),
     ("the first bad group", places::places),
     ("differences", differences::differences),
     ("needs and high ids", needs::needs),
+    ("groups of 128", sizes::sizes),
 ];
 
 /// Runs every section and writes what was compared; answers whether nothing

@@ -3,19 +3,19 @@
 //! the answer that each must have.
 
 use super::call::Call;
-use super::groups::Setting;
 use super::judge::Judge;
 use super::outcome::{answered, refused};
 use super::random::{XorShift, WIDTHS};
 use super::streams::*;
 use super::tables::{sided, sound_entries, Entry};
 use super::Extent;
+use crate::numbers::Width;
 use crate::stream::HIGHEST_LEVEL;
 use crate::Refusal;
 
 pub fn needs(judge: &mut Judge, rng: &mut XorShift, extent: Extent) {
     let one_in = if extent == Extent::Quick { 10 } else { 1 };
-    for setting in settings() {
+    for setting in every_setting() {
         for ids in IDS {
             let bases = bases_of(setting, ids);
             let cases = [near_cases(&bases), far_cases(rng, &bases)].concat();
@@ -26,11 +26,6 @@ pub fn needs(judge: &mut Judge, rng: &mut XorShift, extent: Extent) {
             }
         }
     }
-}
-
-fn settings() -> impl Iterator<Item = Setting> {
-    let of_width = |width| MODES.map(|(mode, k)| Setting { width, mode, k });
-    WIDTHS.into_iter().flat_map(of_width)
 }
 
 // ------------------------------------------------------------- streams
@@ -74,8 +69,7 @@ const TABLE_FAULTS: [TableFault; 6] = [
     }),
 ];
 
-/// Two groups, and the same with the second one too wide.
-const VALUES: usize = 33;
+/// Two groups, the second one of one value, and the same with that one too wide.
 const SOUND_CHUNK: [u8; 3] = [0, 1, 1];
 const BAD_CHUNK: [u8; 3] = [0, 65, 1];
 const BAD_GROUP: u64 = 1;
@@ -114,8 +108,7 @@ fn bases_of(setting: Setting, ids: &[u32]) -> Vec<Base> {
 }
 
 fn stream_without_sides(setting: Setting, chunk: &[u8]) -> Vec<u8> {
-    let (Setting { width, mode, k }, chunks) = (setting, vec![chunk.to_vec()]);
-    Draft { width, mode, k, n: VALUES as u32, chunks, sides: vec![] }.stream()
+    Draft { setting, n: setting.group + 1, chunks: vec![chunk.to_vec()], sides: vec![] }.stream()
 }
 
 fn sound_tables(side_table: usize, ids: &[u32]) -> Tables {
@@ -131,7 +124,7 @@ fn with_tables(plain: &[u8], tables: &Tables) -> Vec<u8> {
 impl Base {
     /// What the stream needs.
     fn need(&self) -> u32 {
-        let of_setting = need(self.setting.width, self.setting.mode);
+        let of_setting = self.setting.need();
         self.high_id.map_or(of_setting, |_| of_setting.max(NEED_OF_HIGH_ID))
     }
 
@@ -198,29 +191,28 @@ fn written_minors(needed: u32) -> [u32; 3] {
 }
 
 impl Case<'_> {
-    /// Puts the stream to every reader, with and without a fault of the call's
-    /// own: the other width, too little room, an index that is too large.
+    /// Puts the stream to check, and to one of each other kind of reader, with or
+    /// without a fault of the call's own: the other width, too little room, an index
+    /// that is too large.
     fn compare(&self, judge: &mut Judge, rng: &mut XorShift) {
         let Case { base, written, needed, level } = *self;
-        let (stream, n) = (&base.with_minors(written, needed), VALUES as u64);
+        let (stream, n) = (&base.with_minors(written, needed), base.setting.group as u64 + 1);
         let answer = |own: Option<Refusal>, success: u64| {
             let refusal = self.header_refusal().or(own).or(self.later_refusal());
             answered(refusal.map_or(Ok(success), Err))
         };
         judge.compare_known(Call::Check { level, stream }, answer(None, n), &[]);
-        for width in WIDTHS {
-            let other = (width != base.setting.width).then_some(Refusal::bare(14));
-            for short in [0, 1] {
-                let refusal = (short == 1).then_some(Refusal::with_detail(4, n));
-                let unpack = Call::Unpack { width, level, stream, room: VALUES - short };
-                judge.compare_known(unpack, answer(other.or(refusal), n), &[]);
-            }
-            for index in [0, n] {
-                let refusal = (index == n).then_some(Refusal::bare(11));
-                let probe = Call::Probe { width, level, stream, index };
-                judge.compare_known(probe, answer(other.or(refusal), 0), &[]);
-            }
-        }
+        let other_of = |width: Width| (width != base.setting.width).then_some(Refusal::bare(14));
+
+        let (width, short) = (rng.one_of(&WIDTHS), rng.below(2));
+        let own = other_of(width).or((short == 1).then_some(Refusal::with_detail(4, n)));
+        let unpack = Call::Unpack { width, level, stream, room: (n - short) as usize };
+        judge.compare_known(unpack, answer(own, n), &[]);
+
+        let (width, index) = (rng.one_of(&WIDTHS), rng.one_of(&[0, n]));
+        let own = other_of(width).or((index == n).then_some(Refusal::bare(11)));
+        let probe = Call::Probe { width, level, stream, index };
+        judge.compare_known(probe, answer(own, 0), &[]);
         self.compare_summary(judge, rng, stream);
     }
 
@@ -261,7 +253,7 @@ impl Case<'_> {
             Some(Refusal::bare(1))
         } else if needed > level {
             Some(Refusal::with_detail(7, needed as u64))
-        } else if needed < need(setting.width, setting.mode) || written < needed {
+        } else if needed < setting.need() || written < needed {
             Some(Refusal::bare(8))
         } else {
             None
@@ -289,7 +281,7 @@ impl Case<'_> {
 /// with every need around the levels.
 pub fn streams_with_needs() -> Vec<Vec<u8>> {
     let mut streams = Vec::new();
-    for setting in settings() {
+    for setting in every_setting() {
         for bases in IDS.map(|ids| bases_of(setting, ids)) {
             let right = bases.iter().map(|base| (base, base.need()));
             let any = near_needs().map(|needed| (&bases[0], needed));

@@ -14,11 +14,12 @@ pub trait Operations<P> {
         level: u32,
         mode: u32,
         k: i32,
+        group: u32,
         values: &[P],
         buffer: &mut [u8],
         room: Range<usize>,
     ) -> u64;
-    fn length(level: u32, mode: u32, k: i32, values: &[P]) -> u64;
+    fn length(level: u32, mode: u32, k: i32, group: u32, values: &[P]) -> u64;
     /// Of a stream of either width.
     fn check(level: u32, stream: &[u8]) -> u64;
     fn unpack(level: u32, stream: &[u8], buffer: &mut [P], room: Range<usize>) -> u64;
@@ -31,15 +32,15 @@ pub trait Operations<P> {
 /// rules, which are no operations, and of the summaries, which not all have.
 pub fn by_operations<L: Operations<u32> + Operations<u64>>(call: &Call) -> Option<Outcome> {
     match *call {
-        Call::Pack { level, mode, k, values, room } => {
+        Call::Pack { level, mode, k, group, values, room } => {
             Some(lend(room, |buffer, room| match values {
-                Values::Singles(values) => L::pack(level, mode, k, values, buffer, room),
-                Values::Doubles(values) => L::pack(level, mode, k, values, buffer, room),
+                Values::Singles(values) => L::pack(level, mode, k, group, values, buffer, room),
+                Values::Doubles(values) => L::pack(level, mode, k, group, values, buffer, room),
             }))
         }
-        Call::Length { level, mode, k, values } => Some(Outcome::bare(match values {
-            Values::Singles(values) => L::length(level, mode, k, values),
-            Values::Doubles(values) => L::length(level, mode, k, values),
+        Call::Length { level, mode, k, group, values } => Some(Outcome::bare(match values {
+            Values::Singles(values) => L::length(level, mode, k, group, values),
+            Values::Doubles(values) => L::length(level, mode, k, group, values),
         })),
         Call::Check { level, stream } => {
             Some(Outcome::bare(<L as Operations<u32>>::check(level, stream)))

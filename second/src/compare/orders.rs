@@ -3,7 +3,7 @@
 
 use super::call::{Call, List};
 use super::judge::Judge;
-use super::random::{other_width, XorShift, WIDTHS};
+use super::random::{other_width, XorShift};
 use super::streams::*;
 use super::summaries::{not_numbers, Field, SUMMARY_ID};
 use super::Extent;
@@ -19,6 +19,7 @@ struct Packing {
     level: u32,
     mode: u32,
     k: i32,
+    group: u32,
     list: List,
     room: usize,
 }
@@ -26,18 +27,37 @@ struct Packing {
 type PackingBreak = (u32, fn(&mut Packing));
 
 /// Each breaks the rule of the refusal with its number, in the order of pack.
-const PACKING_BREAKS: [PackingBreak; 17] = [
+const PACKING_BREAKS: [PackingBreak; 34] = [
     (1, |packing| packing.level = 7),
-    (1, |packing| packing.level = 13),
+    (1, |packing| packing.level = 14),
     (1, |packing| packing.level = 0),
     (1, |packing| packing.level = u32::MAX),
     (2, |packing| packing.mode = 3),
     (2, |packing| packing.mode = u32::MAX),
+    // In a call the mode number is without what the group size adds.
+    (2, |packing| (packing.mode, packing.k) = (256, 0)),
+    (2, |packing| (packing.mode, packing.k) = (257, -2)),
+    (2, |packing| (packing.mode, packing.k) = (258, 0)),
+    (2, |packing| packing.group = 0),
+    (2, |packing| packing.group = 1),
+    (2, |packing| packing.group = 31),
+    (2, |packing| packing.group = 33),
+    (2, |packing| packing.group = 64),
+    (2, |packing| packing.group = 127),
+    (2, |packing| packing.group = 129),
+    (2, |packing| packing.group = 256),
+    (2, |packing| packing.group = 1 << 31),
+    (2, |packing| packing.group = u32::MAX),
     (2, |packing| packing.k = 971),
     (2, |packing| packing.k = -1076),
     (2, |packing| (packing.mode, packing.k) = (0, -2)),
     (2, |packing| (packing.mode, packing.k) = (2, -2)),
-    // The need exceeds the level: mode 2 needs 11, width 64 needs 10, mode 1 needs 9.
+    // The need exceeds the level: groups of 128 need 13, mode 2 needs 11, width 64
+    // needs 10, mode 1 needs 9.
+    (2, |packing| (packing.level, packing.group) = (8, 128)),
+    (2, |packing| (packing.level, packing.group) = (10, 128)),
+    (2, |packing| (packing.level, packing.group) = (11, 128)),
+    (2, |packing| (packing.level, packing.group) = (12, 128)),
     (2, |packing| (packing.level, packing.mode, packing.k) = (8, 1, -2)),
     (2, |packing| (packing.level, packing.mode, packing.k) = (8, 2, 0)),
     (2, |packing| (packing.level, packing.mode, packing.k) = (10, 2, 0)),
@@ -52,16 +72,20 @@ fn zeros(width: Width, n: u64) -> List {
 }
 
 pub fn packing(judge: &mut Judge, _: &mut XorShift, _: Extent) {
-    for width in WIDTHS {
-        for (mode, k) in MODES {
-            let list = zeros(width, 3);
-            let sound = Packing { level: HIGHEST_LEVEL, mode, k, list, room: 60 };
-            pack_as_meant(judge, &sound, 0);
-            for (later, second) in PACKING_BREAKS {
-                let mut once = sound.clone();
-                second(&mut once);
-                pack_as_meant(judge, &once, later);
-                for (earlier, first) in PACKING_BREAKS.into_iter().filter(|b| b.0 < later) {
+    for (turn, setting) in every_setting().into_iter().enumerate() {
+        let Setting { width, mode, k, group } = setting;
+        let list = zeros(width, 3);
+        let sound = Packing { level: HIGHEST_LEVEL, mode, k, group, list, room: 60 };
+        pack_as_meant(judge, &sound, 0);
+        for (later, second) in PACKING_BREAKS {
+            let mut once = sound.clone();
+            second(&mut once);
+            pack_as_meant(judge, &once, later);
+            let breaks = PACKING_BREAKS.into_iter().enumerate();
+            for (number, (earlier, first)) in breaks.filter(|(_, b)| b.0 < later) {
+                // A list that is too long takes long to be handed over: each setting has
+                // every sixth of these.
+                if later != 3 || number % 6 == turn % 6 {
                     let mut twice = once.clone();
                     first(&mut twice);
                     pack_as_meant(judge, &twice, earlier);
@@ -73,11 +97,11 @@ pub fn packing(judge: &mut Judge, _: &mut XorShift, _: Extent) {
 
 /// Length does not know refusal 4.
 fn pack_as_meant(judge: &mut Judge, packing: &Packing, number: u32) {
-    let Packing { level, mode, k, ref list, room } = *packing;
+    let Packing { level, mode, k, group, ref list, room } = *packing;
     let values = list.values();
-    judge.compare_meant(Call::Pack { level, mode, k, values, room }, number);
+    judge.compare_meant(Call::Pack { level, mode, k, group, values, room }, number);
     let number = if number == 4 { 0 } else { number };
-    judge.compare_meant(Call::Length { level, mode, k, values }, number);
+    judge.compare_meant(Call::Length { level, mode, k, group, values }, number);
 }
 
 // --------------------------------------------------------------- readers
@@ -128,9 +152,9 @@ type ReadingBreak = (Rule, fn(&mut Reading));
 
 /// Each breaks one rule in a sound reading, or in one whose later rules are
 /// broken.
-const READING_BREAKS: [ReadingBreak; 73] = [
+const READING_BREAKS: [ReadingBreak; 81] = [
     (1, |r| r.level = 7),
-    (1, |r| r.level = 13),
+    (1, |r| r.level = 14),
     (1, |r| r.level = 0),
     (1, |r| r.level = u32::MAX),
     (2, |r| r.x = not_numbers(r.width)[0]),
@@ -143,7 +167,7 @@ const READING_BREAKS: [ReadingBreak; 73] = [
     (6, |r| put(&mut r.stream, MAJOR, 2)),
     (6, |r| put(&mut r.stream, MAJOR, 257)),
     (6, |r| put(&mut r.stream, MAJOR, (1 << 31) + 1)),
-    (7, |r| put(&mut r.stream, NEEDED, 13)),
+    (7, |r| put(&mut r.stream, NEEDED, 14)),
     (7, |r| put(&mut r.stream, NEEDED, 100)),
     (7, |r| put(&mut r.stream, NEEDED, u32::MAX)),
     (7, |r| {
@@ -153,6 +177,10 @@ const READING_BREAKS: [ReadingBreak; 73] = [
     (7, |r| {
         r.level = 11;
         put(&mut r.stream, NEEDED, 12);
+    }),
+    (7, |r| {
+        r.level = 12;
+        put(&mut r.stream, NEEDED, 13);
     }),
     (8, |r| {
         let need = need_of_setting(&r.stream);
@@ -170,7 +198,15 @@ const READING_BREAKS: [ReadingBreak; 73] = [
     (8, |r| put(&mut r.stream, WIDTH, 33)),
     (8, |r| put(&mut r.stream, WIDTH, 96)),
     (8, |r| put(&mut r.stream, MODE, 3)),
+    (8, |r| put(&mut r.stream, MODE, 255)),
+    (8, |r| put(&mut r.stream, MODE, 259)),
+    (8, |r| put(&mut r.stream, MODE, 512)),
+    (8, |r| put(&mut r.stream, MODE, 128)),
+    (8, |r| put(&mut r.stream, MODE, u32::MAX - 255)),
     (8, |r| put(&mut r.stream, MODE, u32::MAX)),
+    // The need is then below that of the group size.
+    (8, |r| r.stream = with(&r.stream, &[(NEEDED, 12), (MODE, 256), (K, 0)])),
+    (8, |r| r.stream = with(&r.stream, &[(NEEDED, 11), (MODE, 258), (K, 0)])),
     // The need is then below that of the mode.
     (8, |r| r.stream = with(&r.stream, &[(NEEDED, 10), (MODE, 2), (K, 0)])),
     (8, |r| r.stream = with(&r.stream, &[(NEEDED, 11), (MODE, 2), (K, 1)])),
@@ -195,21 +231,25 @@ const READING_BREAKS: [ReadingBreak; 73] = [
     (9, |r| r.stream.push(0)),
     (9, |r| add(&mut r.stream, DATA_END, u32::MAX)), // one byte earlier
     // A need above the setting's without a high id, or below 12 with one.
-    (LATE_8, |r| put_other(&mut r.stream, NEEDED, [12, 11])),
-    (LATE_8, |r| put_high_id(&mut r.stream, FIRST_HIGH_ID, 11)),
+    (LATE_8, |r| put_wrong_need(&mut r.stream, 13)),
+    (LATE_8, |r| {
+        put_high_id(&mut r.stream, FIRST_HIGH_ID);
+        put_wrong_need(&mut r.stream, 11);
+    }),
     (LATE_8, |r| {
         let need = need_of_setting(&r.stream);
-        put_high_id(&mut r.stream, u32::MAX, need);
+        put_high_id(&mut r.stream, u32::MAX);
+        put_wrong_need(&mut r.stream, need);
     }),
-    (15, |r| put_high_id(&mut r.stream, FIRST_HIGH_ID, 12)),
-    (15, |r| put_high_id(&mut r.stream, FIRST_HIGH_ID + 1, 12)),
-    (15, |r| put_high_id(&mut r.stream, u32::MAX, 12)),
-    (10, |r| put_width_byte(&mut r.stream, FIRST_GROUP, 255)),
-    (10, |r| put_width_byte(&mut r.stream, FIRST_GROUP, 65)),
-    (10, |r| put_width_byte(&mut r.stream, FIRST_GROUP, 0)),
-    (10, |r| put_width_byte(&mut r.stream, FIRST_GROUP, 9)),
-    (10, |r| put_width_byte(&mut r.stream, SECOND_GROUP, 255)),
-    (10, |r| put_width_byte(&mut r.stream, SECOND_GROUP, 1)),
+    (15, |r| put_high_id(&mut r.stream, FIRST_HIGH_ID)),
+    (15, |r| put_high_id(&mut r.stream, FIRST_HIGH_ID + 1)),
+    (15, |r| put_high_id(&mut r.stream, u32::MAX)),
+    (10, |r| put_width_byte(&mut r.stream, 0, 255)),
+    (10, |r| put_width_byte(&mut r.stream, 0, 65)),
+    (10, |r| put_width_byte(&mut r.stream, 0, 0)),
+    (10, |r| put_width_byte(&mut r.stream, 0, 9)),
+    (10, |r| put_width_byte(&mut r.stream, 1, 255)),
+    (10, |r| put_width_byte(&mut r.stream, 1, 1)),
     (16, |r| append_sides(&mut r.stream, &[(0, vec![])])),
     (16, |r| append_sides(&mut r.stream, &[(7, vec![1, 2])])),
     (16, |r| {
@@ -228,36 +268,42 @@ const READING_BREAKS: [ReadingBreak; 73] = [
     (17, |r| alter_summary(&mut r.stream, |stream, _, part| stream[part].fill(0xFF))),
 ];
 
-/// Where the first two groups of a sound reading begin, counted from the data.
-const FIRST_GROUP: usize = 0;
-const SECOND_GROUP: usize = 1 + 32;
-
 fn add(stream: &mut [u8], order: usize, step: u32) {
     if let Some(old) = number_at(stream, order) {
         put(stream, order, old.wrapping_add(step));
     }
 }
 
-/// Puts the first of two numbers, or where that stands already, the second.
-fn put_other(stream: &mut [u8], order: usize, [first, second]: [u32; 2]) {
-    let stands = number_at(stream, order) == Some(first);
-    put(stream, order, if stands { second } else { first });
+/// Mode and group size of the stream.
+fn mode_of(stream: &[u8]) -> (u32, u32) {
+    mode_and_group(number_at(stream, MODE).unwrap_or(0))
 }
 
-/// What width and mode of the stream need.
+/// What width, mode and group size of the stream need.
 fn need_of_setting(stream: &[u8]) -> u32 {
-    let number = |order| number_at(stream, order).unwrap_or(0);
-    let width = if number(WIDTH) == 64 { WIDTH_64 } else { WIDTH_32 };
-    need(width, number(MODE))
+    let width = if number_at(stream, WIDTH) == Some(64) { WIDTH_64 } else { WIDTH_32 };
+    let (mode, group) = mode_of(stream);
+    Setting { width, mode, k: 0, group }.need()
+}
+
+/// Makes the need another than the stream's, and not below the setting's: puts this
+/// one, or, as no level is above the need of groups of 128, keeps that and makes them
+/// groups of 32.
+fn put_wrong_need(stream: &mut [u8], needed: u32) {
+    match mode_of(stream) {
+        (mode, 128) => put(stream, MODE, mode),
+        _ => put(stream, NEEDED, needed),
+    }
 }
 
 /// Makes the last side part, or a new one, one that must be understood, and
 /// puts the need.
-fn put_high_id(stream: &mut Vec<u8>, id: u32, need: u32) {
+fn put_high_id(stream: &mut Vec<u8>, id: u32) {
     match number_at(stream, SIDES).zip(number_at(stream, DATA_END)) {
         Some((sides @ 1.., table)) => put_at(stream, (table + 12 * (sides - 1)) as usize, id),
         _ => append_sides(stream, &[(id, vec![])]),
     }
+    let need = need_of_setting(stream).max(NEED_OF_HIGH_ID);
     put(stream, NEEDED, need);
 }
 
@@ -274,10 +320,12 @@ fn alter_summary(stream: &mut Vec<u8>, alter: fn(&mut Vec<u8>, usize, Range<usiz
     }
 }
 
-/// Sets the width byte of the group that begins there in the data.
-fn put_width_byte(stream: &mut [u8], group: usize, w: u8) {
+/// Sets the width byte of the first group of a sound reading, number 0, or of the
+/// second: the first has codes of 8 bits.
+fn put_width_byte(stream: &mut [u8], number: u32, w: u8) {
+    let (_, group) = mode_of(stream);
     if let Some(place) = number_at(stream, DATA_PLACE) {
-        stream[place as usize + group] = w;
+        stream[(place + number * (1 + group)) as usize] = w;
     }
 }
 
@@ -371,17 +419,16 @@ pub fn reading(judge: &mut Judge, _: &mut XorShift, _: Extent) {
     }
 }
 
-/// A sound reading for both widths and every mode, of one chunk and of three, with
-/// each of these side parts. The first group, a whole one, holds a code of 8 bits.
+/// A sound reading for every setting, of one chunk or of three, with each of these
+/// side parts. The first group, a whole one, holds a code of 8 bits.
 fn sound_readings(sides: &[Sides]) -> Vec<Reading> {
     let mut readings = Vec::new();
-    for width in WIDTHS {
-        for (mode, k) in MODES {
-            for n in [40, 2049] {
-                let field = Field::of_stream(stream_of_codes(width, mode, k, &sound_codes(n)));
-                readings.extend(sides.iter().map(|sides| sound_reading(&field, sides)));
-            }
-        }
+    for setting in every_setting() {
+        // Each mode has one chunk with the one group size, and three with the other.
+        let one_chunk = (setting.group == 128) == (setting.mode == 1);
+        let n = if one_chunk { setting.values_in_group() + 8 } else { 2049 };
+        let field = Field::of_stream(stream_of_codes(setting, &sound_codes(n)));
+        readings.extend(sides.iter().map(|sides| sound_reading(&field, sides)));
     }
     readings
 }

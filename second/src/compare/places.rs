@@ -4,10 +4,10 @@
 
 use super::call::Call;
 use super::damage::without;
-use super::groups::{codes_of_width, Setting};
+use super::groups::codes_of_width;
 use super::judge::Judge;
 use super::outcome::refused;
-use super::random::{XorShift, WIDTHS};
+use super::random::XorShift;
 use super::streams::*;
 use super::Extent;
 use crate::numbers::{bit_length, Width};
@@ -19,43 +19,44 @@ type Place = (usize, usize);
 
 const FULL_CHUNK: usize = VALUES_IN_CHUNK as usize;
 
-/// The values of two full chunks, and of a short one whose last group is short.
-const THREE_CHUNKS: [usize; 3] = [FULL_CHUNK, FULL_CHUNK, 71];
+/// The values of two full chunks, and of a short one of three groups, of which the
+/// last is short.
+fn three_chunks(setting: Setting) -> [usize; 3] {
+    [FULL_CHUNK, FULL_CHUNK, 2 * setting.values_in_group() + 7]
+}
 
-/// Every group of those three chunks, and of three among seventy.
+/// Every group of those three chunks, and of three among seventy: groups of 32
+/// have all that there are with groups of 128.
 const LEAST_DETAILS: usize = (32 + 32 + 3) + (32 + 32 + 2);
 
 pub fn places(judge: &mut Judge, rng: &mut XorShift, extent: Extent) {
-    for width in WIDTHS {
-        for (mode, k) in MODES {
-            let setting = Setting { width, mode, k };
-            every_byte_altered(judge, rng, extent, setting);
-            one_fault(judge, rng, setting);
-            two_faults(judge, rng, setting);
-            two_chunks(judge, rng, setting);
-            bytes_left_over(judge, rng, setting);
-            chunks_cut(judge, rng, setting);
-            starts_moved(judge, rng, setting);
-        }
-        for (mode, k) in [(1, -2), (2, 0)] {
-            late_chunks(judge, rng, Setting { width, mode, k });
+    for setting in every_setting() {
+        every_byte_altered(judge, rng, extent, setting);
+        one_fault(judge, rng, setting);
+        two_faults(judge, rng, setting);
+        two_chunks(judge, rng, setting);
+        bytes_left_over(judge, rng, setting);
+        chunks_cut(judge, rng, setting);
+        starts_moved(judge, rng, setting);
+        if setting.mode != 0 {
+            late_chunks(judge, rng, setting);
         }
     }
     judge.require_details_of_10(LEAST_DETAILS);
 }
 
-fn groups_in(values: usize) -> usize {
-    values.div_ceil(32)
+fn groups_in(setting: Setting, values: usize) -> usize {
+    values.div_ceil(setting.values_in_group())
 }
 
-fn count_in_group(values: usize, number: usize) -> usize {
-    (values - 32 * number).min(32)
+fn count_in_group(setting: Setting, values: usize, number: usize) -> usize {
+    let size = setting.values_in_group();
+    (values - size * number).min(size)
 }
 
 fn stream_of(setting: Setting, values: &[usize], chunks: Vec<Vec<u8>>) -> Vec<u8> {
-    let Setting { width, mode, k } = setting;
     let n = values.iter().sum::<usize>() as u32;
-    Draft { width, mode, k, n, chunks, sides: vec![] }.stream()
+    Draft { setting, n, chunks, sides: vec![] }.stream()
 }
 
 // ------------------------------------------------------- the readers
@@ -131,14 +132,14 @@ fn compare_named(judge: &mut Judge, rng: &mut XorShift, readers: Readers, bad: &
 /// largest code.
 fn sound_groups(rng: &mut XorShift, setting: Setting, values: usize) -> Vec<Vec<u8>> {
     let sound = |number: usize| {
-        let count = count_in_group(values, number);
+        let count = count_in_group(setting, values, number);
         if number == 1 {
             return group_with_largest_code(rng, setting, count);
         }
         let w = [2, 0, 3, 1, 5][number % 5];
         group(w, &codes_of_width(rng, w, count))
     };
-    (0..groups_in(values)).map(sound).collect()
+    (0..groups_in(setting, values)).map(sound).collect()
 }
 
 fn group_with_largest_code(rng: &mut XorShift, setting: Setting, count: usize) -> Vec<u8> {
@@ -149,8 +150,9 @@ fn group_with_largest_code(rng: &mut XorShift, setting: Setting, count: usize) -
 }
 
 fn every_byte_altered(judge: &mut Judge, rng: &mut XorShift, extent: Extent, setting: Setting) {
-    let chunks = THREE_CHUNKS.map(|values| sound_groups(rng, setting, values).concat());
-    let mut stream = stream_of(setting, &THREE_CHUNKS, chunks.to_vec());
+    let three_chunks = three_chunks(setting);
+    let chunks = three_chunks.map(|values| sound_groups(rng, setting, values).concat());
+    let mut stream = stream_of(setting, &three_chunks, chunks.to_vec());
     let mut place = number_at(&stream, DATA_PLACE).unwrap_or(0) as usize;
     for (chunk, bytes) in chunks.iter().enumerate() {
         for &byte in bytes {
@@ -169,7 +171,9 @@ fn every_byte_altered(judge: &mut Judge, rng: &mut XorShift, extent: Extent, set
 }
 
 fn altered(rng: &mut XorShift, byte: u8, extent: Extent) -> Vec<u8> {
-    let others = vec![byte.wrapping_add(1), byte ^ 0x80, 0, 255, rng.next() as u8];
+    let random = rng.next() as u8;
+    let others =
+        vec![rng.one_of(&[byte.wrapping_add(1), byte ^ 0x80]), rng.one_of(&[0, 255]), random];
     without(byte, others, rng, extent)
 }
 
@@ -204,9 +208,9 @@ impl Fault {
     fn possible(self, setting: Setting, values: usize, number: usize) -> bool {
         match self {
             Fault::WidthByteMissing => number > 0,
-            Fault::PaddingSet => !count_in_group(values, number).is_multiple_of(8),
+            Fault::PaddingSet => !count_in_group(setting, values, number).is_multiple_of(8),
             Fault::AboveLargest => setting.mode == 1,
-            Fault::BytesLeftOver => number + 1 == groups_in(values),
+            Fault::BytesLeftOver => number + 1 == groups_in(setting, values),
             _ => true,
         }
     }
@@ -249,10 +253,10 @@ fn one_fault_of(setting: Setting, values: usize, number: usize) -> Fault {
 
 /// A chunk of zeros, but for these groups, in rising order.
 fn chunk_with(setting: Setting, values: usize, faults: &[(usize, Fault)]) -> Vec<u8> {
-    let mut chunk = vec![0; groups_in(values)];
+    let mut chunk = vec![0; groups_in(setting, values)];
     // From the last on: then each still lies at the byte of its number.
     for &(number, fault) in faults.iter().rev() {
-        let count = count_in_group(values, number);
+        let count = count_in_group(setting, values, number);
         chunk.splice(number..number + 1, fault.group(setting, count));
         match fault {
             Fault::WidthByteMissing => chunk.truncate(number),
@@ -291,11 +295,12 @@ fn compare_faults(
 
 /// Every group of three chunks with every fault.
 fn one_fault(judge: &mut Judge, rng: &mut XorShift, setting: Setting) {
-    for (chunk, values) in THREE_CHUNKS.into_iter().enumerate() {
-        for number in 0..groups_in(values) {
+    let three_chunks = three_chunks(setting);
+    for (chunk, values) in three_chunks.into_iter().enumerate() {
+        for number in 0..groups_in(setting, values) {
             for fault in faults_of(setting, values, number) {
                 let faults = [((chunk, number), fault)];
-                compare_faults(judge, rng, setting, &THREE_CHUNKS, &faults);
+                compare_faults(judge, rng, setting, &three_chunks, &faults);
             }
         }
     }
@@ -303,13 +308,18 @@ fn one_fault(judge: &mut Judge, rng: &mut XorShift, setting: Setting) {
 
 /// Two groups of a chunk with every two faults, so in both orders.
 fn two_faults(judge: &mut Judge, rng: &mut XorShift, setting: Setting) {
-    for (chunk, values) in THREE_CHUNKS.into_iter().enumerate() {
-        let pairs = [(0, 1), (0, 2), (1, 2), (2, 5), (7, 20), (0, 31), (30, 31)];
-        for (first, second) in pairs.into_iter().filter(|pair| pair.1 < groups_in(values)) {
+    let three_chunks = three_chunks(setting);
+    let pairs = match setting.group {
+        32 => [(0, 1), (0, 2), (1, 2), (2, 5), (7, 20), (0, 31), (30, 31)],
+        _ => [(0, 1), (0, 2), (1, 2), (2, 5), (3, 4), (0, 7), (6, 7)],
+    };
+    for (chunk, values) in three_chunks.into_iter().enumerate() {
+        let groups = groups_in(setting, values);
+        for (first, second) in pairs.into_iter().filter(|pair| pair.1 < groups) {
             for one in faults_of(setting, values, first) {
                 for other in faults_of(setting, values, second) {
                     let faults = [((chunk, first), one), ((chunk, second), other)];
-                    compare_faults(judge, rng, setting, &THREE_CHUNKS, &faults);
+                    compare_faults(judge, rng, setting, &three_chunks, &faults);
                 }
             }
         }
@@ -318,11 +328,13 @@ fn two_faults(judge: &mut Judge, rng: &mut XorShift, setting: Setting) {
 
 /// Two bad chunks, the earlier one in a later group: it is the one named.
 fn two_chunks(judge: &mut Judge, rng: &mut XorShift, setting: Setting) {
-    for (first, second) in [((0, 31), (1, 0)), ((0, 5), (2, 2)), ((1, 2), (2, 0))] {
-        for one in faults_of(setting, THREE_CHUNKS[first.0], first.1) {
-            for other in faults_of(setting, THREE_CHUNKS[second.0], second.1) {
+    let three_chunks = three_chunks(setting);
+    let last = groups_in(setting, FULL_CHUNK) - 1;
+    for (first, second) in [((0, last), (1, 0)), ((0, 5), (2, 2)), ((1, 2), (2, 0))] {
+        for one in faults_of(setting, three_chunks[first.0], first.1) {
+            for other in faults_of(setting, three_chunks[second.0], second.1) {
                 let faults = [(first, one), (second, other)];
-                compare_faults(judge, rng, setting, &THREE_CHUNKS, &faults);
+                compare_faults(judge, rng, setting, &three_chunks, &faults);
             }
         }
     }
@@ -332,16 +344,16 @@ fn two_chunks(judge: &mut Judge, rng: &mut XorShift, setting: Setting) {
 /// 2,047, and two groups of the last chunk that a stream can have.
 fn late_chunks(judge: &mut Judge, rng: &mut XorShift, setting: Setting) {
     let mut seventy = [FULL_CHUNK; 70];
-    seventy[69] = 40;
+    seventy[69] = setting.values_in_group() + 8;
     for chunk in [64, 68, 69] {
-        for number in 0..groups_in(seventy[chunk]) {
+        for number in 0..groups_in(setting, seventy[chunk]) {
             let fault = one_fault_of(setting, seventy[chunk], number);
             let faults = [((chunk, number), fault)];
             compare_faults(judge, rng, setting, &seventy, &faults);
         }
     }
     let most = vec![FULL_CHUNK; MOST_VALUES as usize / FULL_CHUNK];
-    for number in [0, 31] {
+    for number in [0, groups_in(setting, FULL_CHUNK) - 1] {
         let faults = [((most.len() - 1, number), Fault::NotSmallest)];
         compare_faults(judge, rng, setting, &most, &faults);
     }
@@ -352,7 +364,10 @@ fn late_chunks(judge: &mut Judge, rng: &mut XorShift, setting: Setting) {
 /// Bytes behind the last group of a full chunk, and of last chunks of one
 /// group and more, the last of which is short or whole.
 fn bytes_left_over(judge: &mut Judge, rng: &mut XorShift, setting: Setting) {
-    let lengths = [1, 7, 31, 32, 33, 40, 64, 96, 992, 993, 1000, 1023, 1024];
+    let lengths = match setting.group {
+        32 => [1, 7, 31, 32, 33, 40, 64, 96, 992, 993, 1000, 1023, 1024],
+        _ => [1, 7, 32, 127, 128, 129, 160, 256, 384, 896, 897, 1023, 1024],
+    };
     for values in lengths.map(|last| [FULL_CHUNK, last]) {
         let chunks = values.map(|values| sound_groups(rng, setting, values).concat());
         for chunk in [0, 1] {
@@ -361,7 +376,7 @@ fn bytes_left_over(judge: &mut Judge, rng: &mut XorShift, setting: Setting) {
                 let mut chunks = chunks.to_vec();
                 chunks[chunk].extend(bytes);
                 let stream = stream_of(setting, &values, chunks);
-                let last = groups_in(values[chunk]) - 1;
+                let last = groups_in(setting, values[chunk]) - 1;
                 let readers = Readers { width: setting.width, stream: &stream };
                 compare_named(judge, rng, readers, &[(chunk, last)]);
             }
@@ -372,7 +387,8 @@ fn bytes_left_over(judge: &mut Judge, rng: &mut XorShift, setting: Setting) {
 /// Chunks that end before a group's width byte, right behind it, and before
 /// the group's last byte.
 fn chunks_cut(judge: &mut Judge, rng: &mut XorShift, setting: Setting) {
-    let groups = THREE_CHUNKS.map(|values| sound_groups(rng, setting, values));
+    let three_chunks = three_chunks(setting);
+    let groups = three_chunks.map(|values| sound_groups(rng, setting, values));
     for (chunk, of_chunk) in groups.iter().enumerate() {
         let mut start = 0;
         for (number, bytes) in of_chunk.iter().enumerate() {
@@ -383,7 +399,7 @@ fn chunks_cut(judge: &mut Judge, rng: &mut XorShift, setting: Setting) {
             for end in ends {
                 let mut chunks = groups.each_ref().map(|groups| groups.concat());
                 chunks[chunk].truncate(end);
-                let stream = stream_of(setting, &THREE_CHUNKS, chunks.to_vec());
+                let stream = stream_of(setting, &three_chunks, chunks.to_vec());
                 let readers = Readers { width: setting.width, stream: &stream };
                 compare_named(judge, rng, readers, &[(chunk, number)]);
             }
@@ -399,13 +415,14 @@ fn starts_moved(judge: &mut Judge, rng: &mut XorShift, setting: Setting) {
     let stream = stream_with(setting, &values, &[]);
     // A group missing is the one after the last byte; bytes left over count
     // for the last group.
-    let first_bad = |bytes: usize| bytes.min(31);
+    let groups = groups_in(setting, FULL_CHUNK);
+    let first_bad = |bytes: usize| bytes.min(groups - 1);
     for chunk in [0, 1] {
-        for bytes in (1..64).filter(|&bytes| bytes != 32) {
-            let start = (32 * chunk + bytes) as u32;
+        for bytes in (1..2 * groups).filter(|&bytes| bytes != groups) {
+            let start = (groups * chunk + bytes) as u32;
             let stream = with(&stream, &[(STARTS + chunk + 1, start)]);
             let readers = Readers { width: setting.width, stream: &stream };
-            let bad = [(chunk, first_bad(bytes)), (chunk + 1, first_bad(64 - bytes))];
+            let bad = [(chunk, first_bad(bytes)), (chunk + 1, first_bad(2 * groups - bytes))];
             compare_named(judge, rng, readers, &bad);
         }
     }
@@ -416,14 +433,12 @@ fn starts_moved(judge: &mut Judge, rng: &mut XorShift, setting: Setting) {
 /// A stream for each group of three chunks, in which that group is bad.
 pub fn streams_with_bad_group() -> Vec<Vec<u8>> {
     let mut streams = Vec::new();
-    for width in WIDTHS {
-        for (mode, k) in [(1, -2), (2, 0)] {
-            let setting = Setting { width, mode, k };
-            for (chunk, values) in THREE_CHUNKS.into_iter().enumerate() {
-                for number in 0..groups_in(values) {
-                    let fault = one_fault_of(setting, values, number);
-                    streams.push(stream_with(setting, &THREE_CHUNKS, &[((chunk, number), fault)]));
-                }
+    for setting in every_setting().into_iter().filter(|setting| setting.mode != 0) {
+        let three_chunks = three_chunks(setting);
+        for (chunk, values) in three_chunks.into_iter().enumerate() {
+            for number in 0..groups_in(setting, values) {
+                let fault = one_fault_of(setting, values, number);
+                streams.push(stream_with(setting, &three_chunks, &[((chunk, number), fault)]));
             }
         }
     }

@@ -10,6 +10,9 @@ impl Bits for u64 {}
 
 pub const WIDTHS: [Width; 2] = [WIDTH_32, WIDTH_64];
 
+/// The group sizes.
+pub const SIZES: [u32; 2] = [32, 128];
+
 pub fn other_width(width: Width) -> Width {
     if width == WIDTH_32 {
         WIDTH_64
@@ -185,7 +188,11 @@ pub fn some_list<P: Bits>(rng: &mut XorShift, k: i32, n: usize) -> Vec<P> {
 pub fn some_length(rng: &mut XorShift) -> usize {
     match rng.below(8) {
         0..=2 => rng.below(70) as usize,
-        3 => rng.one_of(&[0, 1, 31, 32, 33, 64, 1023, 1024, 1025, 2047, 2048, 2049]),
+        3 => {
+            let of_groups = rng.one_of(&[31, 32, 33, 64, 127, 128, 129, 160, 256, 896]);
+            let of_chunks = rng.one_of(&[1023, 1024, 1025, 2047, 2048, 2049]);
+            rng.one_of(&[0, 1, of_groups, of_groups, of_chunks, of_chunks])
+        }
         4 => rng.below(3000) as usize,
         _ => rng.below(300) as usize,
     }

@@ -9,15 +9,15 @@ use crate::{Answer, Refusal};
 
 pub fn by_reference(call: &Call) -> Outcome {
     match *call {
-        Call::Pack { level, mode, k, values, room } => lend(room, |buffer, room| {
+        Call::Pack { level, mode, k, group, values, room } => lend(room, |buffer, room| {
             let output = &mut buffer[room];
             answered(match values {
-                Values::Singles(values) => stream::pack(level, mode, k, values, output),
-                Values::Doubles(values) => stream::pack(level, mode, k, values, output),
+                Values::Singles(values) => stream::pack(level, mode, k, group, values, output),
+                Values::Doubles(values) => stream::pack(level, mode, k, group, values, output),
             })
         }),
-        Call::Length { level, mode, k, values } => {
-            Outcome::bare(answered(length(level, mode, k, values)))
+        Call::Length { level, mode, k, group, values } => {
+            Outcome::bare(answered(length(level, mode, k, group, values)))
         }
         Call::Unpack { width, level, stream, room } => unpacked(width, level, stream, room),
         Call::Check { level, stream } => Outcome::bare(answered(stream::check(level, stream))),
@@ -49,10 +49,10 @@ pub fn by_reference(call: &Call) -> Outcome {
     }
 }
 
-pub fn length(level: u32, mode: u32, k: i32, values: Values) -> Result<u64, Refusal> {
+pub fn length(level: u32, mode: u32, k: i32, group: u32, values: Values) -> Answer {
     match values {
-        Values::Singles(values) => stream::length(level, mode, k, values),
-        Values::Doubles(values) => stream::length(level, mode, k, values),
+        Values::Singles(values) => stream::length(level, mode, k, group, values),
+        Values::Doubles(values) => stream::length(level, mode, k, group, values),
     }
 }
 
@@ -117,11 +117,11 @@ fn tolerance_restored(width: Width, k: i32, code: u64) -> Result<(u64, u64), Ref
 }
 
 /// The packed stream of a list, where pack does not refuse.
-pub fn packed(level: u32, mode: u32, k: i32, values: Values) -> Option<Vec<u8>> {
-    let mut output = vec![0; length(level, mode, k, values).ok()? as usize];
+pub fn packed(level: u32, mode: u32, k: i32, group: u32, values: Values) -> Option<Vec<u8>> {
+    let mut output = vec![0; length(level, mode, k, group, values).ok()? as usize];
     match values {
-        Values::Singles(values) => stream::pack(level, mode, k, values, &mut output),
-        Values::Doubles(values) => stream::pack(level, mode, k, values, &mut output),
+        Values::Singles(values) => stream::pack(level, mode, k, group, values, &mut output),
+        Values::Doubles(values) => stream::pack(level, mode, k, group, values, &mut output),
     }
     .ok()?;
     Some(output)

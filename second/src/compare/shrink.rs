@@ -3,7 +3,7 @@
 
 use super::call::{Call, List, Values};
 use super::reference;
-use super::streams::{number_at, stated_count, K, MODE, WIDTH};
+use super::streams::{mode_and_group, number_at, stated_count, K, MODE, WIDTH};
 use crate::numbers::Width;
 use crate::stream::HIGHEST_LEVEL;
 use crate::summary::test_summary;
@@ -20,8 +20,9 @@ const COST_OF_CALL: usize = 200;
 pub fn with_shortest(call: &Call, differs: &dyn Fn(&Call) -> bool, then: impl FnOnce(&Call)) {
     let shrinker = Shrinker { differs, budget: Cell::new(BUDGET) };
     match *call {
-        Call::Pack { level, mode, k, values, .. } | Call::Length { level, mode, k, values } => {
-            let length = reference::length(level, mode, k, values).ok();
+        Call::Pack { level, mode, k, group, values, .. }
+        | Call::Length { level, mode, k, group, values } => {
+            let length = reference::length(level, mode, k, group, values).ok();
             let list = shrinker.shorter_list(values, &|values| {
                 shrinker.differs(&with_values(call, length, values))
             });
@@ -77,17 +78,17 @@ impl Shrinker<'_> {
     }
 
     fn packed_shorter(&self, stream: &[u8], holds: &dyn Fn(&[u8]) -> bool) -> Option<Vec<u8>> {
-        let mode = number_at(stream, MODE)?;
+        let (mode, group) = mode_and_group(number_at(stream, MODE)?);
         let k = number_at(stream, K)? as i32;
         let width = Width::numbered(number_at(stream, WIDTH)?)?;
         let n = stated_count(stream) as usize;
-        if n > stream.len() * 32 {
+        if n > stream.len() * 128 {
             return None; // no such stream can be read
         }
         let list = reference::list_of(width, stream, n)?;
         let summarized = test_summary(HIGHEST_LEVEL, stream).is_ok();
         let packed = |values: Values| {
-            let plain = reference::packed(HIGHEST_LEVEL, mode, k, values);
+            let plain = reference::packed(HIGHEST_LEVEL, mode, k, group, values);
             plain.and_then(|plain| match summarized {
                 true => reference::summarized(&plain),
                 false => Some(plain),
@@ -137,12 +138,14 @@ impl Shrinker<'_> {
 /// length as it was.
 fn with_values<'a>(call: &Call, length_before: Option<u64>, values: Values<'a>) -> Call<'a> {
     match *call {
-        Call::Pack { level, mode, k, room, .. } => {
-            let length = reference::length(level, mode, k, values).ok();
+        Call::Pack { level, mode, k, group, room, .. } => {
+            let length = reference::length(level, mode, k, group, values).ok();
             let room = moved(room, length_before, length);
-            Call::Pack { level, mode, k, values, room }
+            Call::Pack { level, mode, k, group, values, room }
         }
-        Call::Length { level, mode, k, .. } => Call::Length { level, mode, k, values },
+        Call::Length { level, mode, k, group, .. } => {
+            Call::Length { level, mode, k, group, values }
+        }
         _ => unreachable!("a call without values"),
     }
 }

@@ -1,7 +1,9 @@
 //! Streams made up by hand: a sound header and sound tables around any bytes,
 //! and single numbers put in place of others.
 
-use crate::numbers::{bit_length, Width};
+pub use super::random::SIZES;
+use super::random::WIDTHS;
+use crate::numbers::{bit_length, Tolerance, Width};
 use crate::stream::HIGHEST_LEVEL;
 
 /// The header numbers, by their order.
@@ -59,22 +61,75 @@ pub fn stated_count(stream: &[u8]) -> u64 {
 /// Every mode, with a k that is allowed in it.
 pub const MODES: [(u32, i32); 3] = [(0, 0), (1, -2), (2, 0)];
 
+/// What groups of 128 add to the mode number of a header.
+const ADDED_FOR_128: u32 = 256;
+
 /// Every level that is known.
-pub const LEVELS: [u32; 5] = [8, 9, 10, 11, 12];
+pub const LEVELS: [u32; 6] = [8, 9, 10, 11, 12, 13];
 
 /// The first id that must be understood, and what such ids need.
 pub const FIRST_HIGH_ID: u32 = 1 << 31;
 pub const NEED_OF_HIGH_ID: u32 = 12;
 
-/// The need of a stream without high ids. Mode 2 needs 11; else width 64 needs
-/// 10; else mode 1 needs 9; else 8.
-pub fn need(width: Width, mode: u32) -> u32 {
-    match (width.bits(), mode) {
-        (_, 2) => 11,
-        (64, _) => 10,
-        (_, 1) => 9,
-        _ => 8,
+/// Width, mode, k and group size of a stream.
+#[derive(Clone, Copy)]
+pub struct Setting {
+    pub width: Width,
+    pub mode: u32,
+    pub k: i32,
+    pub group: u32,
+}
+
+impl Setting {
+    /// The need of a stream without high ids. Groups of 128 need 13; else mode 2
+    /// needs 11; else width 64 needs 10; else mode 1 needs 9; else 8.
+    pub fn need(self) -> u32 {
+        match (self.group, self.width.bits(), self.mode) {
+            (128, _, _) => 13,
+            (_, _, 2) => 11,
+            (_, 64, _) => 10,
+            (_, _, 1) => 9,
+            _ => 8,
+        }
     }
+
+    /// The mode as a header has it: 256 is added for groups of 128.
+    pub fn mode_number(self) -> u32 {
+        self.mode + if self.group == 128 { ADDED_FOR_128 } else { 0 }
+    }
+
+    /// The largest code: in mode 1 that of the largest u.
+    pub fn largest_code(self) -> u64 {
+        let tolerance = Tolerance::allowed(self.width, self.k).filter(|_| self.mode == 1);
+        match tolerance {
+            Some(tolerance) => 2 * tolerance.largest_magnitude_code() + 1,
+            None => u64::MAX >> (64 - self.width.bits()),
+        }
+    }
+
+    /// How many values a group has at most.
+    pub fn values_in_group(self) -> usize {
+        self.group as usize
+    }
+}
+
+/// Mode and group size of a header's mode number.
+pub fn mode_and_group(number: u32) -> (u32, u32) {
+    match number {
+        ADDED_FOR_128.. => (number - ADDED_FOR_128, 128),
+        _ => (number, 32),
+    }
+}
+
+/// Every mode of both widths, with both group sizes.
+pub fn every_setting() -> Vec<Setting> {
+    let mut settings = Vec::new();
+    for width in WIDTHS {
+        for (mode, k) in MODES {
+            settings.extend(SIZES.map(|group| Setting { width, mode, k, group }));
+        }
+    }
+    settings
 }
 
 /// A side part: its id and its bytes.
@@ -83,9 +138,7 @@ pub type Side = (u32, Vec<u8>);
 /// A stream with sound header and tables, whatever its chunks hold.
 #[derive(Clone)]
 pub struct Draft {
-    pub width: Width,
-    pub mode: u32,
-    pub k: i32,
+    pub setting: Setting,
     pub n: u32,
     pub chunks: Vec<Vec<u8>>,
     pub sides: Vec<Side>,
@@ -93,14 +146,14 @@ pub struct Draft {
 
 impl Draft {
     pub fn stream(&self) -> Vec<u8> {
-        let need = need(self.width, self.mode);
+        let setting = self.setting;
         let c = self.chunks.len() as u32;
         let data = self.chunks.concat();
         let place = 48 + 4 * c;
         let end = place + data.len() as u32;
         let sides = self.sides.len() as u32;
-        let mut numbers = vec![1, HIGHEST_LEVEL, need];
-        numbers.extend([self.width.bits(), self.mode, self.k as u32]);
+        let mut numbers = vec![1, HIGHEST_LEVEL, setting.need()];
+        numbers.extend([setting.width.bits(), setting.mode_number(), setting.k as u32]);
         numbers.extend([self.n, c, 48, place, sides, end]);
         numbers.extend(starts(&self.chunks));
         let mut stream = bytes_of(&numbers);
@@ -111,18 +164,19 @@ impl Draft {
 }
 
 /// A sound stream of these codes, if all of them are allowed.
-pub fn stream_of_codes(width: Width, mode: u32, k: i32, codes: &[u64]) -> Vec<u8> {
-    let (n, chunks) = (codes.len() as u32, chunks_of_codes(codes));
-    Draft { width, mode, k, n, chunks, sides: vec![] }.stream()
+pub fn stream_of_codes(setting: Setting, codes: &[u64]) -> Vec<u8> {
+    let (n, chunks) = (codes.len() as u32, chunks_of_codes(setting, codes));
+    Draft { setting, n, chunks, sides: vec![] }.stream()
 }
 
 /// The chunks of these codes, each group with the smallest width.
-pub fn chunks_of_codes(codes: &[u64]) -> Vec<Vec<u8>> {
+fn chunks_of_codes(setting: Setting, codes: &[u64]) -> Vec<Vec<u8>> {
     let smallest = |codes: &[u64]| {
         let largest = codes.iter().copied().max().unwrap_or(0);
         group(bit_length(largest) as u8, codes)
     };
-    let groups = |chunk: &[u64]| chunk.chunks(32).flat_map(smallest).collect();
+    let size = setting.values_in_group();
+    let groups = |chunk: &[u64]| chunk.chunks(size).flat_map(smallest).collect();
     codes.chunks(VALUES_IN_CHUNK as usize).map(groups).collect()
 }
 
@@ -137,11 +191,13 @@ pub fn bytes_of(numbers: &[u32]) -> Vec<u8> {
 }
 
 /// Appends a sound side table and its parts to a stream that ends with its
-/// data, and puts their count in the header, and their need if an id is high.
+/// data, and puts their count in the header, and their need if an id is high and
+/// the setting does not need more.
 pub fn append_sides(stream: &mut Vec<u8>, sides: &[Side]) {
     put(stream, SIDES, sides.len() as u32);
     if sides.iter().any(|(id, _)| *id >= FIRST_HIGH_ID) {
-        put(stream, NEEDED, NEED_OF_HIGH_ID);
+        let needed = number_at(stream, NEEDED).unwrap_or(0);
+        put(stream, NEEDED, needed.max(NEED_OF_HIGH_ID));
     }
     let mut place = stream.len() + 12 * sides.len();
     for (id, bytes) in sides {

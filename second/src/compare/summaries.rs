@@ -2,7 +2,6 @@
 //! made by the language's own floats, where the reference goes by whole numbers.
 
 use super::call::List;
-use super::groups::Setting;
 use super::random::{allowed_k, XorShift, WIDTHS};
 use super::reference;
 use super::streams::*;
@@ -12,13 +11,15 @@ use crate::Refusal;
 
 pub const SUMMARY_ID: u32 = 1;
 
-/// Every mode of both widths, and mode 1 also with the k that alters no value.
+/// Every mode of both widths with both group sizes, and mode 1 also with the k that
+/// alters no value.
 pub fn settings() -> Vec<Setting> {
-    let of_width = |width: Width| {
-        let exact = (1, *allowed_k(width).start());
-        MODES.into_iter().chain([exact]).map(move |(mode, k)| Setting { width, mode, k })
+    let exact = |group: u32| {
+        WIDTHS.map(|width| Setting { width, mode: 1, k: *allowed_k(width).start(), group })
     };
-    WIDTHS.into_iter().flat_map(of_width).collect()
+    let mut settings = every_setting();
+    settings.extend(SIZES.into_iter().flat_map(exact));
+    settings
 }
 
 // -------------------------------------------------------------- floats
@@ -151,7 +152,7 @@ pub fn chunk_of(rng: &mut XorShift, palette: &[u64], count: usize) -> Vec<u64> {
 
 /// Chunks of some palettes, and now and then of a list of any kind.
 pub fn some_chunks(rng: &mut XorShift, setting: Setting, n: usize) -> Vec<u64> {
-    let Setting { width, mode, k } = setting;
+    let Setting { width, mode, k, .. } = setting;
     let palettes = palettes(width);
     let mut patterns = some_patterns_of_mode(rng, width, mode, k, n);
     for chunk in patterns.chunks_mut(VALUES_IN_CHUNK as usize) {
@@ -175,9 +176,9 @@ pub struct Field {
 impl Field {
     /// The field of a list packed at a level, which the setting must allow.
     pub fn packed(setting: Setting, level: u32, patterns: Vec<u64>) -> Field {
-        let Setting { width, mode, k } = setting;
+        let Setting { width, mode, k, group } = setting;
         let list = List::of(width, patterns);
-        let packed = reference::packed(level, mode, k, list.values());
+        let packed = reference::packed(level, mode, k, group, list.values());
         Field::of_stream(packed.expect("an allowed setting"))
     }
 

@@ -2,47 +2,54 @@
 
 use super::damage::{small_streams, some_sides};
 use super::judge::Judge;
-use super::random::{XorShift, WIDTHS};
+use super::random::XorShift;
 use super::readings::read;
 use super::streams::*;
 use super::Extent;
-use crate::numbers::{Width, WIDTH_32};
+use crate::numbers::WIDTH_32;
 use crate::stream::HIGHEST_LEVEL;
 
 // ---------------------------------------------------------- chunk tables
 
 /// Three chunks of small groups: 1,024 zeros, as many with one code of 3 bits,
 /// and one value; now and then with side parts.
-fn three_chunks(width: Width, mode: u32, sides: Vec<Side>) -> Vec<u8> {
-    let mut middle = vec![0; 31];
-    let mut codes = [0; 32];
+fn three_chunks(setting: Setting, sides: Vec<Side>) -> Vec<u8> {
+    let size = setting.values_in_group();
+    let groups = 1024 / size;
+    let mut middle = vec![0; groups - 1];
+    let mut codes = vec![0; size];
     codes[9] = 4;
     middle.extend(group(3, &codes));
-    let k = if mode == 1 { -2 } else { 0 };
-    let chunks = vec![vec![0; 32], middle, group(2, &[3])];
-    Draft { width, mode, k, n: 2049, chunks, sides }.stream()
+    let chunks = vec![vec![0; groups], middle, group(2, &[3])];
+    Draft { setting, n: 2049, chunks, sides }.stream()
 }
 
 /// The starts of three chunks in every combination of numbers near a limit:
 /// swapped, equal, beyond the data, off by one, and such that adding the data's
 /// place passes 2^32.
 pub fn chunk_tables(judge: &mut Judge, rng: &mut XorShift, extent: Extent) {
-    let stream = three_chunks(WIDTH_32, 0, vec![]);
-    let starts = some_starts(&stream);
+    let streams = SIZES.map(|group| {
+        let setting = Setting { width: WIDTH_32, mode: 0, k: 0, group };
+        three_chunks(setting, vec![])
+    });
     let one_in = if extent == Extent::Quick { 10 } else { 1 };
-    for &first in &starts {
-        for &second in &starts {
-            for &third in &starts {
+    let places = 0..some_starts(&streams[0]).len();
+    for first in places.clone() {
+        for second in places.clone() {
+            for third in places.clone() {
                 if rng.chance(one_in) {
+                    let stream = &streams[rng.below(2) as usize];
+                    let [first, second, third] =
+                        [first, second, third].map(|place| some_starts(stream)[place]);
                     let numbers = [(12, first), (13, second), (14, third)];
-                    read(judge, HIGHEST_LEVEL, &with(&stream, &numbers));
+                    read(judge, HIGHEST_LEVEL, &with(stream, &numbers));
                 }
             }
         }
     }
     for _ in 0..extent.rounds(500) {
         let sides = if rng.chance(2) { some_sides(rng) } else { vec![] };
-        let stream = three_chunks(rng.one_of(&WIDTHS), rng.below(3) as u32, sides);
+        let stream = three_chunks(rng.one_of(&every_setting()), sides);
         let (order, start) = (rng.one_of(&[12, 13, 14]), rng.one_of(&some_starts(&stream)));
         read(judge, HIGHEST_LEVEL, &with(&stream, &[(order, start)]));
     }
@@ -73,19 +80,16 @@ fn some_starts(stream: &[u8]) -> [u32; 14] {
 
 /// Chunks without data, and data without chunks.
 fn empty_data(judge: &mut Judge) {
-    for width in WIDTHS {
-        for (mode, k) in MODES {
-            let draft = |n, chunks: Vec<Vec<u8>>| {
-                Draft { width, mode, k, n, chunks, sides: vec![] }.stream()
-            };
-            read(judge, HIGHEST_LEVEL, &draft(1, vec![vec![]]));
-            read(judge, HIGHEST_LEVEL, &draft(1025, vec![vec![], vec![]]));
-            read(judge, HIGHEST_LEVEL, &draft(1025, vec![vec![0; 32], vec![]]));
-            let mut stream = draft(0, vec![]);
-            stream.push(0);
-            put(&mut stream, DATA_END, 49);
-            read(judge, HIGHEST_LEVEL, &stream);
-        }
+    for setting in every_setting() {
+        let draft = |n, chunks: Vec<Vec<u8>>| Draft { setting, n, chunks, sides: vec![] }.stream();
+        let groups = 1024 / setting.values_in_group();
+        read(judge, HIGHEST_LEVEL, &draft(1, vec![vec![]]));
+        read(judge, HIGHEST_LEVEL, &draft(1025, vec![vec![], vec![]]));
+        read(judge, HIGHEST_LEVEL, &draft(1025, vec![vec![0; groups], vec![]]));
+        let mut stream = draft(0, vec![]);
+        stream.push(0);
+        put(&mut stream, DATA_END, 49);
+        read(judge, HIGHEST_LEVEL, &stream);
     }
 }
 
@@ -119,14 +123,15 @@ pub fn side_parts(judge: &mut Judge, rng: &mut XorShift, extent: Extent) {
     let streams = small_streams();
     let plain = streams.iter().filter(|stream| number_at(stream, SIDES) == Some(0));
     for stream in plain {
-        let needing_12 = with(stream, &[(NEEDED, NEED_OF_HIGH_ID)]);
+        let needed = number_at(stream, NEEDED).unwrap_or(0);
+        let needing_12 = with(stream, &[(NEEDED, needed.max(NEED_OF_HIGH_ID))]);
         // The third id of the second is the first that must be understood.
         for (stream, first_id) in [(stream, 3), (&needing_12, FIRST_HIGH_ID - 4)] {
             sound_parts(judge, stream, first_id);
             altered_entries(judge, stream, first_id, extent);
         }
         sums_past_32_bits(judge, stream);
-        for _ in 0..extent.rounds(60) {
+        for _ in 0..extent.rounds(40) {
             random_parts(judge, rng, stream);
         }
     }

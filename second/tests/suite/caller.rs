@@ -8,7 +8,8 @@ use second::numbers::{WIDTH_32, WIDTH_64};
 use std::io;
 
 const PROBE: Call = Call::Probe { width: WIDTH_32, level: 10, stream: &[7, 8], index: 5 };
-const LENGTH: Call = Call::Length { level: 9, mode: 1, k: -3, values: Values::Doubles(&[258]) };
+const LENGTH: Call =
+    Call::Length { level: 9, mode: 1, k: -3, group: 128, values: Values::Doubles(&[258]) };
 
 /// The elements lent to a call that writes one pattern.
 const LENT: usize = 1 + 2 * MARGIN;
@@ -30,7 +31,7 @@ fn exchanged(call: &Call, answer: &[u8]) -> (Vec<u8>, io::Result<Outcome>) {
 fn a_call_is_sent_as_it_is_written_down() {
     let (sent, outcome) = exchanged(&LENGTH, &head_of_answer(77, 0));
     let mut wanted = [b"length64".to_vec(), vec![0; 16]].concat();
-    wanted.extend([9u32, 1, 3u32.wrapping_neg(), 0].map(u32::to_le_bytes).concat());
+    wanted.extend([9u32, 1, 3u32.wrapping_neg(), 128, 0, 0].map(u32::to_le_bytes).concat());
     wanted.extend([0u64, 1, 0, 0, 0, 258].map(u64::to_le_bytes).concat());
     assert_eq!(sent, wanted);
     assert_eq!(outcome.unwrap(), Outcome::bare(77));
@@ -42,13 +43,13 @@ fn a_buffer_is_sent_whole_and_taken_whole() {
     let bytes: Vec<u8> = after.iter().flat_map(|element| element.to_le_bytes()).collect();
     let answer = [head_of_answer(1, bytes.len() as u64), bytes].concat();
     let (sent, outcome) = exchanged(&PROBE, &answer);
-    assert_eq!(sent.len(), 80 + 2 + 4 * LENT);
-    assert_eq!(sent[40..80], [5u64, 2, 64, 1, 64].map(u64::to_le_bytes).concat());
+    assert_eq!(sent.len(), 88 + 2 + 4 * LENT);
+    assert_eq!(sent[48..88], [5u64, 2, 64, 1, 64].map(u64::to_le_bytes).concat());
     assert_eq!(outcome.unwrap(), Outcome { answer: 1, lent: Lent::Singles(after.clone()) });
 
     // Where nothing has changed, the buffer is as it was sent.
     let (sent, outcome) = exchanged(&PROBE, &head_of_answer(11 << 32, 0));
-    for (element, bytes) in after.iter_mut().zip(sent[82..].chunks_exact(4)) {
+    for (element, bytes) in after.iter_mut().zip(sent[90..].chunks_exact(4)) {
         *element = u32::from_le_bytes(bytes.try_into().unwrap());
     }
     assert_eq!(outcome.unwrap(), Outcome { answer: 11 << 32, lent: Lent::Singles(after) });
@@ -64,7 +65,7 @@ fn chunk_numbers_have_32_bits_at_both_widths() {
         let (sent, outcome) = exchanged(&call, &answer);
         assert_eq!(sent[..13], name[..]);
         assert_eq!(sent[24..28], 12u32.to_le_bytes());
-        assert_eq!(sent[40..80], [1u64 << 31, 5, 64, 3, 64].map(u64::to_le_bytes).concat());
+        assert_eq!(sent[48..88], [1u64 << 31, 5, 64, 3, 64].map(u64::to_le_bytes).concat());
         assert_eq!(outcome.unwrap(), Outcome { answer: 2, lent: Lent::Singles(after.clone()) });
     }
 }
@@ -98,11 +99,11 @@ fn by_shell(script: &str) -> io::Result<Outcome> {
 
 #[test]
 fn a_program_has_to_answer_and_to_end_well() {
-    let answer = "head -c 88 >/dev/null; head -c 16 /dev/zero;";
+    let answer = "head -c 96 >/dev/null; head -c 16 /dev/zero;";
     assert_eq!(by_shell(&format!("{answer} cat")).unwrap(), Outcome::bare(0));
     assert!(by_shell(&format!("{answer} cat; exit 3")).is_err());
     assert!(by_shell(&format!("{answer} echo; cat")).is_err());
-    assert!(by_shell("head -c 88 >/dev/null").is_err());
+    assert!(by_shell("head -c 96 >/dev/null").is_err());
     assert!(by_shell("exit 0").is_err());
     assert!(Caller::start(&["there is no such program".to_string()]).is_err());
     assert!(Caller::start(&[]).is_err());

@@ -77,7 +77,8 @@ fn canonical<P: Bits>(stream: &[u8], values: &[P]) {
     }
     let mut again = vec![0; stream.len()];
     let level = stream::HIGHEST_LEVEL;
-    let answer = stream::pack(level, number(4), number(5) as i32, values, &mut again);
+    let (mode, group) = (number(4) % 256, if number(4) < 256 { 32 } else { 128 });
+    let answer = stream::pack(level, mode, number(5) as i32, group, values, &mut again);
     assert_eq!(answer, Ok(stream.len() as u64));
     again[4..8].copy_from_slice(&stream[4..8]);
     assert!(again == stream);
@@ -100,7 +101,7 @@ fn judge_width<P: Bits>(rng: &mut XorShift, level: u32, stream: &[u8], seen: &mu
 
 /// Everything both implementations can say of a stream.
 fn judge(rng: &mut XorShift, stream: &[u8], seen: &mut Seen) {
-    let level = rng.one_of(&[12, 12, 12, 12, 11, 10, 9, 8, 7, 13]);
+    let level = rng.one_of(&[13, 13, 13, 13, 13, 12, 11, 10, 9, 8, 7, 14]);
     let answer = stream::check(level, stream);
     assert_eq!(plain::check(level, stream), answer);
     note(seen, answer);
@@ -123,7 +124,8 @@ fn some_stream(rng: &mut XorShift) -> Vec<u8> {
         let k = if mode == 1 { some_k(rng, P::WIDTH) } else { 0 };
         let values: Vec<P> = some_list(rng, k, n);
         let mut stream = vec![0; 30_000];
-        let length = plain::pack(12, mode, k, &values, &mut stream).unwrap();
+        let group = rng.one_of(&SIZES);
+        let length = plain::pack(13, mode, k, group, &values, &mut stream).unwrap();
         stream.truncate(length as usize);
         stream
     }
@@ -151,7 +153,7 @@ fn add_sides(rng: &mut XorShift, mut id: u32, stream: &mut Vec<u8>) {
         place += length;
     }
     if id >= 1 << 31 {
-        stream[8] = 12;
+        stream[8] = stream[8].max(12);
     }
     stream.resize(place as usize, 0xEE);
 }
@@ -240,13 +242,14 @@ fn every_bit_of_small_streams_flipped() {
     for round in 0..60 {
         let (mode, n) = (round % 3, 1 + rng.below(6) as usize);
         let k = if mode == 1 { -2 } else { 0 };
+        let group = rng.one_of(&SIZES);
         let mut stream = vec![0; 200];
         let length = if round % 6 < 3 {
             let values: Vec<u32> = some_list(rng, -2, n);
-            stream::pack(12, mode, k, &values, &mut stream)
+            stream::pack(13, mode, k, group, &values, &mut stream)
         } else {
             let values: Vec<u64> = some_list(rng, -2, n);
-            stream::pack(12, mode, k, &values, &mut stream)
+            stream::pack(13, mode, k, group, &values, &mut stream)
         };
         stream.truncate(length.unwrap() as usize);
         for bit in 0..8 * stream.len() {
@@ -265,7 +268,7 @@ fn every_cut_is_refused() {
         let n = if round == 0 { 1030 } else { 1 + rng.below(40) as usize };
         let values: Vec<u64> = some_list(rng, 0, n);
         let mut stream = vec![0; 10_000];
-        let length = stream::pack(10, 0, 0, &values, &mut stream).unwrap();
+        let length = stream::pack(10, 0, 0, 32, &values, &mut stream).unwrap();
         stream.truncate(length as usize);
         if round % 2 == 1 {
             add_sides(rng, 0, &mut stream);
@@ -290,7 +293,8 @@ fn made_up_data() {
     let rng = &mut XorShift(0x0011_2233_4455_6677);
     let mut seen = Seen::new();
     for _ in 0..20_000 {
-        let n = 1 + rng.below(40) as u32;
+        let group = rng.one_of(&SIZES);
+        let n = 1 + rng.below(group as u64 + 8) as u32;
         let (width, mode) = (rng.one_of(&[32u32, 64]), rng.below(3) as u32);
         let k = match (width, mode) {
             (_, 0 | 2) => 0,
@@ -298,12 +302,13 @@ fn made_up_data() {
             _ => rng.one_of(&[-1075, -2, 900, 960, 970]),
         };
         let need = match (width, mode) {
+            _ if group == 128 => 13,
             (_, 2) => 11,
             (64, _) => 10,
             _ => 8 + mode,
         };
         let mut data = Vec::new();
-        for count in (0..n).step_by(32).map(|at| (n - at).min(32)) {
+        for count in (0..n).step_by(group as usize).map(|at| (n - at).min(group)) {
             let w = rng.below(width as u64 + 2) as u32; // one too wide at most
             data.push(w as u8);
             let (bytes, bits_left) = ((count * w).div_ceil(8), count * w % 8);
@@ -317,7 +322,8 @@ fn made_up_data() {
             data.push(0);
         }
         let end = 52 + data.len() as u32;
-        let header = [1, 11, need, width, mode, k as u32, n, 1, 48, 52, 0, end, 0];
+        let mode = mode + if group == 128 { 256 } else { 0 };
+        let header = [1, 13, need, width, mode, k as u32, n, 1, 48, 52, 0, end, 0];
         let mut stream: Vec<u8> = header.iter().flat_map(|n| n.to_le_bytes()).collect();
         stream.extend(data);
         judge(rng, &stream, &mut seen);

@@ -11,8 +11,8 @@ use second::Refusal;
 const LEVEL: u32 = 11;
 
 fn packed<P: Bits>(values: &[P]) -> Vec<u8> {
-    let mut stream = vec![0; stream::length(LEVEL, 2, 0, values).unwrap() as usize];
-    stream::pack(LEVEL, 2, 0, values, &mut stream).unwrap();
+    let mut stream = vec![0; stream::length(LEVEL, 2, 0, 32, values).unwrap() as usize];
+    stream::pack(LEVEL, 2, 0, 32, values, &mut stream).unwrap();
     stream
 }
 
@@ -175,9 +175,9 @@ fn mode_2_needs_level_11_and_k_0() {
     fn refuse<P: Bits>() {
         let values = [P::of_number(5), P::of_number(7)];
         for (level, k, number) in
-            [(7, 0, 1), (8, 0, 2), (9, 0, 2), (10, 0, 2), (11, 1, 2), (12, -2, 2), (13, 0, 1)]
+            [(7, 0, 1), (8, 0, 2), (9, 0, 2), (10, 0, 2), (11, 1, 2), (13, -2, 2), (14, 0, 1)]
         {
-            assert_eq!(stream::length(level, 2, k, &values), Err(Refusal::bare(number)));
+            assert_eq!(stream::length(level, 2, k, 32, &values), Err(Refusal::bare(number)));
         }
         let stream = packed(&values);
         assert_eq!([number(&stream, 1), number(&stream, 2)], [11, 11]);

@@ -22,12 +22,12 @@ fn with_number(mut stream: Vec<u8>, place: usize, number: u32) -> Vec<u8> {
 fn packs_byte_for_byte() {
     for pack in [stream::pack::<u32>, plain::pack::<u32>] {
         let mut output = [0xAA; 60];
-        assert_eq!(pack(8, 0, 0, &VALUES, &mut output), Ok(55));
+        assert_eq!(pack(8, 0, 0, 32, &VALUES, &mut output), Ok(55));
         assert_eq!(output[..55], example());
         assert_eq!(output[55..], [0xAA; 5]);
         let mut short = [0xAA; 54];
         let four = Refusal { number: 4, detail: 55 };
-        assert_eq!(pack(8, 0, 0, &VALUES, &mut short), Err(four));
+        assert_eq!(pack(8, 0, 0, 32, &VALUES, &mut short), Err(four));
         assert_eq!(short, [0xAA; 54]);
     }
 }
@@ -77,8 +77,8 @@ fn lists() {
 fn lists_a_later_minor_and_refuses_a_later_need() {
     let later = with_number(example(), 4, 4_000_000_000);
     assert!(listing(&later).starts_with("format 1.4000000000 needs 1.8\n"));
-    let needing = with_number(example(), 8, 13);
-    assert_eq!(listing(&needing), "refused 7 detail 13\n");
+    let needing = with_number(example(), 8, 14);
+    assert_eq!(listing(&needing), "refused 7 detail 14\n");
 }
 
 #[test]
@@ -86,7 +86,7 @@ fn lists_negative_bounds_and_several_chunks() {
     let mut values = vec![0u64; 2100];
     values[1500] = 1f64.to_bits();
     let mut packed = vec![0; 4000];
-    let length = stream::pack(10, 1, -2, &values, &mut packed).unwrap() as usize;
+    let length = stream::pack(10, 1, -2, 32, &values, &mut packed).unwrap() as usize;
     // 1.0 is u = 2, code 4: 3 bits for each of its group's 32 codes.
     assert_eq!(
         listing(&packed[..length]),
@@ -102,7 +102,7 @@ fn lists_negative_bounds_and_several_chunks() {
 #[test]
 fn lists_side_parts_by_their_count_and_no_values_without_chunks() {
     let mut packed = [0; 48];
-    stream::pack::<u32>(9, 0, 0, &[], &mut packed).unwrap();
+    stream::pack::<u32>(9, 0, 0, 32, &[], &mut packed).unwrap();
     let text = "format 1.9 needs 1.8\nwidth 32 mode 0 bound 0\nvalues 0 chunks 0 sides ";
     assert_eq!(listing(&packed), format!("{text}0\n"));
     let mut sided = with_number(packed.to_vec(), 40, 2);
@@ -120,7 +120,7 @@ fn too_long_is_said_first() {
     // A good stream of more than 65,536 bytes is too long all the same.
     let values: Vec<u32> = (0..20_000u32).map(|i| i.wrapping_mul(2_654_435_761)).collect();
     let mut packed = vec![0; 100_000];
-    let length = stream::pack(8, 0, 0, &values, &mut packed).unwrap() as usize;
+    let length = stream::pack(8, 0, 0, 32, &values, &mut packed).unwrap() as usize;
     assert_eq!(stream::check(8, &packed[..length]), Ok(20_000));
     assert_eq!(listing(&packed[..length]), "too long\n");
 }

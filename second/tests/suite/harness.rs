@@ -60,7 +60,7 @@ fn a_differing_list_is_cut_short() {
     values[300] = 5;
     values[1200] = 7;
     let values = Values::Singles(&values);
-    let call = Call::Length { level: 8, mode: 0, k: 0, values };
+    let call = Call::Length { level: 8, mode: 0, k: 0, group: 32, values };
     let text = report_of(&wrong_for_5_then_7, call);
     assert!(text.contains("DIFFERENCE in one call, case 1, seed 7\n"), "{text}");
     assert!(text.contains("operation: length32\n"), "{text}");
@@ -84,7 +84,7 @@ fn a_differing_stream_is_packed_again_from_a_shorter_list() {
     let mut values: Vec<u64> = (1000..3000).collect();
     values[1700] = 9;
     let mut stream = vec![0; 20_000];
-    let length = plain::pack(10, 0, 0, &values, &mut stream).unwrap() as usize;
+    let length = plain::pack(10, 0, 0, 32, &values, &mut stream).unwrap() as usize;
     let stream = &stream[..length];
     let call = Call::Unpack { width: WIDTH_64, level: 10, stream, room: 2003 };
     let text = report_of(&loses_9, call);
@@ -109,7 +109,7 @@ fn a_stream_packed_again_has_its_summary() {
     let mut values = [3u64; 1100];
     values[1050] = 9;
     let mut stream = [0; 700];
-    let length = plain::pack(10, 0, 0, &values, &mut stream).unwrap() as usize;
+    let length = plain::pack(10, 0, 0, 32, &values, &mut stream).unwrap() as usize;
     let mut copy = [0; 800];
     let length = add_summary(10, &stream[..length], &mut copy).unwrap() as usize;
     let stream = &copy[..length];
@@ -131,7 +131,7 @@ fn writes_past_room(call: &Call) -> Outcome {
 #[test]
 fn a_write_past_the_room_is_found() {
     let values = Values::Singles(&[]);
-    let call = Call::Pack { level: 8, mode: 0, k: 0, values, room: 48 };
+    let call = Call::Pack { level: 8, mode: 0, k: 0, group: 32, values, room: 48 };
     let text = report_of(&writes_past_room, call);
     assert!(text.contains("room 48, first differs at element 48: "), "{text}");
 }

@@ -133,29 +133,29 @@ fn bounds() {
 fn the_value_limit() {
     let most = vec![0u32; 1_048_576];
     let length = 48 + 4 * 1024 + 32 * 1024;
-    assert_eq!(stream::length(8, 0, 0, &most), Ok(length));
-    assert_eq!(plain::length(8, 0, 0, &most), Ok(length));
+    assert_eq!(stream::length(8, 0, 0, 32, &most), Ok(length));
+    assert_eq!(plain::length(8, 0, 0, 32, &most), Ok(length));
     let mut packed = vec![9; length as usize];
-    assert_eq!(stream::pack(8, 0, 0, &most, &mut packed), Ok(length));
+    assert_eq!(stream::pack(8, 0, 0, 32, &most, &mut packed), Ok(length));
     assert_eq!(stream::check(8, &packed), Ok(1_048_576));
     assert_eq!(plain::check(8, &packed), Ok(1_048_576));
 
     let more = vec![0u32; 1_048_577];
     let three = Err(Refusal::bare(3));
-    assert_eq!(stream::length(8, 0, 0, &more), three);
-    assert_eq!(stream::pack(8, 0, 0, &more, &mut packed), three);
-    assert_eq!(plain::length(8, 0, 0, &more), three);
-    assert_eq!(plain::pack(8, 0, 0, &more, &mut packed), three);
+    assert_eq!(stream::length(8, 0, 0, 32, &more), three);
+    assert_eq!(stream::pack(8, 0, 0, 32, &more, &mut packed), three);
+    assert_eq!(plain::length(8, 0, 0, 32, &more), three);
+    assert_eq!(plain::pack(8, 0, 0, 32, &more, &mut packed), three);
 }
 
 #[test]
 fn lengths() {
-    assert_eq!(stream::length::<u32>(8, 0, 0, &[]), Ok(48));
-    assert_eq!(plain::length::<u32>(8, 0, 0, &[]), Ok(48));
-    assert_eq!(stream::length(8, 0, 0, &[0u32; 1024]), Ok(84));
-    assert_eq!(plain::length(8, 0, 0, &[0u32; 1024]), Ok(84));
+    assert_eq!(stream::length::<u32>(8, 0, 0, 32, &[]), Ok(48));
+    assert_eq!(plain::length::<u32>(8, 0, 0, 32, &[]), Ok(48));
+    assert_eq!(stream::length(8, 0, 0, 32, &[0u32; 1024]), Ok(84));
+    assert_eq!(plain::length(8, 0, 0, 32, &[0u32; 1024]), Ok(84));
     let mut packed = [0; 200];
-    assert_eq!(stream::pack(8, 0, 0, &[0u32; 1025], &mut packed), Ok(48 + 8 + 33));
+    assert_eq!(stream::pack(8, 0, 0, 32, &[0u32; 1025], &mut packed), Ok(48 + 8 + 33));
     assert_eq!(packed[28..32], [2, 0, 0, 0]);
 }
 
@@ -164,7 +164,7 @@ fn lengths() {
 #[test]
 fn slip_a_need_of_10_stops_level_9() {
     let mut packed = [0; 100];
-    let length = stream::pack(10, 0, 0, &[1u64], &mut packed).unwrap() as usize;
+    let length = stream::pack(10, 0, 0, 32, &[1u64], &mut packed).unwrap() as usize;
     let packed = &packed[..length];
     for level in [8, 9] {
         let seven = Refusal { number: 7, detail: 10 };
@@ -172,8 +172,8 @@ fn slip_a_need_of_10_stops_level_9() {
         assert_eq!(plain::check(level, packed), Err(seven));
         assert_eq!(stream::unpack(level, packed, &mut [0u64]), Err(seven));
         assert_eq!(stream::probe::<u64>(level, packed, 0), stream::Probed::Refused(seven));
-        assert_eq!(stream::length(level, 0, 0, &[1u64]), Err(Refusal::bare(2)));
-        assert_eq!(plain::length(level, 0, 0, &[1u64]), Err(Refusal::bare(2)));
+        assert_eq!(stream::length(level, 0, 0, 32, &[1u64]), Err(Refusal::bare(2)));
+        assert_eq!(plain::length(level, 0, 0, 32, &[1u64]), Err(Refusal::bare(2)));
     }
     assert_eq!(stream::check(10, packed), Ok(1));
 }
@@ -224,7 +224,7 @@ fn slip_not_a_numbers_are_not_quantized() {
 fn slip_the_code_2_to_the_m_is_no_fault() {
     let values = [4_194_303.75f32.to_bits()];
     let mut packed = [0; 60];
-    let length = stream::pack(9, 1, -2, &values, &mut packed).unwrap() as usize;
+    let length = stream::pack(9, 1, -2, 32, &values, &mut packed).unwrap() as usize;
     let mut restored = [0u32];
     assert_eq!(stream::unpack(9, &packed[..length], &mut restored), Ok(1));
     assert_eq!(restored, [4_194_304f32.to_bits()]);

@@ -11,7 +11,8 @@ const HIGH: u32 = 1 << 31;
 /// A refusal's number and detail; 0 and n, or 0 and 0 of a probe.
 type Told = (u32, u32);
 
-/// A stream of three values at the width of `P`, with empty side parts.
+/// A stream of three values at the width of `P`, with empty side parts. The mode is
+/// as the header has it.
 struct Sided {
     mode: u32,
     written: u32,
@@ -23,7 +24,7 @@ impl Sided {
     fn stream<P: Bits>(&self) -> Vec<u8> {
         let Sided { mode, written, needed, ids } = *self;
         let sides = ids.len() as u32;
-        let k = if mode == 1 { -2i32 as u32 } else { 0 };
+        let k = if mode % 256 == 1 { -2i32 as u32 } else { 0 };
         let mut numbers = vec![1, written, needed, P::WIDTH.bits(), mode, k];
         numbers.extend([3, 1, 48, 52, sides, 53, 0]);
         let mut stream = bytes_of(&numbers);
@@ -35,7 +36,7 @@ impl Sided {
     /// What check, unpack and probe answer at the highest level, all alike.
     fn told<P: Bits>(&self) -> Told {
         let stream = self.stream::<P>();
-        let [checked, unpacked, probed, ..] = read::<P>(12, &stream, 3, 0);
+        let [checked, unpacked, probed, ..] = read::<P>(13, &stream, 3, 0);
         assert_eq!((unpacked, probed.0), (checked, checked.0));
         if checked.0 != 0 {
             let (number, detail) = checked;
@@ -82,22 +83,22 @@ fn read_values<P: Bits>(level: u32, stream: &[u8], room: usize, index: u64) -> [
     [told(unpacked), told(probed)]
 }
 
-/// The three modes and what they need at a width.
-fn needs<P: Bits>() -> [(u32, u32); 3] {
+/// The mode numbers of a header and what they need at a width.
+fn needs<P: Bits>() -> [(u32, u32); 6] {
     let of_width = if P::WIDTH.bits() == 64 { 10 } else { 8 };
-    [(0, of_width), (1, of_width.max(9)), (2, 11)]
+    [(0, of_width), (1, of_width.max(9)), (2, 11), (256, 13), (257, 13), (258, 13)]
 }
 
 #[test]
 fn the_need_is_exact() {
     fn exact<P: Bits>() {
         for (mode, need) in needs::<P>() {
-            for needed in 0..=12 {
+            for needed in 0..=13 {
                 let sided = |ids| Sided { mode, written: 20, needed, ids }.told::<P>();
                 let skipped = if needed == need { (0, 3) } else { (8, 0) };
                 assert_eq!(sided(&[]), skipped);
                 assert_eq!(sided(&[0, HIGH - 1]), skipped);
-                let understood = |id| if needed == 12 { (15, id) } else { (8, 0) };
+                let understood = |id| if needed == need.max(12) { (15, id) } else { (8, 0) };
                 assert_eq!(sided(&[HIGH]), understood(HIGH));
                 assert_eq!(sided(&[HIGH - 1, HIGH + 7, u32::MAX]), understood(HIGH + 7));
                 assert_eq!(sided(&[u32::MAX]), understood(u32::MAX));
@@ -111,7 +112,7 @@ fn the_need_is_exact() {
 #[test]
 fn older_levels_refuse_a_high_id_by_7() {
     let stream = Sided { mode: 0, written: 12, needed: 12, ids: &[HIGH] }.stream::<u32>();
-    for (level, answer) in [(7, (1, 0)), (8, (7, 12)), (11, (7, 12)), (13, (1, 0))] {
+    for (level, answer) in [(7, (1, 0)), (8, (7, 12)), (11, (7, 12)), (14, (1, 0))] {
         assert_eq!(read::<u32>(level, &stream, 3, 0), [answer; 5]);
     }
 }
@@ -148,16 +149,17 @@ fn an_id_stands_after_the_tables_and_before_the_chunks() {
 }
 
 #[test]
-fn level_12_packs_with_the_need_of_the_setting() {
+fn level_13_packs_with_the_need_of_the_setting() {
     fn packs<P: Bits>() {
         for (mode, need) in needs::<P>() {
+            let sided = Sided { mode, written: 13, needed: need, ids: &[] };
+            let (mode, group) = if mode < 256 { (mode, 32) } else { (mode - 256, 128) };
             let k = if mode == 1 { -2 } else { 0 };
             let mut packed = [0; 60];
             let values = [P::of_number(0); 3];
-            assert_eq!(stream::pack(12, mode, k, &values, &mut packed), Ok(53));
-            let sided = Sided { mode, written: 12, needed: need, ids: &[] };
+            assert_eq!(stream::pack(13, mode, k, group, &values, &mut packed), Ok(53));
             assert_eq!(packed[..53], sided.stream::<P>());
-            assert_eq!(stream::length(13, mode, k, &values), Err(Refusal::bare(1)));
+            assert_eq!(stream::length(14, mode, k, group, &values), Err(Refusal::bare(1)));
         }
     }
     packs::<u32>();

@@ -4,12 +4,13 @@ use crate::random::*;
 use second::stream::{self, Probed};
 use second::{numbers, plain, Answer, Refusal};
 
-const LEVELS: [u32; 9] = [0, 7, 8, 9, 10, 11, 12, 13, u32::MAX];
+const LEVELS: [u32; 10] = [0, 7, 8, 9, 10, 11, 12, 13, 14, u32::MAX];
 const MARK: u8 = 0xA5;
 
 /// The need, stated again.
-fn need<P: Bits>(mode: u32) -> u32 {
+fn need<P: Bits>(mode: u32, group: u32) -> u32 {
     match (P::WIDTH.bits(), mode) {
+        _ if group == 128 => 13,
         (_, 2) => 11,
         (64, _) => 10,
         (_, 1) => 9,
@@ -19,19 +20,19 @@ fn need<P: Bits>(mode: u32) -> u32 {
 
 /// Packs with both implementations into outputs too short, exact and long,
 /// and answers the stream.
-fn packed_by_both<P: Bits>(level: u32, mode: u32, k: i32, values: &[P]) -> Vec<u8> {
-    let length = stream::length(level, mode, k, values).unwrap() as usize;
-    assert_eq!(plain::length(level, mode, k, values), Ok(length as u64));
+fn packed_by_both<P: Bits>(level: u32, mode: u32, k: i32, group: u32, values: &[P]) -> Vec<u8> {
+    let length = stream::length(level, mode, k, group, values).unwrap() as usize;
+    assert_eq!(plain::length(level, mode, k, group, values), Ok(length as u64));
     let (n, c) = (values.len(), values.len().div_ceil(1024));
-    let most = 48 + 4 * c + n.div_ceil(32) + n * P::WIDTH.bits() as usize / 8;
+    let most = 48 + 4 * c + n.div_ceil(group as usize) + n * P::WIDTH.bits() as usize / 8;
     assert!(length <= most);
 
     let mut stream = Vec::new();
     for size in [0, length / 2, length - 1, length, length + 1, most + 20] {
         let mut by_reference = vec![MARK; size];
         let mut by_plain = vec![MARK; size];
-        let answer = stream::pack(level, mode, k, values, &mut by_reference);
-        assert_eq!(plain::pack(level, mode, k, values, &mut by_plain), answer);
+        let answer = stream::pack(level, mode, k, group, values, &mut by_reference);
+        assert_eq!(plain::pack(level, mode, k, group, values, &mut by_plain), answer);
         assert!(by_reference == by_plain);
         if size < length {
             assert_eq!(answer, Err(Refusal { number: 4, detail: length as u32 }));
@@ -111,16 +112,17 @@ fn probes_as<P: Bits>(rng: &mut XorShift, level: u32, stream: &[u8], values: &[P
 fn round_trips<P: Bits>(seed: u64, rounds: u32) {
     let rng = &mut XorShift(seed);
     for _ in 0..rounds {
-        let (n, mode) = (some_length(rng), rng.below(3) as u32);
+        let (n, mode, group) = (some_length(rng), rng.below(3) as u32, rng.one_of(&SIZES));
         let k = if mode == 1 { some_k(rng, P::WIDTH) } else { 0 };
         let values: Vec<P> = some_list(rng, k, n);
         let restored = expected(mode, k, &values);
-        for level in need::<P>(mode)..=stream::HIGHEST_LEVEL {
-            let stream = packed_by_both(level, mode, k, &values);
+        let need = need::<P>(mode, group);
+        for level in need..=stream::HIGHEST_LEVEL {
+            let stream = packed_by_both(level, mode, k, group, &values);
             assert_eq!(stream[4..8], level.to_le_bytes());
-            assert_eq!(stream[8..12], need::<P>(mode).to_le_bytes());
+            assert_eq!(stream[8..12], need.to_le_bytes());
             // The reader's level need only reach the need.
-            for reader in need::<P>(mode)..=stream::HIGHEST_LEVEL {
+            for reader in need..=stream::HIGHEST_LEVEL {
                 unpacks_to(reader, &stream, &restored);
                 probes_as(rng, reader, &stream, &restored);
             }
@@ -130,24 +132,24 @@ fn round_trips<P: Bits>(seed: u64, rounds: u32) {
 
 #[test]
 fn round_trips_of_width_32() {
-    round_trips::<u32>(0x3232_3232_3232_3232, 250);
+    round_trips::<u32>(0x3232_3232_3232_3232, 300);
 }
 
 #[test]
 fn round_trips_of_width_64() {
-    round_trips::<u64>(0x6464_6464_6464_6464, 500);
+    round_trips::<u64>(0x6464_6464_6464_6464, 600);
 }
 
 #[test]
 fn the_largest_lists() {
-    fn one<P: Bits>(rng: &mut XorShift, mode: u32, k: i32) {
+    fn one<P: Bits>(rng: &mut XorShift, mode: u32, k: i32, group: u32) {
         let values: Vec<P> =
             (0..1_048_576).map(|_| P::of_number(some_pattern(rng, P::WIDTH, k))).collect();
-        let level = need::<P>(mode);
-        let length = stream::length(level, mode, k, &values).unwrap() as usize;
+        let level = need::<P>(mode, group);
+        let length = stream::length(level, mode, k, group, &values).unwrap() as usize;
         let (mut first, mut second) = (vec![MARK; length], vec![MARK; length]);
-        assert_eq!(stream::pack(level, mode, k, &values, &mut first), Ok(length as u64));
-        assert_eq!(plain::pack(level, mode, k, &values, &mut second), Ok(length as u64));
+        assert_eq!(stream::pack(level, mode, k, group, &values, &mut first), Ok(length as u64));
+        assert_eq!(plain::pack(level, mode, k, group, &values, &mut second), Ok(length as u64));
         assert!(first == second);
         let mut output = vec![P::of_number(1); values.len()];
         assert_eq!(plain::unpack(level, &first, &mut output), Ok(1_048_576));
@@ -158,16 +160,17 @@ fn the_largest_lists() {
     }
     let rng = &mut XorShift(0xFEED_FACE_8BAD_F00D);
     for (mode, k) in [(0, 0), (1, -10), (2, 0)] {
-        one::<u32>(rng, mode, k);
-        one::<u64>(rng, mode, k);
+        let sizes = if mode == 1 { [128, 32] } else { [32, 128] };
+        one::<u32>(rng, mode, k, sizes[0]);
+        one::<u64>(rng, mode, k, sizes[1]);
     }
 }
 
-/// Refusals 1 2 3 in their order, for every kind of level, mode and k.
+/// Refusals 1 2 3 in their order, for every kind of level, mode, k and group size.
 #[test]
 fn pack_and_length_refuse_by_the_table() {
-    fn expect<P: Bits>(level: u32, mode: u32, k: i32, n: usize) -> Option<u32> {
-        if ![8, 9, 10, 11, 12].contains(&level) {
+    fn expect<P: Bits>(level: u32, mode: u32, k: i32, group: u32, n: usize) -> Option<u32> {
+        if ![8, 9, 10, 11, 12, 13].contains(&level) {
             return Some(1);
         }
         let allowed = match mode {
@@ -175,7 +178,7 @@ fn pack_and_length_refuse_by_the_table() {
             1 => allowed_k(P::WIDTH).contains(&k),
             _ => false,
         };
-        if !allowed || need::<P>(mode) > level {
+        if !allowed || !SIZES.contains(&group) || need::<P>(mode, group) > level {
             return Some(2);
         }
         (n > 1_048_576).then_some(3)
@@ -185,26 +188,31 @@ fn pack_and_length_refuse_by_the_table() {
         let many = vec![P::of_number(0); 1_048_577];
         let ks = [i32::MIN, -1076, -1075, -151, -150, -1, 0, 1, 103, 104, 970, 971, i32::MAX];
         for level in LEVELS {
-            for mode in [0, 1, 2, 3, u32::MAX] {
+            for mode in [0, 1, 2, 3, 256, 258, u32::MAX] {
                 for k in ks {
-                    for values in [&many[..2], &many[..]] {
-                        let mut output = [MARK; 70];
-                        let refusal = expect::<P>(level, mode, k, values.len());
-                        let packed = stream::pack(level, mode, k, values, &mut output);
-                        assert_eq!(packed.err(), refusal.map(Refusal::bare));
-                        let length = stream::length(level, mode, k, values);
-                        assert_eq!(length, packed);
-                        if refusal.is_some() {
-                            assert_eq!(output, [MARK; 70]);
+                    for group in [32, 128, 0, 31, 64, 129, 256, u32::MAX] {
+                        for values in [&many[..2], &many[..]] {
+                            try_one(level, mode, k, group, values);
                         }
-                        assert_eq!(plain::length(level, mode, k, values), length);
-                        let mut again = [MARK; 70];
-                        assert_eq!(plain::pack(level, mode, k, values, &mut again), packed);
-                        assert_eq!(output, again);
                     }
                 }
             }
         }
+    }
+    fn try_one<P: Bits>(level: u32, mode: u32, k: i32, group: u32, values: &[P]) {
+        let mut output = [MARK; 70];
+        let refusal = expect::<P>(level, mode, k, group, values.len());
+        let packed = stream::pack(level, mode, k, group, values, &mut output);
+        assert_eq!(packed.err(), refusal.map(Refusal::bare));
+        let length = stream::length(level, mode, k, group, values);
+        assert_eq!(length, packed);
+        if refusal.is_some() {
+            assert_eq!(output, [MARK; 70]);
+        }
+        assert_eq!(plain::length(level, mode, k, group, values), length);
+        let mut again = [MARK; 70];
+        assert_eq!(plain::pack(level, mode, k, group, values, &mut again), packed);
+        assert_eq!(output, again);
     }
     try_all::<u32>();
     try_all::<u64>();
@@ -217,7 +225,7 @@ fn readers_refuse_in_their_orders() {
     let mut values = vec![1f32.to_bits(); 1100];
     values[1099] = 2f32.to_bits();
     let mut good = vec![0; 6000];
-    let length = stream::pack(9, 1, -2, &values, &mut good).unwrap() as usize;
+    let length = stream::pack(9, 1, -2, 32, &values, &mut good).unwrap() as usize;
     good.truncate(length);
 
     let set = |stream: &mut Vec<u8>, place: usize, number: u32| {
@@ -254,7 +262,7 @@ fn readers_refuse_in_their_orders() {
             },
         ]
     };
-    assert_eq!(try_all(13, &bad[..47], 1100, 0), [1; 5]);
+    assert_eq!(try_all(14, &bad[..47], 1100, 0), [1; 5]);
     assert_eq!(try_all(10, &bad[..47], 1100, 0), [5; 5]);
     assert_eq!(try_all(10, &bad, 1100, 0), [6; 5]);
     set(&mut bad, 0, 1);
@@ -278,7 +286,7 @@ fn readers_refuse_in_their_orders() {
 #[test]
 fn header_rules() {
     let mut good = [0; 55];
-    stream::pack(9, 0, 0, &[0u32, 1 << 31, 1], &mut good).unwrap();
+    stream::pack(9, 0, 0, 32, &[0u32, 1 << 31, 1], &mut good).unwrap();
     let numbers: Vec<u32> = (0..12).map(|i| u32::from_le_bytes([good[4 * i], 0, 0, 0])).collect();
     let others = [
         0,
@@ -308,6 +316,12 @@ fn header_rules() {
         56,
         64,
         65,
+        255,
+        256,
+        257,
+        258,
+        259,
+        512,
         1024,
         1025,
         1 << 20,
@@ -344,7 +358,7 @@ fn header_rules() {
 #[test]
 fn side_parts() {
     let mut plain_stream = [0; 55];
-    stream::pack(8, 0, 0, &[0u32, 1 << 31, 1], &mut plain_stream).unwrap();
+    stream::pack(8, 0, 0, 32, &[0u32, 1 << 31, 1], &mut plain_stream).unwrap();
     // (id, place, length) of each part, then as many bytes.
     let sided = |entries: &[[u32; 3]], bytes: usize| {
         let mut stream = plain_stream.to_vec();
@@ -380,7 +394,7 @@ fn side_parts() {
     assert_eq!(sided(&more, 65), Err((8, 0)));
     // With no chunks the data is empty, and a lone byte of it is a table fault.
     let mut none = vec![0; 48];
-    stream::pack::<u32>(8, 0, 0, &[], &mut none).unwrap();
+    stream::pack::<u32>(8, 0, 0, 32, &[], &mut none).unwrap();
     none.push(0);
     none[44] = 49;
     assert_eq!(stream::check(8, &none), Err(Refusal::bare(9)));
@@ -391,7 +405,7 @@ fn side_parts() {
 fn chunk_table_rules() {
     let mut good = [0; 48 + 12 + 65];
     let length = good.len() as u64;
-    assert_eq!(stream::pack(8, 0, 0, &[0u32; 2049], &mut good), Ok(length));
+    assert_eq!(stream::pack(8, 0, 0, 32, &[0u32; 2049], &mut good), Ok(length));
     let checked = |starts: [u32; 3]| {
         let mut stream = good;
         for (place, start) in stream[48..60].chunks_exact_mut(4).zip(starts) {

@@ -13,8 +13,12 @@ const MINUS: u32 = 0x8000_0000;
 const ONE: u32 = 0x3F80_0000;
 
 fn packed<P: Bits>(level: u32, mode: u32, k: i32, values: &[P]) -> Vec<u8> {
-    let mut stream = vec![0; stream::length(level, mode, k, values).unwrap() as usize];
-    stream::pack(level, mode, k, values, &mut stream).unwrap();
+    packed_in_groups(level, mode, k, 32, values)
+}
+
+fn packed_in_groups<P: Bits>(level: u32, mode: u32, k: i32, group: u32, values: &[P]) -> Vec<u8> {
+    let mut stream = vec![0; stream::length(level, mode, k, group, values).unwrap() as usize];
+    stream::pack(level, mode, k, group, values, &mut stream).unwrap();
     stream
 }
 
@@ -129,7 +133,7 @@ fn agrees_with_floats<P: Bits>(seed: u64) {
         let (n, mode) = (some_length(rng), rng.below(3) as u32);
         let k = if mode == 1 { some_k(rng, P::WIDTH) } else { 0 };
         let values: Vec<P> = some_list(rng, k, n);
-        let plain = packed(HIGHEST_LEVEL, mode, k, &values);
+        let plain = packed_in_groups(HIGHEST_LEVEL, mode, k, rng.one_of(&SIZES), &values);
         let mut restored = values.clone();
         stream::unpack(HIGHEST_LEVEL, &plain, &mut restored).unwrap();
 
@@ -295,7 +299,7 @@ fn refusals_in_order() {
     assert_eq!(said(12, &plain), [0, 4, 17, 17, 17, 14, 2, 2]);
     assert_eq!(said(12, &copy), [16, 16, 0, 0, 4, 14, 2, 2]);
     assert_eq!(said(12, &other), [16, 16, 17, 17, 17, 14, 2, 2]);
-    for level in [0, 7, 13] {
+    for level in [0, 7, 14] {
         assert_eq!(said(level, &copy), [1; 8]);
         assert_eq!(said(level, &[]), [1; 8]);
     }
@@ -327,11 +331,11 @@ fn refusals_in_order() {
 #[test]
 fn levels_show_the_copy_as_they_show_the_stream() {
     let values: Vec<u64> = (0..1500).map(|i| if i % 7 == 0 { u64::MAX } else { i << 40 }).collect();
-    for (mode, need) in [(0, 10), (2, 11)] {
-        let mut plain = packed(need, mode, 0, &values);
+    for (mode, group, need) in [(0, 32, 10), (2, 32, 11), (0, 128, 13), (2, 128, 13)] {
+        let mut plain = packed_in_groups(need, mode, 0, group, &values);
         put(&mut plain, 4, 4_000_000_000); // a stream from a later minor
         let copy = added(need, &plain);
-        for level in 7..=13 {
+        for level in 7..=14 {
             assert_eq!(stream::check(level, &copy), stream::check(level, &plain));
             let (mut before, mut after) = (vec![7u64; 1501], vec![7u64; 1501]);
             let answer = stream::unpack(level, &plain, &mut before);
