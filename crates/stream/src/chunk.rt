@@ -6,11 +6,13 @@ ghost use Prim.Native.Nat.{_≤_, _<_, _-_, min};
 ghost use lib.ListN.{length, drop, getD};
 ghost use Rattle.stream.specs.Group.{groupLength, wholeGroup};
 ghost use Rattle.stream.specs.Setting.{groupSize, patternsOf, limitOf};
-ghost use Rattle.stream.specs.Lent.{chosen, lentCodes, Begun};
+ghost use Rattle.stream.specs.Lent.{chosen, lentCodes, Staged, Begun};
 ghost use Rattle.stream.specs.Chunk.{chunkBytes, chunkAnswer, chunkCodes, wholeChunk};
 ghost use Rattle.stream.specs.Relied.{Allowed};
+use crate::group;
 use crate::group::GroupAnswer;
 use crate::group_checked;
+use crate::group_written;
 use crate::lent;
 use crate::setting;
 use crate::setting::Setting;
@@ -21,24 +23,71 @@ pub enum ChunkAnswer {
     Bad(usize),
 }
 
+// How many bytes a chunk's n values take in groups of 128: a loop of its own, so that the other knows its step.
+fn measured_long(t: Setting, v32: &[u32], v64: &[u64], c32: &[u32], n: usize) -> usize
+    requires { ⌜ Allowed t × (t .size ≡ 128) × (n ≡ length (chosen (t .width) (now v32) (now v64))) × (n ≤ 1024) ⌝ }
+    requires { ⌜ (length (now v32) ≤ length (now c32)) × Staged t (now v32) (now c32) ⌝ }
+    ensures { λ r. ⌜ r ≡ length (chunkBytes (groupSize t) (lentCodes t (now (v32 .entry)) (now (v64 .entry)))) ⌝ }
+{
+    let mut total: usize = 0;
+    let mut at: usize = 0;
+    while at + 128 <= n {
+        total += lent::measured_long(t, v32, c32, v64, at, at + 128);
+        at += 128;
+    }
+    if n <= at {
+        return total;
+    }
+    total + lent::measured_long(t, v32, c32, v64, at, n)
+}
+
 // How many bytes a chunk's values take. The full groups are a loop of their own, so that their leaf knows its count.
 pub(crate) fn measured(t: Setting, v32: &[u32], v64: &[u64], c32: &mut [u32]) -> usize
     requires { ⌜ Allowed t × (length (chosen (t .width) (now v32) (now v64)) ≤ 1024) × (length (now v32) ≤ length (now c32)) ⌝ }
     ensures { λ r. ⌜ r ≡ length (chunkBytes (groupSize t) (lentCodes t (now (v32 .entry)) (now (v64 .entry)))) ⌝ }
 {
     let n = lent::count(t, v32, v64);
-    let size = setting::group_size(t);
     lent::stage(t, v32, c32);
+    if t.size == 128 {
+        return measured_long(t, v32, v64, c32, n);
+    }
     let mut total: usize = 0;
     let mut at: usize = 0;
-    while at + size <= n {
+    while at + 32 <= n {
         total += lent::measured_group(t, v32, c32, v64, at);
-        at += size;
+        at += 32;
     }
     if n <= at {
         return total;
     }
-    total + lent::measured_last(t, v32, c32, v64, at, n)
+    total + group::measured(lent::coded(t, v32, c32, v64, at, n))
+}
+
+// The bytes of a chunk's n values in groups of 128.
+fn written_long(
+    t: Setting,
+    v32: &[u32],
+    v64: &[u64],
+    c32: &[u32],
+    n: usize,
+    out: &mut [u8],
+) -> usize
+    requires { ⌜ Allowed t × (t .size ≡ 128) × (n ≡ length (chosen (t .width) (now v32) (now v64))) × (n ≤ 1024) ⌝ }
+    requires { ⌜ (length (now v32) ≤ length (now c32)) × Staged t (now v32) (now c32) ⌝ }
+    requires { ⌜ length (chunkBytes (groupSize t) (lentCodes t (now v32) (now v64))) ≤ length (now out) ⌝ }
+    ensures { λ r. ⌜ r ≡ length (chunkBytes (groupSize t) (lentCodes t (now (v32 .entry)) (now (v64 .entry)))) ⌝ }
+    ensures { λ r. ⌜ now (out .exit) ≡ chunkBytes (groupSize t) (lentCodes t (now (v32 .entry)) (now (v64 .entry))) ++ drop r (now (out .entry)) ⌝ }
+{
+    let mut put: usize = 0;
+    let mut at: usize = 0;
+    while at + 128 <= n {
+        put += lent::put_long(t, v32, c32, v64, at, at + 128, &mut out[put..]);
+        at += 128;
+    }
+    if n <= at {
+        return put;
+    }
+    put + lent::put_long(t, v32, c32, v64, at, n, &mut out[put..])
 }
 
 // The bytes of a chunk's values at the front of `out`, and how many they are.
@@ -55,18 +104,20 @@ pub(crate) fn written(
     ensures { λ r. ⌜ now (out .exit) ≡ chunkBytes (groupSize t) (lentCodes t (now (v32 .entry)) (now (v64 .entry))) ++ drop r (now (out .entry)) ⌝ }
 {
     let n = lent::count(t, v32, v64);
-    let size = setting::group_size(t);
     lent::stage(t, v32, c32);
+    if t.size == 128 {
+        return written_long(t, v32, v64, c32, n, out);
+    }
     let mut put: usize = 0;
     let mut at: usize = 0;
-    while at + size <= n {
+    while at + 32 <= n {
         put += lent::put_group(t, v32, c32, v64, at, &mut out[put..]);
-        at += size;
+        at += 32;
     }
     if n <= at {
         return put;
     }
-    put + lent::put_last(t, v32, c32, v64, at, n, &mut out[put..])
+    put + group_written::written(lent::coded(t, v32, c32, v64, at, n), &mut out[put..])
 }
 
 // How many values the next group has, of those that are left.

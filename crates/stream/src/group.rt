@@ -176,3 +176,31 @@ pub(crate) fn measured_four32(a: Narrow, b: Narrow, c: Narrow, d: Narrow) -> usi
     let n = a.count + b.count + c.count + d.count;
     1 + (width_four32(a, b, c, d) * n + 7) / 8
 }
+
+// The same of four full records: 128 codes of w bits are 16w whole bytes. The codes are taken out first, as above.
+pub(crate) fn measured_full_four(a: Group, b: Group, c: Group, d: Group) -> usize
+    requires { ⌜ (a .count ≡ 32) × (b .count ≡ 32) × (c .count ≡ 32) × (d .count ≡ 32) ⌝ }
+    ensures { λ r. ⌜ r ≡ length (groupBytes (take (a .count) (a .codes) ++ take (b .count) (b .codes) ++ take (c .count) (c .codes) ++ take (d .count) (d .codes))) ⌝ }
+{
+    let ca = a.codes;
+    let cb = b.codes;
+    let cc = c.codes;
+    let cd = d.codes;
+    1 + 16 * wider(wider(width(&ca), width(&cb)), wider(width(&cc), width(&cd)))
+}
+
+pub(crate) fn measured_full_four32(a: Narrow, b: Narrow, c: Narrow, d: Narrow) -> usize
+    requires { ⌜ (a .count ≡ 32) × (b .count ≡ 32) × (c .count ≡ 32) × (d .count ≡ 32) ⌝ }
+    ensures { λ r. ⌜ r ≡ length (groupBytes (take (a .count) (a .codes) ++ take (b .count) (b .codes) ++ take (c .count) (c .codes) ++ take (d .count) (d .codes))) ⌝ }
+{
+    let ca = a.codes;
+    let cb = b.codes;
+    let cc = c.codes;
+    let cd = d.codes;
+    1
+        + 16
+            * wider(
+                wider(width32(&ca), width32(&cb)),
+                wider(width32(&cc), width32(&cd)),
+            )
+}

@@ -73,22 +73,30 @@ fn reached_by_four(s: &[u8], w: usize) -> bool
     false
 }
 
-// Whether w is the smallest width of a block.
-fn block_reached(s: &[u8], w: usize, n: usize) -> bool
+// The width of a block's codes.
+fn block_width(s: &[u8], w: usize, n: usize) -> usize
     requires { ⌜ (n ≤ 32) × (1 ≤ w) × (w ≤ 64) × (bytesFor w n < length (now s)) ⌝ }
-    ensures { λ r. ⌜ r ≡ eqb w (widthOf (blockCodes w n (now (s .entry)))) ⌝ }
+    ensures { λ r. ⌜ r ≡ widthOf (blockCodes w n (now (s .entry))) ⌝ }
 {
     if n == 32 {
         if 4 * w + 10 <= s.len() {
-            return reached_by_four(s, w);
+            if w <= 32 {
+                let mut narrow = [0u32; 32];
+                block32::opened32(s, w, &mut narrow);
+                return group::width32(&narrow);
+            }
+            let mut codes = [0u64; 32];
+            block64::opened64(s, w, &mut codes);
+            return group::width(&codes);
         }
     }
     let g = group_read::codes_of(s, w, n);
-    reached(group::counted(&g.codes, n), w)
+    group::width(group::counted(&g.codes, n))
 }
 
-// Whether w is the smallest width of a group: the first block that needs it settles it.
-fn smallest(s: &[u8], n: usize, w: usize) -> bool
+// Whether w is the smallest width of a group, block by block: the first that is as wide settles it. It shares no function with the full group of 32,
+// so that a compiler puts those in their one place.
+fn blocks_reached(s: &[u8], w: usize, n: usize) -> bool
     requires { ⌜ (n ≤ 128) × (1 ≤ w) × (w ≤ 64) × (w ≡ givenWidth (now s)) × (groupLength n (now s) ≤ length (now s)) ⌝ }
     ensures { λ r. ⌜ r ≡ eqb w (widthOf (groupCodes n (now (s .entry)))) ⌝ }
 {
@@ -96,13 +104,26 @@ fn smallest(s: &[u8], n: usize, w: usize) -> bool
     let mut left = n;
     while 0 < left {
         let count = group_read::block_count(left);
-        if block_reached(&s[from..], w, count) {
+        if block_width(&s[from..], w, count) == w {
             return true;
         }
         from += 4 * w;
         left -= count;
     }
     false
+}
+
+// Whether w is the smallest width of a group.
+fn smallest(s: &[u8], n: usize, w: usize) -> bool
+    requires { ⌜ (n ≤ 128) × (1 ≤ w) × (w ≤ 64) × (w ≡ givenWidth (now s)) × (groupLength n (now s) ≤ length (now s)) ⌝ }
+    ensures { λ r. ⌜ r ≡ eqb w (widthOf (groupCodes n (now (s .entry)))) ⌝ }
+{
+    if n == 32 {
+        if 4 * w + 10 <= s.len() {
+            return reached_by_four(s, w);
+        }
+    }
+    blocks_reached(s, w, n)
 }
 
 // Whether no code's u, its half, is above the limit.
@@ -154,21 +175,20 @@ fn block_limited(s: &[u8], w: usize, n: usize, limit: u64) -> bool
 {
     if n == 32 {
         if 4 * w + 10 <= s.len() {
-            return full_limited(s, w, limit);
+            let mut codes = [0u64; 32];
+            block64::opened64(s, w, &mut codes);
+            return limited(&codes, limit);
         }
     }
     let g = group_read::codes_of(s, w, n);
     limited(group::counted(&g.codes, n), limit)
 }
 
-// The same of a group's codes, which are looked at only where w bits can hold a u above the limit.
-fn limit_kept(s: &[u8], n: usize, w: usize, limit: u64) -> bool
+// The same of a group's codes, block by block.
+fn blocks_limited(s: &[u8], w: usize, n: usize, limit: u64) -> bool
     requires { ⌜ (n ≤ 128) × (1 ≤ w) × (w ≤ 64) × (w ≡ givenWidth (now s)) × (groupLength n (now s) ≤ length (now s)) ⌝ }
     ensures { λ r. ⌜ r ≡ within limit (groupCodes n (now (s .entry))) ⌝ }
 {
-    if (1 << (w - 1)) - 1 <= limit {
-        return true;
-    }
     let mut from: usize = 0;
     let mut left = n;
     while 0 < left {
@@ -180,6 +200,22 @@ fn limit_kept(s: &[u8], n: usize, w: usize, limit: u64) -> bool
         left -= count;
     }
     true
+}
+
+// The same of a group's codes, which are looked at only where w bits can hold a u above the limit.
+fn limit_kept(s: &[u8], n: usize, w: usize, limit: u64) -> bool
+    requires { ⌜ (n ≤ 128) × (1 ≤ w) × (w ≤ 64) × (w ≡ givenWidth (now s)) × (groupLength n (now s) ≤ length (now s)) ⌝ }
+    ensures { λ r. ⌜ r ≡ within limit (groupCodes n (now (s .entry))) ⌝ }
+{
+    if (1 << (w - 1)) - 1 <= limit {
+        return true;
+    }
+    if n == 32 {
+        if 4 * w + 10 <= s.len() {
+            return full_limited(s, w, limit);
+        }
+    }
+    blocks_limited(s, w, n, limit)
 }
 
 // Refusal 10's rules for the group at the front of `s`. The width is tested before it is multiplied; the padding is the highest bits of the last byte.

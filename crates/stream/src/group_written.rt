@@ -151,12 +151,7 @@ fn part(g: Group, w: usize, out: &mut [u8]) -> usize
     ensures { λ r. ⌜ now (out .exit) ≡ packed w (take (g .count) (g .codes)) ++ drop r (now (out .entry)) ⌝ }
 {
     let n = g.count;
-    let codes = g.codes;
-    if n == 32 {
-        put_block(codes, w, out);
-        return 4 * w;
-    }
-    put_packed(group::counted(&codes, n), w, out)
+    put_packed(group::counted(&g.codes, n), w, out)
 }
 
 fn part32(g: Narrow, w: usize, out: &mut [u8]) -> usize
@@ -164,11 +159,6 @@ fn part32(g: Narrow, w: usize, out: &mut [u8]) -> usize
     ensures { λ r. ⌜ r ≡ bytesFor w (g .count) ⌝ }
     ensures { λ r. ⌜ now (out .exit) ≡ packed w (take (g .count) (g .codes)) ++ drop r (now (out .entry)) ⌝ }
 {
-    if g.count == 32 {
-        let codes = g.codes;
-        put_block32(&codes, w, out);
-        return 4 * w;
-    }
     part(group::widened(g), w, out)
 }
 
@@ -220,4 +210,55 @@ pub(crate) fn four32(a: Narrow, b: Narrow, c: Narrow, d: Narrow, out: &mut [u8])
     out[0] = w as u8;
     let put = 1 + two32(a, b, w, &mut out[1..]);
     put + two32(c, d, w, &mut out[put..])
+}
+
+// The same of four full records: each is a block of 4w whole bytes.
+pub(crate) fn full_four(a: Group, b: Group, c: Group, d: Group, out: &mut [u8]) -> usize
+    requires { ⌜ (a .count ≡ 32) × (b .count ≡ 32) × (c .count ≡ 32) × (d .count ≡ 32) ⌝ }
+    requires { ⌜ length (groupBytes (take (a .count) (a .codes) ++ take (b .count) (b .codes) ++ take (c .count) (c .codes) ++ take (d .count) (d .codes))) ≤ length (now out) ⌝ }
+    ensures { λ r. ⌜ r ≡ length (groupBytes (take (a .count) (a .codes) ++ take (b .count) (b .codes) ++ take (c .count) (c .codes) ++ take (d .count) (d .codes))) ⌝ }
+    ensures { λ r. ⌜ now (out .exit) ≡ groupBytes (take (a .count) (a .codes) ++ take (b .count) (b .codes) ++ take (c .count) (c .codes) ++ take (d .count) (d .codes)) ++ drop r (now (out .entry)) ⌝ }
+{
+    let ca = a.codes;
+    let cb = b.codes;
+    let cc = c.codes;
+    let cd = d.codes;
+    let w = group::wider(
+        group::wider(group::width(&ca), group::width(&cb)),
+        group::wider(group::width(&cc), group::width(&cd)),
+    );
+    out[0] = w as u8;
+    if w == 0 {
+        return 1;
+    }
+    put_block(ca, w, &mut out[1..]);
+    put_block(cb, w, &mut out[1 + 4 * w..]);
+    put_block(cc, w, &mut out[1 + 8 * w..]);
+    put_block(cd, w, &mut out[1 + 12 * w..]);
+    1 + 16 * w
+}
+
+pub(crate) fn full_four32(a: Narrow, b: Narrow, c: Narrow, d: Narrow, out: &mut [u8]) -> usize
+    requires { ⌜ (a .count ≡ 32) × (b .count ≡ 32) × (c .count ≡ 32) × (d .count ≡ 32) ⌝ }
+    requires { ⌜ length (groupBytes (take (a .count) (a .codes) ++ take (b .count) (b .codes) ++ take (c .count) (c .codes) ++ take (d .count) (d .codes))) ≤ length (now out) ⌝ }
+    ensures { λ r. ⌜ r ≡ length (groupBytes (take (a .count) (a .codes) ++ take (b .count) (b .codes) ++ take (c .count) (c .codes) ++ take (d .count) (d .codes))) ⌝ }
+    ensures { λ r. ⌜ now (out .exit) ≡ groupBytes (take (a .count) (a .codes) ++ take (b .count) (b .codes) ++ take (c .count) (c .codes) ++ take (d .count) (d .codes)) ++ drop r (now (out .entry)) ⌝ }
+{
+    let ca = a.codes;
+    let cb = b.codes;
+    let cc = c.codes;
+    let cd = d.codes;
+    let w = group::wider(
+        group::wider(group::width32(&ca), group::width32(&cb)),
+        group::wider(group::width32(&cc), group::width32(&cd)),
+    );
+    out[0] = w as u8;
+    if w == 0 {
+        return 1;
+    }
+    block32::packed32(&ca, w, &mut out[1..]);
+    block32::packed32(&cb, w, &mut out[1 + 4 * w..]);
+    block32::packed32(&cc, w, &mut out[1 + 8 * w..]);
+    block32::packed32(&cd, w, &mut out[1 + 12 * w..]);
+    1 + 16 * w
 }

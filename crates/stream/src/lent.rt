@@ -8,7 +8,7 @@ ghost use Rattle.numbers.specs.Difference.{differenceCodes, runningSums, lastOf
 ghost use Rattle.blocks.specs.Bytes.{Below};
 ghost use Rattle.stream.specs.Group.{bytesFor, groupBytes, givenWidth, groupLength, groupCodes};
 ghost use Rattle.stream.specs.Block.{blockCodes};
-ghost use Rattle.stream.specs.Setting.{groupSize, codeAt, codesOf, patternAt, patternsAfter};
+ghost use Rattle.stream.specs.Setting.{codeAt, codesOf, patternAt, patternsAfter};
 ghost use Rattle.stream.specs.Lent.{chosen, landed, lentCodes, Staged, SameBehind};
 ghost use Rattle.stream.specs.Relied.{Allowed};
 use crate::coding;
@@ -227,19 +227,93 @@ fn put_long64(t: Setting, v64: &[u64], at: usize, end: usize, out: &mut [u8]) ->
     )
 }
 
-// The two of both widths.
-fn measured_long(t: Setting, v32: &[u32], c32: &[u32], v64: &[u64], at: usize, end: usize) -> usize
+// The bytes that the full group of 128 from `at` on takes: four full records. Mode 2 has a way of its own, as in groups of 32.
+fn measured_full(t: Setting, v32: &[u32], c32: &[u32], v64: &[u64], at: usize) -> usize
+    requires { ⌜ Allowed t × (at + 128 ≤ length (chosen (t .width) (now v32) (now v64))) × (at + 128 ≤ 1024) ⌝ }
+    requires { ⌜ (length (now v32) ≤ length (now c32)) × Staged t (now v32) (now c32) ⌝ }
+    ensures { λ r. ⌜ r ≡ length (groupBytes (take 128 (drop at (lentCodes t (now (v32 .entry)) (now (v64 .entry)))))) ⌝ }
+{
+    if t.width == 32 {
+        if t.mode == 2 {
+            return group::measured_full_four32(
+                differenced_narrow(v32, at, at + 32),
+                differenced_narrow(v32, at + 32, at + 64),
+                differenced_narrow(v32, at + 64, at + 96),
+                differenced_narrow(v32, at + 96, at + 128),
+            );
+        }
+        return group::measured_full_four32(
+            coded_narrow(t, v32, c32, at, at + 32),
+            coded_narrow(t, v32, c32, at + 32, at + 64),
+            coded_narrow(t, v32, c32, at + 64, at + 96),
+            coded_narrow(t, v32, c32, at + 96, at + 128),
+        );
+    }
+    if t.mode == 2 {
+        return group::measured_full_four(
+            differenced_wide(v64, at, at + 32),
+            differenced_wide(v64, at + 32, at + 64),
+            differenced_wide(v64, at + 64, at + 96),
+            differenced_wide(v64, at + 96, at + 128),
+        );
+    }
+    group::measured_full_four(
+        coded_wide(t, v64, at, at + 32),
+        coded_wide(t, v64, at + 32, at + 64),
+        coded_wide(t, v64, at + 64, at + 96),
+        coded_wide(t, v64, at + 96, at + 128),
+    )
+}
+
+// The bytes themselves, at the front of `out`, and how many they are.
+fn put_full(t: Setting, v32: &[u32], c32: &[u32], v64: &[u64], at: usize, out: &mut [u8]) -> usize
+    requires { ⌜ Allowed t × (at + 128 ≤ length (chosen (t .width) (now v32) (now v64))) × (at + 128 ≤ 1024) ⌝ }
+    requires { ⌜ (length (now v32) ≤ length (now c32)) × Staged t (now v32) (now c32) ⌝ }
+    requires { ⌜ length (groupBytes (take 128 (drop at (lentCodes t (now v32) (now v64))))) ≤ length (now out) ⌝ }
+    ensures { λ r. ⌜ r ≡ length (groupBytes (take 128 (drop at (lentCodes t (now (v32 .entry)) (now (v64 .entry)))))) ⌝ }
+    ensures { λ r. ⌜ now (out .exit) ≡ groupBytes (take 128 (drop at (lentCodes t (now (v32 .entry)) (now (v64 .entry))))) ++ drop r (now (out .entry)) ⌝ }
+{
+    if t.width == 32 {
+        return group_written::full_four32(
+            narrow(t, v32, c32, at, at + 32),
+            narrow(t, v32, c32, at + 32, at + 64),
+            narrow(t, v32, c32, at + 64, at + 96),
+            narrow(t, v32, c32, at + 96, at + 128),
+            out,
+        );
+    }
+    group_written::full_four(
+        wide(t, v64, at, at + 32),
+        wide(t, v64, at + 32, at + 64),
+        wide(t, v64, at + 64, at + 96),
+        wide(t, v64, at + 96, at + 128),
+        out,
+    )
+}
+
+// Both for a group of up to 128 codes of either width, those from `at` to `end`.
+pub(crate) fn measured_long(
+    t: Setting,
+    v32: &[u32],
+    c32: &[u32],
+    v64: &[u64],
+    at: usize,
+    end: usize,
+) -> usize
     requires { ⌜ Allowed t × (at ≤ end) × (end ≤ at + 128) × (end ≤ length (chosen (t .width) (now v32) (now v64))) × (end ≤ 1024) ⌝ }
     requires { ⌜ (length (now v32) ≤ length (now c32)) × Staged t (now v32) (now c32) ⌝ }
     ensures { λ r. ⌜ r ≡ length (groupBytes (take (end - at) (drop at (lentCodes t (now (v32 .entry)) (now (v64 .entry)))))) ⌝ }
 {
+    if end - at == 128 {
+        return measured_full(t, v32, c32, v64, at);
+    }
     if t.width == 32 {
         return measured_long32(t, v32, c32, at, end);
     }
     measured_long64(t, v64, at, end)
 }
 
-fn put_long(
+pub(crate) fn put_long(
     t: Setting,
     v32: &[u32],
     c32: &[u32],
@@ -254,22 +328,22 @@ fn put_long(
     ensures { λ r. ⌜ r ≡ length (groupBytes (take (end - at) (drop at (lentCodes t (now (v32 .entry)) (now (v64 .entry)))))) ⌝ }
     ensures { λ r. ⌜ now (out .exit) ≡ groupBytes (take (end - at) (drop at (lentCodes t (now (v32 .entry)) (now (v64 .entry))))) ++ drop r (now (out .entry)) ⌝ }
 {
+    if end - at == 128 {
+        return put_full(t, v32, c32, v64, at, out);
+    }
     if t.width == 32 {
         return put_long32(t, v32, c32, at, end, out);
     }
     put_long64(t, v64, at, end, out)
 }
 
-// How many bytes the full group from `at` on takes. Mode 2 has a way of its own here and below, so that nothing comes into the loops of
+// How many bytes the full group of 32 from `at` on takes. Mode 2 has a way of its own here and below, so that nothing comes into the loops of
 // the modes 0 and 1.
 pub(crate) fn measured_group(t: Setting, v32: &[u32], c32: &[u32], v64: &[u64], at: usize) -> usize
-    requires { ⌜ Allowed t × (at + groupSize t ≤ length (chosen (t .width) (now v32) (now v64))) × (at + groupSize t ≤ 1024) ⌝ }
+    requires { ⌜ Allowed t × (at + 32 ≤ length (chosen (t .width) (now v32) (now v64))) × (at + 32 ≤ 1024) ⌝ }
     requires { ⌜ (length (now v32) ≤ length (now c32)) × Staged t (now v32) (now c32) ⌝ }
-    ensures { λ r. ⌜ r ≡ length (groupBytes (take (groupSize t) (drop at (lentCodes t (now (v32 .entry)) (now (v64 .entry)))))) ⌝ }
+    ensures { λ r. ⌜ r ≡ length (groupBytes (take 32 (drop at (lentCodes t (now (v32 .entry)) (now (v64 .entry)))))) ⌝ }
 {
-    if t.size == 128 {
-        return measured_long(t, v32, c32, v64, at, at + 128);
-    }
     let end = at + 32;
     if t.width == 32 {
         if t.mode == 2 {
@@ -283,7 +357,7 @@ pub(crate) fn measured_group(t: Setting, v32: &[u32], c32: &[u32], v64: &[u64], 
     group::measured_full(coded_wide(t, v64, at, end))
 }
 
-// The bytes of the full group from `at` on, at the front of `out`, and how many they are.
+// The bytes of the full group of 32 from `at` on, at the front of `out`, and how many they are.
 pub(crate) fn put_group(
     t: Setting,
     v32: &[u32],
@@ -292,15 +366,12 @@ pub(crate) fn put_group(
     at: usize,
     out: &mut [u8],
 ) -> usize
-    requires { ⌜ Allowed t × (at + groupSize t ≤ length (chosen (t .width) (now v32) (now v64))) × (at + groupSize t ≤ 1024) ⌝ }
+    requires { ⌜ Allowed t × (at + 32 ≤ length (chosen (t .width) (now v32) (now v64))) × (at + 32 ≤ 1024) ⌝ }
     requires { ⌜ (length (now v32) ≤ length (now c32)) × Staged t (now v32) (now c32) ⌝ }
-    requires { ⌜ length (groupBytes (take (groupSize t) (drop at (lentCodes t (now v32) (now v64))))) ≤ length (now out) ⌝ }
-    ensures { λ r. ⌜ r ≡ length (groupBytes (take (groupSize t) (drop at (lentCodes t (now (v32 .entry)) (now (v64 .entry)))))) ⌝ }
-    ensures { λ r. ⌜ now (out .exit) ≡ groupBytes (take (groupSize t) (drop at (lentCodes t (now (v32 .entry)) (now (v64 .entry))))) ++ drop r (now (out .entry)) ⌝ }
+    requires { ⌜ length (groupBytes (take 32 (drop at (lentCodes t (now v32) (now v64))))) ≤ length (now out) ⌝ }
+    ensures { λ r. ⌜ r ≡ length (groupBytes (take 32 (drop at (lentCodes t (now (v32 .entry)) (now (v64 .entry)))))) ⌝ }
+    ensures { λ r. ⌜ now (out .exit) ≡ groupBytes (take 32 (drop at (lentCodes t (now (v32 .entry)) (now (v64 .entry))))) ++ drop r (now (out .entry)) ⌝ }
 {
-    if t.size == 128 {
-        return put_long(t, v32, c32, v64, at, at + 128, out);
-    }
     let end = at + 32;
     if t.width == 32 {
         if t.mode == 2 {
@@ -308,50 +379,7 @@ pub(crate) fn put_group(
         }
         return group_written::full32(coded_narrow(t, v32, c32, at, end), out);
     }
-    if t.mode == 2 {
-        return group_written::full(differenced_wide(v64, at, end), out);
-    }
-    group_written::full(coded_wide(t, v64, at, end), out)
-}
-
-// The same of a chunk's last group, which is not full: its codes are those from `at` on.
-pub(crate) fn measured_last(
-    t: Setting,
-    v32: &[u32],
-    c32: &[u32],
-    v64: &[u64],
-    at: usize,
-    end: usize,
-) -> usize
-    requires { ⌜ Allowed t × (at ≤ end) × (end ≤ at + groupSize t) × (end ≤ length (chosen (t .width) (now v32) (now v64))) × (end ≤ 1024) ⌝ }
-    requires { ⌜ (length (now v32) ≤ length (now c32)) × Staged t (now v32) (now c32) ⌝ }
-    ensures { λ r. ⌜ r ≡ length (groupBytes (take (end - at) (drop at (lentCodes t (now (v32 .entry)) (now (v64 .entry)))))) ⌝ }
-{
-    if t.size == 128 {
-        return measured_long(t, v32, c32, v64, at, end);
-    }
-    group::measured(coded(t, v32, c32, v64, at, end))
-}
-
-pub(crate) fn put_last(
-    t: Setting,
-    v32: &[u32],
-    c32: &[u32],
-    v64: &[u64],
-    at: usize,
-    end: usize,
-    out: &mut [u8],
-) -> usize
-    requires { ⌜ Allowed t × (at ≤ end) × (end ≤ at + groupSize t) × (end ≤ length (chosen (t .width) (now v32) (now v64))) × (end ≤ 1024) ⌝ }
-    requires { ⌜ (length (now v32) ≤ length (now c32)) × Staged t (now v32) (now c32) ⌝ }
-    requires { ⌜ length (groupBytes (take (end - at) (drop at (lentCodes t (now v32) (now v64))))) ≤ length (now out) ⌝ }
-    ensures { λ r. ⌜ r ≡ length (groupBytes (take (end - at) (drop at (lentCodes t (now (v32 .entry)) (now (v64 .entry)))))) ⌝ }
-    ensures { λ r. ⌜ now (out .exit) ≡ groupBytes (take (end - at) (drop at (lentCodes t (now (v32 .entry)) (now (v64 .entry))))) ++ drop r (now (out .entry)) ⌝ }
-{
-    if t.size == 128 {
-        return put_long(t, v32, c32, v64, at, end, out);
-    }
-    group_written::written(coded(t, v32, c32, v64, at, end), out)
+    group_written::full(wide(t, v64, at, end), out)
 }
 
 // The first n codes, at the front of `out`.
@@ -429,12 +457,11 @@ fn read_block64(s: &[u8], w: usize, n: usize, out: &mut [u64])
     copied64(&g.codes, n, out);
 }
 
-// The codes of the group at the front of `s`, whose width is not 0, at the front of `out`: block by block.
-fn read_codes32(s: &[u8], n: usize, out: &mut [u32])
-    requires { ⌜ (n ≤ 128) × (1 ≤ givenWidth (now s)) × (givenWidth (now s) ≤ 32) × (groupLength n (now s) ≤ length (now s)) × (n ≤ length (now out)) ⌝ }
+// The codes of the group at the front of `s`, block by block, at the front of `out`.
+fn read_blocks32(s: &[u8], w: usize, n: usize, out: &mut [u32])
+    requires { ⌜ (n ≤ 128) × (1 ≤ w) × (w ≤ 32) × (w ≡ givenWidth (now s)) × (groupLength n (now s) ≤ length (now s)) × (n ≤ length (now out)) ⌝ }
     ensures { λ _. ⌜ now (out .exit) ≡ groupCodes n (now (s .entry)) ++ drop n (now (out .entry)) ⌝ }
 {
-    let w = bytes::wide(s[0]) as usize;
     let mut from: usize = 0;
     let mut done: usize = 0;
     while done < n {
@@ -445,11 +472,10 @@ fn read_codes32(s: &[u8], n: usize, out: &mut [u32])
     }
 }
 
-fn read_codes64(s: &[u8], n: usize, out: &mut [u64])
-    requires { ⌜ (n ≤ 128) × (1 ≤ givenWidth (now s)) × (givenWidth (now s) ≤ 64) × (groupLength n (now s) ≤ length (now s)) × (n ≤ length (now out)) ⌝ }
+fn read_blocks64(s: &[u8], w: usize, n: usize, out: &mut [u64])
+    requires { ⌜ (n ≤ 128) × (1 ≤ w) × (w ≤ 64) × (w ≡ givenWidth (now s)) × (groupLength n (now s) ≤ length (now s)) × (n ≤ length (now out)) ⌝ }
     ensures { λ _. ⌜ now (out .exit) ≡ groupCodes n (now (s .entry)) ++ drop n (now (out .entry)) ⌝ }
 {
-    let w = bytes::wide(s[0]) as usize;
     let mut from: usize = 0;
     let mut done: usize = 0;
     while done < n {
@@ -458,6 +484,35 @@ fn read_codes64(s: &[u8], n: usize, out: &mut [u64])
         from += 4 * w;
         done += count;
     }
+}
+
+// The codes of the group at the front of `s`, whose width is not 0, at the front of `out`: a full one of 32 by its arm, with no loop around it.
+fn read_codes32(s: &[u8], n: usize, out: &mut [u32])
+    requires { ⌜ (n ≤ 128) × (1 ≤ givenWidth (now s)) × (givenWidth (now s) ≤ 32) × (groupLength n (now s) ≤ length (now s)) × (n ≤ length (now out)) ⌝ }
+    ensures { λ _. ⌜ now (out .exit) ≡ groupCodes n (now (s .entry)) ++ drop n (now (out .entry)) ⌝ }
+{
+    let w = bytes::wide(s[0]) as usize;
+    if n == 32 {
+        if 4 * w + 10 <= s.len() {
+            block32::opened32(s, w, out);
+            return;
+        }
+    }
+    read_blocks32(s, w, n, out);
+}
+
+fn read_codes64(s: &[u8], n: usize, out: &mut [u64])
+    requires { ⌜ (n ≤ 128) × (1 ≤ givenWidth (now s)) × (givenWidth (now s) ≤ 64) × (groupLength n (now s) ≤ length (now s)) × (n ≤ length (now out)) ⌝ }
+    ensures { λ _. ⌜ now (out .exit) ≡ groupCodes n (now (s .entry)) ++ drop n (now (out .entry)) ⌝ }
+{
+    let w = bytes::wide(s[0]) as usize;
+    if n == 32 {
+        if 4 * w + 10 <= s.len() {
+            block64::opened64(s, w, out);
+            return;
+        }
+    }
+    read_blocks64(s, w, n, out);
 }
 
 // The patterns of the group at the front of `s` in the modes 0 and 1, at the front of `out`; its codes go through the scratch `c`. In both modes
@@ -578,14 +633,11 @@ fn block_sum(t: Setting, before: u64, s: &[u8], w: usize, n: usize) -> u64
     differences::last_sum(t, before, &codes, n)
 }
 
-// The pattern that what follows the first n codes of a good group stands behind. It counts in mode 2 alone, so the others do not open the group.
-pub(crate) fn carried(t: Setting, before: u64, s: &[u8], n: usize) -> u64
+// The last pattern of a group's first n codes in mode 2, block by block.
+fn group_sum(t: Setting, before: u64, s: &[u8], n: usize) -> u64
     requires { ⌜ Allowed t × (before < 2 ^ t .width) × (n ≤ 128) × (givenWidth (now s) ≤ t .width) × (groupLength n (now s) ≤ length (now s)) ⌝ }
-    ensures { λ r. ⌜ (r < 2 ^ t .width) × SameBehind t r (lastOf before (patternsAfter t before (groupCodes n (now (s .entry))))) ⌝ }
+    ensures { λ r. ⌜ (r < 2 ^ t .width) × (r ≡ lastOf before (runningSums (t .width) before (groupCodes n (now (s .entry))))) ⌝ }
 {
-    if t.mode != 2 {
-        return before;
-    }
     let w = bytes::wide(s[0]) as usize;
     let mut last = before;
     let mut from: usize = 0;
@@ -597,6 +649,17 @@ pub(crate) fn carried(t: Setting, before: u64, s: &[u8], n: usize) -> u64
         left -= count;
     }
     last
+}
+
+// The pattern that what follows the first n codes of a good group stands behind. It counts in mode 2 alone, so the others do not open the group.
+pub(crate) fn carried(t: Setting, before: u64, s: &[u8], n: usize) -> u64
+    requires { ⌜ Allowed t × (before < 2 ^ t .width) × (n ≤ 128) × (givenWidth (now s) ≤ t .width) × (groupLength n (now s) ≤ length (now s)) ⌝ }
+    ensures { λ r. ⌜ (r < 2 ^ t .width) × SameBehind t r (lastOf before (patternsAfter t before (groupCodes n (now (s .entry))))) ⌝ }
+{
+    if t.mode != 2 {
+        return before;
+    }
+    group_sum(t, before, s, n)
 }
 
 // The value i of a good group of n, whose codes stand behind `before`: the full blocks before its own are passed over, and in mode 2 summed up.

@@ -1,151 +1,36 @@
--- `stream::group_checked::smallest` meets its contract. The invariant: whether w is the width of the group is whether it is that of the blocks left.
--- Assumes nothing.
-use mathlib.Core.Path.{_≡_, sym, ap, _∙_}
-use mathlib.Core.List.{List, _++_}
-use Prim.Native.Nat.{ℕ, _+_, _*_, _-_}
-use native.Mathlib.Omega.{arith}
-use lib.Dec.{eqb}
-use lib.ListN.{length, take, drop}
-use Rattle.blocks.specs.Bytes.{Below}
-use Rattle.stream.specs.Group.{widthOf, groupCodes}
-use Rattle.stream.specs.Block.{blockCodes}
-use Rattle.stream.proofs.Law.Group.Blocks.{codes-are, block-below, no-block, next-block, Along, starts-along, Next, next, reached-here, reached-later, none-reached}
 use borrow.Author.Needs.{needs}
 use Rattle.stream.proofs.group_checked.smallest.Statement.{statement}
 use Rattle.stream.proofs.group_checked.smallest.Tie as tie
+use Rattle.stream.proofs.group_checked.smallest.Reads as reads
+use Rattle.stream.proofs.group_checked.smallest.Lts as lts
+use Rattle.stream.proofs.group_checked.blocks_reached.Reads as blocks-reached-reads
+use Rattle.stream.proofs.group_checked.reached_by_four.Reads as reached-by-four-reads
 
-abbrev Inv-loop : tie.InvT-loop
-Inv-loop s n w from₀ left₀ from left = Along w s left from × (eqb w (widthOf (groupCodes n s)) ≡ eqb w (widthOf (blockCodes w left (drop from s))))
+-- src/group_checked.rt:122:12
+mul-if2 : tie.Need-mul-if2
+mul-if2 c = search needs
 
-abbrev μ-loop : tie.MeasureT-loop
-μ-loop s n w from₀ left₀ from left = left
+-- src/group_checked.rt:122:12
+add-if2 : tie.Need-add-if2
+add-if2 c = search needs
 
--- the loop's place
-module _ (l : tie.At-loop Inv-loop μ-loop) where
-  abbrev start : tie.Start Inv-loop μ-loop
-  start = l .before .before
+-- src/group_checked.rt:123:13
+reached-by-four-requires : tie.Need-reached-by-four-requires
+reached-by-four-requires c κs = search needs
 
-  abbrev s : List ℕ
-  s = start .args .s .now
+-- src/group_checked.rt:123:13
+returns : tie.Need-returns
+returns c = ?
 
-  abbrev w : ℕ
-  w = start .args .w
+-- src/group_checked.rt:126:5
+blocks-reached-requires : tie.Need-blocks-reached-requires
+blocks-reached-requires c κs = search needs
 
-  bytes : Below 256 s
-  bytes i = l .before .shared-slice-known .given i .fits
-
--- the block that comes next
-module _ (c : tie.After-block-count Inv-loop μ-loop) where
-  abbrev turn : tie.At-loop Inv-loop μ-loop
-  turn = c .before .before
-
-  abbrev left : ℕ
-  left = turn .loop .left
-
-  abbrev from : ℕ
-  from = turn .loop .from
-
-  abbrev count : ℕ
-  count = c .block-count .result
-
-  abbrev part : List ℕ
-  part = take (length (s turn) - from) (drop from (s turn))
-
-  turns : Next (w turn) (s turn) left count from
-  turns = next (turn .loop .inv .0) (c .before .loop-test .taken) (c .block-count .ensures) (start turn .pre .2)
-
-  abbrev codes : List ℕ
-  codes = blockCodes (w turn) count part
-
-  abbrev rest : List ℕ
-  rest = blockCodes (w turn) (left - count) (drop (from + 4 * w turn) (s turn))
-
-  -- what is asked of the block and of the rest
-  asked : eqb (w turn) (widthOf (groupCodes (start turn .args .n) (s turn))) ≡ eqb (w turn) (widthOf (codes ++ rest))
-  asked = turn .loop .inv .1 ∙ ap (λ (cs : List ℕ). eqb (w turn) (widthOf cs)) (next-block (w turn) left count from (s turn) (bytes turn) (c .block-count .ensures))
-
-loop-holds : tie.Need-loop-holds Inv-loop μ-loop
-loop-holds c =
-    let f = c .before in
-    let a = f .args in (
-      starts-along (a .n) (f .pre .0) (f .pre .3) (f .pre .4),
-      ap (λ (cs : List ℕ). eqb (a .w) (widthOf cs)) (codes-are (a .n) (a .w) (a .s .now) (λ i. c .shared-slice-known .given i .fits) (f .pre .3)),
-    )
-
-block-count-requires : tie.Need-block-count-requires Inv-loop μ-loop
-block-count-requires c κs = search needs
-
-sub-block-reached : tie.Need-sub-block-reached Inv-loop μ-loop
-sub-block-reached c = turns c .inside
-
-part-block-reached-start : tie.Need-part-block-reached-start Inv-loop μ-loop
-part-block-reached-start c = turns c .inside
-
-part-block-reached-end : tie.Need-part-block-reached-end Inv-loop μ-loop
-part-block-reached-end c = search needs
-
-block-reached-requires : tie.Need-block-reached-requires Inv-loop μ-loop
-block-reached-requires c κs =
-    let b = c .before in
-    let l = turn b in (
-      omega (arith, b .block-count .ensures),
-      start l .pre .1,
-      start l .pre .2,
-      turns b .there,
-    )
-
-returns : tie.Need-returns Inv-loop μ-loop
-returns c =
-    let b = c .before .before .before in
-    let l = turn b in
-    sym (asked b
-    ∙ reached-here (w l) (codes b) (rest b) (block-below (w l) (count b) (part b)) (block-below (w l) (left b - count b) (drop (from b + 4 * w l) (s l)))
-    (sym (c .before .block-reached .ensures) ∙ c .if1 .taken))
-
-mul-from : tie.Need-mul-from Inv-loop μ-loop
-mul-from c = omega (arith, start (turn (c .before .before .before)) .pre .2)
-
-add-from : tie.Need-add-from Inv-loop μ-loop
-add-from c = omega (arith, turns (c .before .before .before) .near)
-
-sub-left : tie.Need-sub-left Inv-loop μ-loop
-sub-left c = let b = c .before .before .before in omega (arith, b .block-count .ensures)
-
-loop-less : tie.Need-loop-less Inv-loop μ-loop
-loop-less c = let b = c .before .before .before in omega (arith, b .block-count .ensures, b .before .loop-test .taken)
-
-loop-again : tie.Need-loop-again Inv-loop μ-loop
-loop-again c =
-    let b = c .before .before .before in
-    let l = turn b in (
-      turns b .on,
-      asked b ∙ reached-later (w l) (codes b) (rest b) (block-below (w l) (count b) (part b)) (sym (c .before .block-reached .ensures) ∙ c .if1 .left),
-    )
-
-returns-2 : tie.Need-returns-2 Inv-loop μ-loop
-returns-2 c =
-    let l = c .before in
-    let none : l .loop .left ≡ 0 = omega (arith, c .loop-test .left) in
-    sym (l .loop .inv .1
-    ∙ ap (λ (cs : List ℕ). eqb (w l) (widthOf cs)) (ap (λ (k : ℕ). blockCodes (w l) k (drop (l .loop .from) (s l))) none ∙ no-block (w l) (drop (l .loop .from) (s l)))
-    ∙ none-reached (w l) (start l .pre .1))
+-- src/group_checked.rt:117:1
+returns-2 : tie.Need-returns-2
+returns-2 c = search needs
 
 pub smallest-spec : {M : Type 1} → statement M
 smallest-spec =
     tie.close
-    (tie.spec
-    Inv-loop
-    μ-loop
-    loop-holds
-    block-count-requires
-    sub-block-reached
-    part-block-reached-start
-    part-block-reached-end
-    block-reached-requires
-    returns
-    mul-from
-    add-from
-    sub-left
-    loop-less
-    loop-again
-    returns-2)
+    (tie.spec mul-if2 add-if2 reached-by-four-requires returns blocks-reached-requires returns-2)
