@@ -184,7 +184,8 @@ fn runs(c: &[u64], w: usize, out: &mut [u8])
     run(&c[24..32], w, &mut out[3 * w..]);
 }
 
-// The codes are handed on by value: a compiler then sees that nobody else holds them, and copies nothing.
+// The codes are handed on by value: a compiler then sees that nobody else holds them, and copies nothing. The last arm is that of 64, which is all that is left:
+// a way for any w beside the arms would cost every one of them.
 fn packed64_wide(c: [u64; 32], w: usize, out: &mut [u8])
     requires { ⌜ (33 ≤ w) × (w ≤ 64) × Below (2 ^ w) c × (4 * w ≤ length (now out)) ⌝ }
     ensures { λ _. ⌜ now (out .exit) ≡ digits 256 (4 * w) (number (2 ^ w) c) ++ drop (4 * w) (now (out .entry)) ⌝ }
@@ -221,8 +222,7 @@ fn packed64_wide(c: [u64; 32], w: usize, out: &mut [u8])
         61 => runs(&c, 61, out),
         62 => runs(&c, 62, out),
         63 => runs(&c, 63, out),
-        64 => runs(&c, 64, out),
-        _ => runs(&c, w, out),
+        _ => runs(&c, 64, out),
     }
 }
 

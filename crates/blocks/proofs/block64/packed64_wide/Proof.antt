@@ -1,7 +1,8 @@
 -- `blocks::block64::packed64_wide` meets its contract: an arm is `runs` at its own width.
 use mathlib.Core.Path.{_≡_, sym, ap, _∙_, subst}
 use mathlib.Core.List.{List, _++_}
-use Prim.Native.Nat.{ℕ, _*_, _^_, _≤_}
+use Prim.Native.Nat.{ℕ, suc, _*_, _^_, _≤_}
+use native.Mathlib.Omega.{arith}
 use lib.ListN.{length, drop}
 use Rattle.blocks.specs.Bytes.{Below, number, digits}
 use borrow.Author.Needs.{needs}
@@ -20,6 +21,48 @@ arm-pre c k e =
 arm : (c : tie.Start) (k : ℕ) (x : List ℕ) → c .args .w ≡ k → x ≡ digits 256 (4 * k) (number (2 ^ k) (c .args .t1)) ++ drop (4 * k) (c .args .out .now)
     → x ≡ digits 256 (4 * c .args .w) (number (2 ^ c .args .w) (c .args .t1)) ++ drop (4 * c .args .w) (c .args .out .now)
 arm c k x e h = h ∙ ap (λ (w : ℕ). digits 256 (4 * w) (number (2 ^ w) (c .args .t1)) ++ drop (4 * w) (c .args .out .now)) (sym e)
+
+-- no arm before the last is taken: what is left of 33 to 64 is 64
+up : (k w : ℕ) → k ≤ w → (w ≡ k → ⊥) → suc k ≤ w
+up k w h n = omega (arith, n)
+
+none-left : (c : tie.At-match-rest) → c .before .before .args .w ≡ 64
+none-left c =
+    let r = c .match .rest in
+    let w : ℕ = c .before .before .args .w in
+    let p = c .before .before .pre in
+    let h34 : 34 ≤ w = up 33 w (p .0) (r .0 .0 .0 .0 .0 .0 .0 .0 .0 .0 .0 .0 .0 .0 .0 .0 .0 .0 .0 .0 .0 .0 .0 .0 .0 .0 .0 .0 .0 .0 .1) in
+    let h35 : 35 ≤ w = up 34 w (h34) (r .0 .0 .0 .0 .0 .0 .0 .0 .0 .0 .0 .0 .0 .0 .0 .0 .0 .0 .0 .0 .0 .0 .0 .0 .0 .0 .0 .0 .0 .1) in
+    let h36 : 36 ≤ w = up 35 w (h35) (r .0 .0 .0 .0 .0 .0 .0 .0 .0 .0 .0 .0 .0 .0 .0 .0 .0 .0 .0 .0 .0 .0 .0 .0 .0 .0 .0 .0 .1) in
+    let h37 : 37 ≤ w = up 36 w (h36) (r .0 .0 .0 .0 .0 .0 .0 .0 .0 .0 .0 .0 .0 .0 .0 .0 .0 .0 .0 .0 .0 .0 .0 .0 .0 .0 .0 .1) in
+    let h38 : 38 ≤ w = up 37 w (h37) (r .0 .0 .0 .0 .0 .0 .0 .0 .0 .0 .0 .0 .0 .0 .0 .0 .0 .0 .0 .0 .0 .0 .0 .0 .0 .0 .1) in
+    let h39 : 39 ≤ w = up 38 w (h38) (r .0 .0 .0 .0 .0 .0 .0 .0 .0 .0 .0 .0 .0 .0 .0 .0 .0 .0 .0 .0 .0 .0 .0 .0 .0 .1) in
+    let h40 : 40 ≤ w = up 39 w (h39) (r .0 .0 .0 .0 .0 .0 .0 .0 .0 .0 .0 .0 .0 .0 .0 .0 .0 .0 .0 .0 .0 .0 .0 .0 .1) in
+    let h41 : 41 ≤ w = up 40 w (h40) (r .0 .0 .0 .0 .0 .0 .0 .0 .0 .0 .0 .0 .0 .0 .0 .0 .0 .0 .0 .0 .0 .0 .0 .1) in
+    let h42 : 42 ≤ w = up 41 w (h41) (r .0 .0 .0 .0 .0 .0 .0 .0 .0 .0 .0 .0 .0 .0 .0 .0 .0 .0 .0 .0 .0 .0 .1) in
+    let h43 : 43 ≤ w = up 42 w (h42) (r .0 .0 .0 .0 .0 .0 .0 .0 .0 .0 .0 .0 .0 .0 .0 .0 .0 .0 .0 .0 .0 .1) in
+    let h44 : 44 ≤ w = up 43 w (h43) (r .0 .0 .0 .0 .0 .0 .0 .0 .0 .0 .0 .0 .0 .0 .0 .0 .0 .0 .0 .0 .1) in
+    let h45 : 45 ≤ w = up 44 w (h44) (r .0 .0 .0 .0 .0 .0 .0 .0 .0 .0 .0 .0 .0 .0 .0 .0 .0 .0 .0 .1) in
+    let h46 : 46 ≤ w = up 45 w (h45) (r .0 .0 .0 .0 .0 .0 .0 .0 .0 .0 .0 .0 .0 .0 .0 .0 .0 .0 .1) in
+    let h47 : 47 ≤ w = up 46 w (h46) (r .0 .0 .0 .0 .0 .0 .0 .0 .0 .0 .0 .0 .0 .0 .0 .0 .0 .1) in
+    let h48 : 48 ≤ w = up 47 w (h47) (r .0 .0 .0 .0 .0 .0 .0 .0 .0 .0 .0 .0 .0 .0 .0 .0 .1) in
+    let h49 : 49 ≤ w = up 48 w (h48) (r .0 .0 .0 .0 .0 .0 .0 .0 .0 .0 .0 .0 .0 .0 .0 .1) in
+    let h50 : 50 ≤ w = up 49 w (h49) (r .0 .0 .0 .0 .0 .0 .0 .0 .0 .0 .0 .0 .0 .0 .1) in
+    let h51 : 51 ≤ w = up 50 w (h50) (r .0 .0 .0 .0 .0 .0 .0 .0 .0 .0 .0 .0 .0 .1) in
+    let h52 : 52 ≤ w = up 51 w (h51) (r .0 .0 .0 .0 .0 .0 .0 .0 .0 .0 .0 .0 .1) in
+    let h53 : 53 ≤ w = up 52 w (h52) (r .0 .0 .0 .0 .0 .0 .0 .0 .0 .0 .0 .1) in
+    let h54 : 54 ≤ w = up 53 w (h53) (r .0 .0 .0 .0 .0 .0 .0 .0 .0 .0 .1) in
+    let h55 : 55 ≤ w = up 54 w (h54) (r .0 .0 .0 .0 .0 .0 .0 .0 .0 .1) in
+    let h56 : 56 ≤ w = up 55 w (h55) (r .0 .0 .0 .0 .0 .0 .0 .0 .1) in
+    let h57 : 57 ≤ w = up 56 w (h56) (r .0 .0 .0 .0 .0 .0 .0 .1) in
+    let h58 : 58 ≤ w = up 57 w (h57) (r .0 .0 .0 .0 .0 .0 .1) in
+    let h59 : 59 ≤ w = up 58 w (h58) (r .0 .0 .0 .0 .0 .1) in
+    let h60 : 60 ≤ w = up 59 w (h59) (r .0 .0 .0 .0 .1) in
+    let h61 : 61 ≤ w = up 60 w (h60) (r .0 .0 .0 .1) in
+    let h62 : 62 ≤ w = up 61 w (h61) (r .0 .0 .1) in
+    let h63 : 63 ≤ w = up 62 w (h62) (r .0 .1) in
+    let h64 : 64 ≤ w = up 63 w (h63) (r .1) in
+    omega (arith, h64, p .1)
 
 slice-aggregate-runs : tie.Need-slice-aggregate-runs
 slice-aggregate-runs c = search needs
@@ -211,13 +254,7 @@ slice-aggregate-runs-32 : tie.Need-slice-aggregate-runs-32
 slice-aggregate-runs-32 c = search needs
 
 runs-requires-32 : tie.Need-runs-requires-32
-runs-requires-32 c κs = arm-pre (c .before .before .before .before) 64 (c .before .before .match .keys32)
-
-slice-aggregate-runs-33 : tie.Need-slice-aggregate-runs-33
-slice-aggregate-runs-33 c = search needs
-
-runs-requires-33 : tie.Need-runs-requires-33
-runs-requires-33 c κs = search needs
+runs-requires-32 c κs = arm-pre (c .before .before .before .before) 64 (none-left (c .before .before))
 
 same-length : tie.Need-same-length
 same-length c = search needs
@@ -409,13 +446,7 @@ same-length-32 : tie.Need-same-length-32
 same-length-32 c = search needs
 
 returns-32 : tie.Need-returns-32
-returns-32 c = arm (c .before .before .before .before .before .before .before) 64 _ (c .before .before .before .before .before .match .keys32) (c .before .before .runs32 .ensures)
-
-same-length-33 : tie.Need-same-length-33
-same-length-33 c = search needs
-
-returns-33 : tie.Need-returns-33
-returns-33 c = search needs
+returns-32 c = arm (c .before .before .before .before .before .before .before) 64 _ (none-left (c .before .before .before .before .before)) (c .before .before .runs32 .ensures)
 
 pub packed64-wide-spec : {M : Type 1} → statement M
 packed64-wide-spec =
@@ -485,8 +516,6 @@ packed64-wide-spec =
     runs-requires-31
     slice-aggregate-runs-32
     runs-requires-32
-    slice-aggregate-runs-33
-    runs-requires-33
     same-length
     returns
     same-length-2
@@ -550,6 +579,4 @@ packed64-wide-spec =
     same-length-31
     returns-31
     same-length-32
-    returns-32
-    same-length-33
-    returns-33)
+    returns-32)
