@@ -49,6 +49,15 @@ pub zero-block : (n : ℕ) (s : List ℕ) → blockCodes 0 n s ≡ replicate n 0
 unfolding blockCodes
 zero-block n s = no-bits n (number 256 s / 256)
 
+-- what a full block opens into, with nothing behind it
+pub opened-codes : (w n : ℕ) (s : List ℕ) → n ≡ 32 → digits (2 ^ w) 32 (number 256 s / 2 ^ 8) ++ [] ≡ blockCodes w n s
+unfolding blockCodes
+opened-codes w n s is = append-nil (digits (2 ^ w) 32 (number 256 s / 256)) ∙ ap (λ (k : ℕ). digits (2 ^ w) k (number 256 s / 256)) (sym is)
+
+-- a full group of 32 is one block
+pub one-block : (n w : ℕ) (s : List ℕ) → Below 256 s → w ≡ givenWidth s → n ≡ 32 → groupCodes n s ≡ blockCodes w 32 s
+one-block n w s bytes is full = codes-are n w s bytes is ∙ ap (λ (k : ℕ). blockCodes w k s) full
+
 -- ---- what follows some codes that are whole bytes
 
 pub block-split : (w p n f : ℕ) (s : List ℕ) → Below 256 s → w * p ≡ 8 * f → blockCodes w (p + n) s ≡ blockCodes w p s ++ blockCodes w n (drop f s)
@@ -152,15 +161,14 @@ within-append U (x ∷ xs) ys = ap (λ (b : Bool). leb (x / 2) U && b) (within-a
 
 -- w is the width of codes of w bits: the first block that needs it settles it, and one that does not leaves it to the rest
 module _ (w : ℕ) (xs ys : List ℕ) (below : Below (2 ^ w) xs) where
-  pub reached-here : Below (2 ^ w) ys → eqb w (widthOf xs) ≡ true → eqb w (widthOf (xs ++ ys)) ≡ true
-  reached-here rest e =
-      eq-eqb w (widthOf (xs ++ ys)) (omega (arith, eqb-true w (widthOf xs) e, width-append xs ys, width-least w ys rest))
+  pub reached-here : Below (2 ^ w) ys → w ≡ widthOf xs → eqb w (widthOf (xs ++ ys)) ≡ true
+  reached-here rest e = eq-eqb w (widthOf (xs ++ ys)) (omega (arith, e, width-append xs ys, width-least w ys rest))
 
-  pub reached-later : eqb w (widthOf xs) ≡ false → eqb w (widthOf (xs ++ ys)) ≡ eqb w (widthOf ys)
-  reached-later e = go (eqb w (widthOf ys)) refl
+  pub reached-later : (w ≡ widthOf xs → ⊥) → eqb w (widthOf (xs ++ ys)) ≡ eqb w (widthOf ys)
+  reached-later other = go (eqb w (widthOf ys)) refl
     where
       less : widthOf xs < w
-      less = let ne = eqb-false w (widthOf xs) e in omega (arith, ne, width-least w xs below)
+      less = omega (arith, other, width-least w xs below)
 
       go : (b : Bool) → eqb w (widthOf ys) ≡ b → eqb w (widthOf (xs ++ ys)) ≡ eqb w (widthOf ys)
       go true q = eq-eqb w (widthOf (xs ++ ys)) (omega (arith, less, eqb-true w (widthOf ys) q, width-append xs ys)) ∙ sym q

@@ -1,35 +1,31 @@
--- `stream::group_checked::blocks_limited` meets its contract: w bits hold no u above the limit, or the codes are looked at. The invariant: whether no code of the
--- group has a u above the limit is whether none of the blocks left has.
+-- `stream::group_checked::blocks_limited` meets its contract. The invariant: whether no code of the group has a u above the limit is whether none of the
+-- blocks left has.
 -- Assumes nothing.
-use mathlib.Core.Path.{_≡_, sym, ap, _∙_, subst⁻¹}
+use mathlib.Core.Path.{_≡_, sym, ap, _∙_}
 use mathlib.Core.Bool.{Bool, _&&_}
 use mathlib.Core.List.{List}
-use Prim.Native.Nat.{ℕ, _+_, _*_, _-_, _^_}
+use Prim.Native.Nat.{ℕ, _+_, _*_, _-_}
 use native.Mathlib.Omega.{arith}
 use borrow.Author.Tests.{not-true, not-false}
 use lib.ListN.{length, take, drop}
-use lib.Pow.{pow-pos}
 use Rattle.blocks.specs.Bytes.{Below}
 use Rattle.stream.specs.Group.{within, groupCodes}
 use Rattle.stream.specs.Block.{blockCodes}
-use Rattle.stream.proofs.Law.Group.RoundTrip.{codes-below}
-use Rattle.stream.proofs.Law.Group.Exact.{limited-within}
-use Rattle.stream.proofs.Law.Group.Checking.{high-one, narrow-limited}
 use Rattle.stream.proofs.Law.Group.Blocks.{codes-are, no-block, next-block, Along, starts-along, Next, next, within-append}
 use borrow.Author.Needs.{needs}
 use Rattle.stream.proofs.group_checked.blocks_limited.Statement.{statement}
 use Rattle.stream.proofs.group_checked.blocks_limited.Tie as tie
 
 abbrev Inv-loop : tie.InvT-loop
-Inv-loop s n w limit from₀ left₀ from left = Along w s left from × (within limit (groupCodes n s) ≡ within limit (blockCodes w left (drop from s)))
+Inv-loop s w n limit from₀ left₀ from left = Along w s left from × (within limit (groupCodes n s) ≡ within limit (blockCodes w left (drop from s)))
 
 abbrev μ-loop : tie.MeasureT-loop
-μ-loop s n w limit from₀ left₀ from left = left
+μ-loop s w n limit from₀ left₀ from left = left
 
 -- the loop's place
 module _ (l : tie.At-loop Inv-loop μ-loop) where
   abbrev start : tie.Start Inv-loop μ-loop
-  start = l .before .before .before
+  start = l .before .before
 
   abbrev s : List ℕ
   s = start .args .s .now
@@ -41,7 +37,7 @@ module _ (l : tie.At-loop Inv-loop μ-loop) where
   limit = start .args .limit
 
   bytes : Below 256 s
-  bytes i = l .before .before .shared-slice-known .given i .fits
+  bytes i = l .before .shared-slice-known .given i .fits
 
 -- the block that comes next
 module _ (c : tie.After-block-count Inv-loop μ-loop) where
@@ -77,30 +73,12 @@ asked c =
     ∙ within-append (limit l) (blockCodes (w l) (count b) (part b)) rest
     ∙ ap (λ (x : Bool). x && within (limit l) rest) (sym (c .block-limited .ensures))
 
-sub-if1 : tie.Need-sub-if1 Inv-loop μ-loop
-sub-if1 c = search needs
-
-shl-if1 : tie.Need-shl-if1 Inv-loop μ-loop
-shl-if1 c = search needs
-
-sub-if1-2 : tie.Need-sub-if1-2 Inv-loop μ-loop
-sub-if1-2 c = rw (high-one (c .before .args .w) (c .before .pre .1) (c .before .pre .2)) (pow-pos (c .before .args .w - 1))
-
-returns : tie.Need-returns Inv-loop μ-loop
-returns c =
-    let f = c .before .before in
-    let a = f .args in
-    let cs : List ℕ = groupCodes (a .n) (a .s .now) in
-    sym (limited-within (a .limit) cs
-    (narrow-limited (a .w) (a .limit) cs (f .pre .1) (subst⁻¹ (λ (w : ℕ). Below (2 ^ w) cs) (f .pre .3) (codes-below (a .n) (a .s .now)))
-    (rw (high-one (a .w) (f .pre .1) (f .pre .2)) at (c .if1 .taken))))
-
 loop-holds : tie.Need-loop-holds Inv-loop μ-loop
 loop-holds c =
-    let f = c .before .before in
+    let f = c .before in
     let a = f .args in (
       starts-along (a .n) (f .pre .0) (f .pre .3) (f .pre .4),
-      ap (within (a .limit)) (codes-are (a .n) (a .w) (a .s .now) (λ i. c .before .shared-slice-known .given i .fits) (f .pre .3)),
+      ap (within (a .limit)) (codes-are (a .n) (a .w) (a .s .now) (λ i. c .shared-slice-known .given i .fits) (f .pre .3)),
     )
 
 block-count-requires : tie.Need-block-count-requires Inv-loop μ-loop
@@ -125,11 +103,11 @@ block-limited-requires c κs =
       turns b .there,
     )
 
-returns-2 : tie.Need-returns-2 Inv-loop μ-loop
-returns-2 c =
+returns : tie.Need-returns Inv-loop μ-loop
+returns c =
     let b = c .before .before .before in
     let l = turn b in
-    sym (asked (c .before) ∙ ap (λ (x : Bool). x && within (limit l) (blockCodes (w l) (left b - count b) (drop (from b + 4 * w l) (s l)))) (not-true (c .before .block-limited .result) (c .if2 .taken)))
+    sym (asked (c .before) ∙ ap (λ (x : Bool). x && within (limit l) (blockCodes (w l) (left b - count b) (drop (from b + 4 * w l) (s l)))) (not-true (c .before .block-limited .result) (c .if1 .taken)))
 
 mul-from : tie.Need-mul-from Inv-loop μ-loop
 mul-from c = omega (arith, start (turn (c .before .before .before)) .pre .2)
@@ -148,12 +126,12 @@ loop-again c =
     let b = c .before .before .before in
     let l = turn b in (
       turns b .on,
-      asked (c .before) ∙ ap (λ (x : Bool). x && within (limit l) (blockCodes (w l) (left b - count b) (drop (from b + 4 * w l) (s l)))) (not-false (c .before .block-limited .result) (c .if2 .left)),
+      asked (c .before) ∙ ap (λ (x : Bool). x && within (limit l) (blockCodes (w l) (left b - count b) (drop (from b + 4 * w l) (s l)))) (not-false (c .before .block-limited .result) (c .if1 .left)),
     )
 
-returns-3 : tie.Need-returns-3 Inv-loop μ-loop
+returns-2 : tie.Need-returns-2 Inv-loop μ-loop
 unfolding within
-returns-3 c =
+returns-2 c =
     let l = c .before in
     let none : l .loop .left ≡ 0 = omega (arith, c .loop-test .left) in
     sym (l .loop .inv .1
@@ -165,20 +143,16 @@ blocks-limited-spec =
     (tie.spec
     Inv-loop
     μ-loop
-    sub-if1
-    shl-if1
-    sub-if1-2
-    returns
     loop-holds
     block-count-requires
     sub-block-limited
     part-block-limited-start
     part-block-limited-end
     block-limited-requires
-    returns-2
+    returns
     mul-from
     add-from
     sub-left
     loop-less
     loop-again
-    returns-3)
+    returns-2)

@@ -15,10 +15,10 @@ use Rattle.stream.proofs.group_checked.blocks_reached.Statement.{statem
 use Rattle.stream.proofs.group_checked.blocks_reached.Tie as tie
 
 abbrev Inv-loop : tie.InvT-loop
-Inv-loop s n w from₀ left₀ from left = Along w s left from × (eqb w (widthOf (groupCodes n s)) ≡ eqb w (widthOf (blockCodes w left (drop from s))))
+Inv-loop s w n from₀ left₀ from left = Along w s left from × (eqb w (widthOf (groupCodes n s)) ≡ eqb w (widthOf (blockCodes w left (drop from s))))
 
 abbrev μ-loop : tie.MeasureT-loop
-μ-loop s n w from₀ left₀ from left = left
+μ-loop s w n from₀ left₀ from left = left
 
 -- the loop's place
 module _ (l : tie.At-loop Inv-loop μ-loop) where
@@ -75,17 +75,17 @@ loop-holds c =
 block-count-requires : tie.Need-block-count-requires Inv-loop μ-loop
 block-count-requires c κs = search needs
 
-sub-block-reached : tie.Need-sub-block-reached Inv-loop μ-loop
-sub-block-reached c = turns c .inside
+sub-block-width : tie.Need-sub-block-width Inv-loop μ-loop
+sub-block-width c = turns c .inside
 
-part-block-reached-start : tie.Need-part-block-reached-start Inv-loop μ-loop
-part-block-reached-start c = turns c .inside
+part-block-width-start : tie.Need-part-block-width-start Inv-loop μ-loop
+part-block-width-start c = turns c .inside
 
-part-block-reached-end : tie.Need-part-block-reached-end Inv-loop μ-loop
-part-block-reached-end c = search needs
+part-block-width-end : tie.Need-part-block-width-end Inv-loop μ-loop
+part-block-width-end c = search needs
 
-block-reached-requires : tie.Need-block-reached-requires Inv-loop μ-loop
-block-reached-requires c κs =
+block-width-requires : tie.Need-block-width-requires Inv-loop μ-loop
+block-width-requires c κs =
     let b = c .before in
     let l = turn b in (
       omega (arith, b .block-count .ensures),
@@ -100,7 +100,7 @@ returns c =
     let l = turn b in
     sym (asked b
     ∙ reached-here (w l) (codes b) (rest b) (block-below (w l) (count b) (part b)) (block-below (w l) (left b - count b) (drop (from b + 4 * w l) (s l)))
-    (sym (c .before .block-reached .ensures) ∙ c .if1 .taken))
+    (sym (c .if1 .taken) ∙ c .before .block-width .ensures))
 
 mul-from : tie.Need-mul-from Inv-loop μ-loop
 mul-from c = omega (arith, start (turn (c .before .before .before)) .pre .2)
@@ -119,7 +119,7 @@ loop-again c =
     let b = c .before .before .before in
     let l = turn b in (
       turns b .on,
-      asked b ∙ reached-later (w l) (codes b) (rest b) (block-below (w l) (count b) (part b)) (sym (c .before .block-reached .ensures) ∙ c .if1 .left),
+      asked b ∙ reached-later (w l) (codes b) (rest b) (block-below (w l) (count b) (part b)) (λ e. c .if1 .left (c .before .block-width .ensures ∙ sym e)),
     )
 
 returns-2 : tie.Need-returns-2 Inv-loop μ-loop
@@ -138,10 +138,10 @@ blocks-reached-spec =
     μ-loop
     loop-holds
     block-count-requires
-    sub-block-reached
-    part-block-reached-start
-    part-block-reached-end
-    block-reached-requires
+    sub-block-width
+    part-block-width-start
+    part-block-width-end
+    block-width-requires
     returns
     mul-from
     add-from

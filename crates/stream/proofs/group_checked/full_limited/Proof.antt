@@ -1,19 +1,11 @@
 -- `stream::group_checked::full_limited` meets its contract: what is opened is the block's codes.
 -- Assumes nothing.
-use mathlib.Core.Path.{_≡_, ap, _∙_}
-use mathlib.Core.List.{List, [], _++_, append-nil}
-use Prim.Native.Nat.{ℕ, _/_, _^_}
-use Rattle.blocks.specs.Bytes.{number, digits}
+use mathlib.Core.Path.{refl, ap, _∙_}
 use Rattle.stream.specs.Group.{within}
-use Rattle.stream.specs.Block.{blockCodes}
+use Rattle.stream.proofs.Law.Group.Blocks.{opened-codes}
 use borrow.Author.Needs.{needs}
 use Rattle.stream.proofs.group_checked.full_limited.Statement.{statement}
 use Rattle.stream.proofs.group_checked.full_limited.Tie as tie
-
--- a block's codes, with nothing behind them
-codes : (s : List ℕ) (w : ℕ) → digits (2 ^ w) 32 (number 256 s / 2 ^ 8) ++ [] ≡ blockCodes w 32 s
-unfolding blockCodes
-codes s w = append-nil (digits (2 ^ w) 32 (number 256 s / 256))
 
 slice-aggregate-opened32 : tie.Need-slice-aggregate-opened32
 slice-aggregate-opened32 c = search needs
@@ -31,7 +23,7 @@ returns : tie.Need-returns
 returns c =
     let f = c .before .before .before .before .before .before .before in
     c .limited32 .ensures
-    ∙ ap (within (f .args .limit)) (c .before .before .before .opened32 .ensures ∙ codes (f .args .s .now) (f .args .w))
+    ∙ ap (within (f .args .limit)) (c .before .before .before .opened32 .ensures ∙ opened-codes (f .args .w) 32 (f .args .s .now) refl)
 
 slice-aggregate-opened64 : tie.Need-slice-aggregate-opened64
 slice-aggregate-opened64 c = search needs
@@ -49,7 +41,7 @@ returns-2 : tie.Need-returns-2
 returns-2 c =
     let f = c .before .before .before .before .before .before .before in
     c .limited .ensures
-    ∙ ap (within (f .args .limit)) (c .before .before .before .opened64 .ensures ∙ codes (f .args .s .now) (f .args .w))
+    ∙ ap (within (f .args .limit)) (c .before .before .before .opened64 .ensures ∙ opened-codes (f .args .w) 32 (f .args .s .now) refl)
 
 pub full-limited-spec : {M : Type 1} → statement M
 full-limited-spec =

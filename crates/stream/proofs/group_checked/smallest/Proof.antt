@@ -1,32 +1,36 @@
+-- `stream::group_checked::smallest` meets its contract: a full group of 32 is one block.
+-- Assumes nothing.
+use mathlib.Core.Path.{sym, ap, _∙_}
+use mathlib.Core.List.{List}
+use Prim.Native.Nat.{ℕ}
+use lib.Dec.{eqb}
+use Rattle.stream.specs.Group.{widthOf}
+use Rattle.stream.proofs.Law.Group.Blocks.{one-block}
 use borrow.Author.Needs.{needs}
 use Rattle.stream.proofs.group_checked.smallest.Statement.{statement}
 use Rattle.stream.proofs.group_checked.smallest.Tie as tie
-use Rattle.stream.proofs.group_checked.smallest.Reads as reads
-use Rattle.stream.proofs.group_checked.smallest.Lts as lts
-use Rattle.stream.proofs.group_checked.blocks_reached.Reads as blocks-reached-reads
-use Rattle.stream.proofs.group_checked.reached_by_four.Reads as reached-by-four-reads
 
--- src/group_checked.rt:122:12
 mul-if2 : tie.Need-mul-if2
 mul-if2 c = search needs
 
--- src/group_checked.rt:122:12
 add-if2 : tie.Need-add-if2
 add-if2 c = search needs
 
--- src/group_checked.rt:123:13
 reached-by-four-requires : tie.Need-reached-by-four-requires
 reached-by-four-requires c κs = search needs
 
--- src/group_checked.rt:123:13
 returns : tie.Need-returns
-returns c = ?
+returns c =
+    let full = c .before .before in
+    let f = full .before .before in
+    let a = f .args in
+    c .reached-by-four .ensures
+    ∙ ap (λ (cs : List ℕ). eqb (a .w) (widthOf cs))
+    (sym (one-block (a .n) (a .w) (a .s .now) (λ i. full .before .shared-slice-known .given i .fits) (f .pre .3) (full .if1 .taken)))
 
--- src/group_checked.rt:126:5
 blocks-reached-requires : tie.Need-blocks-reached-requires
 blocks-reached-requires c κs = search needs
 
--- src/group_checked.rt:117:1
 returns-2 : tie.Need-returns-2
 returns-2 c = search needs
 

@@ -1,5 +1,4 @@
--- `stream::lent::group_sum` meets its contract: in mode 2 the last sum of the group, else anything goes. The invariant: the last sum of the blocks left,
--- behind the last sum so far, is that of the group.
+-- `stream::lent::group_sum` meets its contract. The invariant: the last sum of the blocks left, behind the last sum so far, is that of the group.
 use mathlib.Core.List.{List}
 use mathlib.Core.Path.{_≡_, sym, ap, _∙_}
 use Prim.Native.Nat.{ℕ, _+_, _*_, _-_, _^_, _≤_, _<_}
@@ -11,10 +10,8 @@ use Rattle.numbers.specs.Difference.{runningSums, lastOf}
 use Rattle.numbers.proofs.Theorems.{no-sums, nothing-carries-on}
 use Rattle.stream.specs.Group.{givenWidth, groupLength, groupCodes}
 use Rattle.stream.specs.Block.{blockCodes}
-use Rattle.stream.specs.Setting.{patternsAfter}
 use Rattle.stream.proofs.Law.Group.Blocks.{codes-are, no-block, next-block, Along, starts-along, Next, next, carry-append}
 use Rattle.stream.proofs.Law.Setting.Allowed.{width-most}
-use Rattle.stream.proofs.Law.Setting.Codes.{any-before, patterns-by-sum}
 use borrow.Author.Needs.{needs}
 use Rattle.stream.proofs.lent.group_sum.Statement.{statement}
 use Rattle.stream.proofs.lent.group_sum.Tie as tie
@@ -27,14 +24,14 @@ Inv-loop t before s n w last₀ from₀ left₀ last from left =
 abbrev μ-loop : tie.MeasureT-loop
 μ-loop t before s n w last₀ from₀ left₀ last from left = left
 
-width-is : (c : tie.After-wide Inv-loop μ-loop) → c .wide .result ≡ givenWidth (c .before .before .before .before .before .args .s .now)
+width-is : (c : tie.After-wide Inv-loop μ-loop) → c .wide .result ≡ givenWidth (c .before .before .before .args .s .now)
 unfolding givenWidth
 width-is c = c .wide .ensures .0
 
 -- the loop's place
 module _ (l : tie.At-loop Inv-loop μ-loop) where
   abbrev start : tie.Start Inv-loop μ-loop
-  start = l .before .before .before .before .before .before
+  start = l .before .before .before .before
 
   abbrev s : List ℕ
   s = start .args .s .now
@@ -52,7 +49,7 @@ module _ (l : tie.At-loop Inv-loop μ-loop) where
   narrow = le-trans under (width-most W (start .pre .0 .known))
 
   bytes : Below 256 s
-  bytes i = l .before .before .before .before .before .shared-slice-known .given i .fits
+  bytes i = l .before .before .before .shared-slice-known .given i .fits
 
 -- the block that comes next
 module _ (c : tie.After-block-count Inv-loop μ-loop) where
@@ -74,24 +71,21 @@ module _ (c : tie.After-block-count Inv-loop μ-loop) where
   turns : Next (w turn) (s turn) left count from
   turns = next (turn .loop .inv .0) (c .before .loop-test .taken) (c .block-count .ensures) (narrow turn)
 
-returns : tie.Need-returns Inv-loop μ-loop
-returns c = let f = c .before .before .before in (f .pre .1, λ cs. any-before (f .args .t) _ _ cs (c .if1 .taken))
-
 shared-slice-read-wide : tie.Need-shared-slice-read-wide Inv-loop μ-loop
 unfolding groupLength
-shared-slice-read-wide c = omega (arith, c .before .before .before .before .pre .4)
+shared-slice-read-wide c = omega (arith, c .before .before .pre .4)
 
 wide-requires : tie.Need-wide-requires Inv-loop μ-loop
 wide-requires c κs = search needs
 
 loop-holds : tie.Need-loop-holds Inv-loop μ-loop
 loop-holds c =
-    let f = c .before .before .before .before .before in
+    let f = c .before .before .before in
     let a = f .args in (
       starts-along (a .n) (f .pre .2) (width-is c) (f .pre .4),
       f .pre .1,
       ap (λ (cs : List ℕ). lastOf (a .before) (runningSums (a .t .width) (a .before) cs))
-          (codes-are (a .n) (c .wide .result) (a .s .now) (λ i. c .before .before .before .before .shared-slice-known .given i .fits) (width-is c)),
+          (codes-are (a .n) (c .wide .result) (a .s .now) (λ i. c .before .before .shared-slice-known .given i .fits) (width-is c)),
     )
 
 block-count-requires : tie.Need-block-count-requires Inv-loop μ-loop
@@ -143,20 +137,17 @@ loop-again c =
           ∙ carry-append (W l) last (c .block-sum .result) codes rest (c .block-sum .ensures .1),
     )
 
-returns-2 : tie.Need-returns-2 Inv-loop μ-loop
-returns-2 c =
+returns : tie.Need-returns Inv-loop μ-loop
+returns c =
     let l = c .before in
-    let a = start l .args in
     let last = l .loop .last in
     let none : l .loop .left ≡ 0 = omega (arith, c .loop-test .left) in
-    let rest = drop (l .loop .from) (s l) in
-    let is : last ≡ lastOf (a .before) (runningSums (W l) (a .before) (groupCodes (a .n) (s l))) =
-    sym (l .loop .inv .2
-    ∙ ap (λ (cs : List ℕ). lastOf last (runningSums (W l) last cs)) (ap (λ (k : ℕ). blockCodes (w l) k rest) none ∙ no-block (w l) rest)
-    ∙ ap (lastOf last) (no-sums (W l) last) ∙ nothing-carries-on last) in (
+    let rest = drop (l .loop .from) (s l) in (
       l .loop .inv .1,
-      λ ds. ap (λ (b : ℕ). patternsAfter (a .t) b ds)
-          (is ∙ ap (lastOf (a .before)) (sym (patterns-by-sum (a .t) (a .before) (groupCodes (a .n) (s l)) (l .before .before .before .if1 .left)))),
+      sym (l .loop .inv .2
+          ∙ ap (λ (cs : List ℕ). lastOf last (runningSums (W l) last cs)) (ap (λ (k : ℕ). blockCodes (w l) k rest) none ∙ no-block (w l) rest)
+          ∙ ap (lastOf last) (no-sums (W l) last)
+          ∙ nothing-carries-on last),
     )
 
 pub group-sum-spec : {M : Type 1} → statement M
@@ -165,7 +156,6 @@ group-sum-spec =
     (tie.spec
     Inv-loop
     μ-loop
-    returns
     shared-slice-read-wide
     wide-requires
     loop-holds
@@ -179,4 +169,4 @@ group-sum-spec =
     sub-left
     loop-less
     loop-again
-    returns-2)
+    returns)

@@ -6,7 +6,6 @@ use native.Mathlib.Nat.{zero-add}
 use native.Mathlib.Omega.{arith}
 use lib.ListN.{length, take, drop, length-take, length-drop}
 use Rattle.blocks.specs.Bytes.{Below}
-use Rattle.stream.specs.Group.{givenWidth, groupLength}
 use Rattle.stream.specs.Block.{blockCodes}
 use Rattle.stream.proofs.Law.Plain.Appended.{Appended, nothing-yet, same-room, one-piece, all-there}
 use Rattle.stream.proofs.Law.Group.Blocks.{codes-are, length-block, no-block, next-block, Along, starts-along, Next, next}
@@ -15,32 +14,28 @@ use Rattle.stream.proofs.lent.read_blocks32.Statement.{statement}
 use Rattle.stream.proofs.lent.read_blocks32.Tie as tie
 
 abbrev Inv-loop : tie.InvT-loop
-Inv-loop s n out₀ w from₀ done₀ out from done =
+Inv-loop s w n out₀ from₀ done₀ out from done =
     (left : ℕ) × (done + left ≡ n) × Along w s left from × Appended (blockCodes w n s) (blockCodes w left (drop from s)) out₀ out done
 
 abbrev μ-loop : tie.MeasureT-loop
-μ-loop s n out₀ w from₀ done₀ out from done = n - done
-
-width-is : (c : tie.After-wide Inv-loop μ-loop) → c .wide .result ≡ givenWidth (c .before .before .before .before .args .s .now)
-unfolding givenWidth
-width-is c = c .wide .ensures .0
+μ-loop s w n out₀ from₀ done₀ out from done = n - done
 
 -- the loop's place
 module _ (l : tie.At-loop Inv-loop μ-loop) where
   abbrev start : tie.Start Inv-loop μ-loop
-  start = l .before .before .before .before .before
+  start = l .before .before .before
 
   abbrev s : List ℕ
   s = start .args .s .now
 
   abbrev w : ℕ
-  w = l .before .wide .result
+  w = start .args .w
 
   narrow : w ≤ 32
-  narrow = omega (arith, width-is (l .before), start .pre .2)
+  narrow = start .pre .2
 
   bytes : Below 256 s
-  bytes i = l .before .before .before .before .shared-slice-known .given i .fits
+  bytes i = l .before .before .shared-slice-known .given i .fits
 
   abbrev left : ℕ
   left = l .loop .inv .0
@@ -74,22 +69,14 @@ module _ (c : tie.After-block-count Inv-loop μ-loop) where
   turns : Next (w turn) (s turn) (left turn) count from
   turns = next (turn .loop .inv .2) some count-is (omega (arith, narrow turn))
 
-shared-slice-read-wide : tie.Need-shared-slice-read-wide Inv-loop μ-loop
-unfolding groupLength
-shared-slice-read-wide c = omega (arith, c .before .before .before .pre .3)
-
-wide-requires : tie.Need-wide-requires Inv-loop μ-loop
-wide-requires c κs = search needs
-
 loop-holds : tie.Need-loop-holds Inv-loop μ-loop
 loop-holds c =
-    let f = c .before .before .before .before in
-    let a = f .args in
-    let w = c .wide .result in (
+    let f = c .before .before in
+    let a = f .args in (
       a .n,
       zero-add (a .n),
-      starts-along (a .n) (f .pre .0) (width-is c) (f .pre .3),
-      nothing-yet (blockCodes w (a .n) (a .s .now)) (a .out .now) (rw length-block (f .pre .4)),
+      starts-along (a .n) (f .pre .0) (f .pre .3) (f .pre .4),
+      nothing-yet (blockCodes (a .w) (a .n) (a .s .now)) (a .out .now) (rw length-block (f .pre .5)),
     )
 
 sub-block-count : tie.Need-sub-block-count Inv-loop μ-loop
@@ -111,10 +98,10 @@ mul-read-block32 : tie.Need-mul-read-block32 Inv-loop μ-loop
 mul-read-block32 c = let l = turn (c .before) in omega (arith, place l, start l .pre .0)
 
 sub-read-block32-2 : tie.Need-sub-read-block32-2 Inv-loop μ-loop
-sub-read-block32-2 c = let l = turn (c .before) in omega (arith, place l, room l, start l .pre .4)
+sub-read-block32-2 c = let l = turn (c .before) in omega (arith, place l, room l, start l .pre .5)
 
 part-read-block32-start-2 : tie.Need-part-read-block32-start-2 Inv-loop μ-loop
-part-read-block32-start-2 c = let l = turn (c .before) in omega (arith, place l, room l, start l .pre .4)
+part-read-block32-start-2 c = let l = turn (c .before) in omega (arith, place l, room l, start l .pre .5)
 
 part-read-block32-end-2 : tie.Need-part-read-block32-end-2 Inv-loop μ-loop
 part-read-block32-end-2 c = search needs
@@ -124,10 +111,10 @@ read-block32-requires c κs =
     let b = c .before .before in
     let l = turn b in (
       omega (arith, b .block-count .ensures),
-      omega (arith, width-is (l .before), start l .pre .1),
+      start l .pre .1,
       narrow l,
       turns b .there,
-      rw (length-take, length-drop) (omega (arith, place l, room l, start l .pre .4, count-is b)),
+      rw (length-take, length-drop) (omega (arith, place l, room l, start l .pre .5, count-is b)),
     )
 
 mul-from : tie.Need-mul-from Inv-loop μ-loop
@@ -171,7 +158,7 @@ returns c =
     (subst (λ (rest : List ℕ). Appended all rest (a .out .now) (v .out) (v .done))
     (ap (λ (k : ℕ). blockCodes (w l) k (drop (v .from) (s l))) none ∙ no-block (w l) (drop (v .from) (s l))) (v .inv .3))
     ∙ ap (λ (k : ℕ). all ++ drop k (a .out .now)) end
-    ∙ ap (λ (cs : List ℕ). cs ++ drop (a .n) (a .out .now)) (sym (codes-are (a .n) (w l) (s l) (bytes l) (width-is (l .before))))
+    ∙ ap (λ (cs : List ℕ). cs ++ drop (a .n) (a .out .now)) (sym (codes-are (a .n) (w l) (s l) (bytes l) (start l .pre .3)))
 
 pub read-blocks32-spec : {M : Type 1} → statement M
 read-blocks32-spec =
@@ -179,8 +166,6 @@ read-blocks32-spec =
     (tie.spec
     Inv-loop
     μ-loop
-    shared-slice-read-wide
-    wide-requires
     loop-holds
     sub-block-count
     block-count-requires

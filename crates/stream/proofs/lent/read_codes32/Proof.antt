@@ -1,49 +1,72 @@
+-- `stream::lent::read_codes32` meets its contract: a full group of 32 is one block, which is opened at once.
+use mathlib.Core.Path.{_≡_, sym, ap₂, _∙_}
+use mathlib.Core.List.{List, _++_}
+use Prim.Native.Nat.{ℕ}
+use native.Mathlib.Omega.{arith}
+use lib.ListN.{drop}
+use Rattle.stream.specs.Group.{givenWidth, groupLength}
+use Rattle.stream.specs.Block.{blockCodes}
+use Rattle.stream.proofs.Law.Group.Blocks.{one-block}
 use borrow.Author.Needs.{needs}
 use Rattle.stream.proofs.lent.read_codes32.Statement.{statement}
 use Rattle.stream.proofs.lent.read_codes32.Tie as tie
-use Rattle.stream.proofs.lent.read_codes32.Reads as reads
-use Rattle.stream.proofs.lent.read_codes32.Lts as lts
-use Rattle.blocks.proofs.block32.opened32.Reads as opened32-reads
-use Rattle.blocks.proofs.bytes.wide.Reads as wide-reads
-use Rattle.stream.proofs.lent.read_blocks32.Reads as read-blocks32-reads
 
--- src/lent.rt:494:25
+width-is : (c : tie.After-wide) → c .wide .result ≡ givenWidth (c .before .before .before .before .args .s .now)
+unfolding givenWidth
+width-is c = c .wide .ensures .0
+
 shared-slice-read-wide : tie.Need-shared-slice-read-wide
-shared-slice-read-wide c = ?
+unfolding groupLength
+shared-slice-read-wide c = omega (arith, c .before .before .before .pre .3)
 
--- src/lent.rt:494:13
 wide-requires : tie.Need-wide-requires
 wide-requires c κs = search needs
 
--- src/lent.rt:496:12
 mul-if2 : tie.Need-mul-if2
 mul-if2 c = search needs
 
--- src/lent.rt:496:12
 add-if2 : tie.Need-add-if2
 add-if2 c = search needs
 
--- src/lent.rt:497:13
 opened32-requires : tie.Need-opened32-requires
-opened32-requires c κs = ?
+opened32-requires c κs =
+    let read = c .before .before .before in
+    let p = read .before .before .before .before .pre in (
+      omega (arith, width-is read, p .1),
+      omega (arith, width-is read, p .2),
+      c .before .if2 .taken,
+      omega (arith, p .4, c .before .before .if1 .taken),
+    )
 
--- src/lent.rt:498:13
 same-length : tie.Need-same-length
 same-length c = search needs
 
--- src/lent.rt:498:13
 returns : tie.Need-returns
-returns c = ?
+unfolding blockCodes
+returns c =
+    let full = c .before .before .before .before .before in
+    let read = full .before in
+    let a = read .before .before .before .before .args in
+    c .before .before .opened32 .ensures
+    ∙ ap₂ (λ (cs : List ℕ) (n : ℕ). cs ++ drop n (a .out .now))
+    (sym (one-block (a .n) (read .wide .result) (a .s .now) (λ i. read .before .before .before .shared-slice-known .given i .fits) (width-is read) (full .if1 .taken)))
+    (sym (full .if1 .taken))
 
--- src/lent.rt:501:5
 read-blocks32-requires : tie.Need-read-blocks32-requires
-read-blocks32-requires c κs = ?
+read-blocks32-requires c κs =
+    let read = c .before .before in
+    let p = read .before .before .before .before .pre in (
+      p .0,
+      omega (arith, width-is read, p .1),
+      omega (arith, width-is read, p .2),
+      width-is read,
+      p .3,
+      p .4,
+    )
 
--- src/lent.rt:490:1
 same-length-2 : tie.Need-same-length-2
 same-length-2 c = search needs
 
--- src/lent.rt:490:1
 returns-2 : tie.Need-returns-2
 returns-2 c = search needs
 
