@@ -1,11 +1,10 @@
 // Groups checked: the rules of refusal 10, where the bytes stand.
 ghost use mathlib.Core.Path.{_≡_};
-ghost use Prim.Native.Nat.{ℕ, _+_, _*_, _^_, _≤_, _<_};
+ghost use Prim.Native.Nat.{ℕ, _+_, _*_, _≤_, _<_};
 ghost use lib.Bits.{bitOr};
 ghost use lib.Dec.{eqb};
 ghost use lib.Ieee.{size};
 ghost use lib.ListN.{length, getD};
-ghost use Rattle.blocks.specs.Bytes.{Below};
 ghost use Rattle.stream.specs.Group.{bytesFor, widthOf, givenWidth, groupLength, groupCodes, within, groupAnswer};
 ghost use Rattle.stream.specs.Block.{blockCodes};
 use crate::group;
@@ -20,21 +19,6 @@ fn as_wide(code: u64, w: usize) -> bool
     ensures { λ r. ⌜ r ≡ eqb (size code) w ⌝ }
 {
     64 - (u64::leading_zeros(code) as usize) == w
-}
-
-// Whether w is the smallest width of codes that it holds: the first that is as wide settles it.
-fn reached(codes: &[u64], w: usize) -> bool
-    requires { ⌜ (1 ≤ w) × (Below (2 ^ w) (now codes)) ⌝ }
-    ensures { λ r. ⌜ r ≡ eqb w (widthOf (now (codes .entry))) ⌝ }
-{
-    let mut i: usize = 0;
-    while i < codes.len() {
-        if as_wide(codes[i], w) {
-            return true;
-        }
-        i += 1;
-    }
-    false
 }
 
 // The OR of a full block's codes i, i + 8, i + 16 and i + 24, if the bytes go on far enough for the loads of every code. Eight codes are w
