@@ -106,7 +106,7 @@ INLINED uint64_t take_code(const uint8_t *window, unsigned bit, unsigned w)
 }
 
 /* w is smallest when some code has its highest bit set; in most groups one of the first few has. */
-static int width_is_smallest(const uint8_t *packed, size_t count, unsigned w)
+INLINED int width_is_smallest(const uint8_t *packed, size_t count, unsigned w)
 {
     for (size_t highest = w - 1; highest < count * w; highest += w)
         if (packed[highest / 8] >> highest % 8 & 1)
@@ -610,19 +610,21 @@ static WORD NAME(largest_code)(struct setting s)
     return s.mode == 1 ? ~(WORD)0 - ((WORD)(s.k - LEAST_K) << (M + 1)) : ~(WORD)0;
 }
 
-/* Whether the codes of a block at a place of a stream are no larger than the largest. */
+/* Whether the codes of a group at a place of a stream are no larger than the largest. */
 static int NAME(all_fit)(const struct stream *stream, size_t place, size_t count, unsigned w, WORD most)
 {
-    WORD codes[BLOCK];
-    NAME(take)(stream, place, codes, w);
     int all_fit = 1;
-    for (size_t i = 0; i < count; i++)
-        all_fit &= codes[i] <= most;
+    for (size_t at = 0; at < count; at += BLOCK, place += 4 * w) {
+        WORD codes[BLOCK];
+        NAME(take)(stream, place, codes, w);
+        for (size_t i = 0; i < least(BLOCK, count - at); i++)
+            all_fit &= codes[i] <= most;
+    }
     return all_fit;
 }
 
 /* The smallest width, zero padding and the largest code of a group whose bytes are there. */
-static int NAME(group_holds)(const struct stream *stream, size_t place, size_t count, unsigned w, WORD most)
+INLINED int NAME(group_holds)(const struct stream *stream, size_t place, size_t count, unsigned w, WORD most)
 {
     const uint8_t *packed = stream->bytes + place;
     if (w == 0)
@@ -633,9 +635,6 @@ static int NAME(group_holds)(const struct stream *stream, size_t place, size_t c
     unsigned longest = bit_length(most);
     if (w != longest || most == ~(WORD)0)
         return w <= longest;
-    for (; count > BLOCK; count -= BLOCK, place += 4 * w)
-        if (!NAME(all_fit)(stream, place, BLOCK, w, most))
-            return 0;
     return NAME(all_fit)(stream, place, count, w, most);
 }
 

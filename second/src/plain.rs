@@ -313,8 +313,12 @@ fn codes_of<P: Lane, const G: usize>(group: &[P], code: impl Fn(P) -> P) -> [P; 
 #[inline(always)]
 fn coded<P: Lane, const G: usize>(patterns: &[P; G], code: impl Fn(P) -> P) -> [P; G] {
     let mut codes = [P::default(); G];
-    for (to, &from) in codes.iter_mut().zip(patterns) {
-        *to = code(from);
+    // Block by block: the compiler unrolls a loop of 32.
+    let blocks = codes.as_chunks_mut::<BLOCK>().0.iter_mut().zip(patterns.as_chunks::<BLOCK>().0);
+    for (to, from) in blocks {
+        for (to, &from) in to.iter_mut().zip(from) {
+            *to = code(from);
+        }
     }
     codes
 }
@@ -520,7 +524,9 @@ pub fn length<P: Lane>(level: u32, mode: u32, k: i32, group: u32, values: &[P]) 
 /// The bit length of the largest code is that of all codes or-ed together.
 #[inline(always)]
 fn width_of<P: Lane, const G: usize>(codes: &[P; G]) -> u32 {
-    let all = codes.iter().fold(P::default(), |all, &code| all | code);
+    let of_block = |block: &[P; BLOCK]| block.iter().fold(P::default(), |all, &code| all | code);
+    let blocks = codes.as_chunks().0.iter();
+    let all = blocks.map(of_block).fold(P::default(), |all, block| all | block);
     64 - all.wide().leading_zeros()
 }
 
@@ -811,6 +817,7 @@ fn value_in_bad_group<P: Lane, const G: usize>(
 
 /// The smallest width, zero padding and the largest code of the group whose
 /// codes begin the bytes.
+#[inline(always)]
 fn group_holds<P: Lane>(bytes: &[u8], count: usize, w: u32, most: P) -> bool {
     if w == 0 {
         return true;
@@ -832,8 +839,13 @@ fn group_holds<P: Lane>(bytes: &[u8], count: usize, w: u32, most: P) -> bool {
     if w != longest || most.wide() == u64::MAX >> (64 - P::W) {
         return w <= longest;
     }
+    codes_fit(bytes, count, w, most)
+}
+
+/// Whether none of these codes is larger than the largest.
+fn codes_fit<P: Lane>(bytes: &[u8], count: usize, w: u32, most: P) -> bool {
     (0..count).step_by(BLOCK).all(|first| {
-        let codes: [P; BLOCK] = taken(&bytes[first / 8 * step..], w);
+        let codes: [P; BLOCK] = taken(&bytes[first / 8 * w as usize..], w);
         let own = &codes[..BLOCK.min(count - first)];
         own.iter().fold(true, |all_fit, &code| all_fit & (code <= most))
     })
@@ -914,19 +926,21 @@ fn block_of(group: &[u8], block: usize) -> (u32, &[u8]) {
 /// and follow each other without a gap.
 fn unpack_data<P: Lane, const G: usize>(mut data: &[u8], output: &mut [P], rule: impl Rule<P>) {
     for chunk in output.chunks_mut(CHUNK) {
-        let (mut still, mut w) = (P::default(), 0);
-        for (number, block) in chunk.chunks_mut(BLOCK).enumerate() {
-            if number % (G / BLOCK) == 0 {
-                w = data[0] as u32;
-                data = &data[1..];
-            }
-            let packed = data;
-            data = &packed[bytes_of(block.len(), w)..];
+        let mut still = P::default();
+        for group in chunk.chunks_mut(G) {
+            let (w, packed) = (data[0] as u32, &data[1..]);
+            data = &packed[bytes_of(group.len(), w)..];
             if w == 0 {
-                block.fill(still);
+                group.fill(still);
                 continue;
             }
-            still = rule.restore(packed, w, still, block);
+            if G == BLOCK {
+                still = rule.restore(packed, w, still, group);
+                continue;
+            }
+            for (number, block) in group.chunks_mut(BLOCK).enumerate() {
+                still = rule.restore(&packed[number * bytes_of(BLOCK, w)..], w, still, block);
+            }
         }
     }
 }

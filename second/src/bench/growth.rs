@@ -12,6 +12,7 @@ pub const LENGTHS: [usize; 6] = [1 << 10, 1 << 12, 1 << 14, 1 << 16, 1 << 18, 1 
 pub struct Growth {
     pub width: u32,
     pub mode: u32,
+    pub group: u32,
     /// For each of the lengths, the timings of the whole field.
     pub by_length: Vec<Vec<Timing>>,
 }
@@ -40,7 +41,7 @@ pub fn measure<P: Value>(setting: Setting, ours: &Codec<P>, watch: Watch) -> Gro
     }
     let timings = timed(&contenders, &mut space, watch);
     let by_length = timings.chunks(contenders.len() / LENGTHS.len()).map(<[_]>::to_vec).collect();
-    Growth { width: P::W, mode: setting.mode, by_length }
+    Growth { width: P::W, mode: setting.mode, group: setting.group, by_length }
 }
 
 fn lists_of<'a, P: Value>(

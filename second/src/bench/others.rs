@@ -17,6 +17,12 @@ pub type PackOther<P> = Box<dyn Fn(Setting, &[P], &mut [u8]) -> usize>;
 pub type UnpackOther<P> = Box<dyn Fn(Setting, &[u8], &mut [P]) -> usize>;
 
 impl<P: Value> Other<P> {
+    /// It knows no group size, so it runs once for each mode it has: beside groups
+    /// of 32.
+    pub fn runs_beside(&self, setting: Setting) -> bool {
+        setting.group == 32 && self.modes.contains(&setting.mode)
+    }
+
     pub fn packed(&self, setting: Setting, values: &[P]) -> Vec<u8> {
         let mut packed = vec![0; (self.room)(size_of_val(values))];
         let length = (self.pack)(setting, values, &mut packed);

@@ -11,6 +11,7 @@ struct Point {
     operation: Operation,
     width: u32,
     mode: u32,
+    group: u32,
     field: String,
     /// Packed bytes by raw bytes.
     share: f64,
@@ -20,7 +21,8 @@ struct Point {
 }
 
 /// The other versions of our own format are not drawn: they have our sizes, and
-/// the tables have their speeds.
+/// the tables have their speeds. Nor are groups of 128, whose marks lie on those of
+/// 32 or beside them: a table has both.
 const DRAWN: [Who; 5] = [Who::Ours, Who::Lz4, Who::Zstd, Who::Zfp, Who::Blosc];
 
 /// The picture as SVG, or nothing if the text is not a results.csv.
@@ -39,7 +41,8 @@ pub fn picture(csv: &str) -> Option<String> {
 
 fn point(line: &str) -> Option<Point> {
     let columns: Vec<&str> = line.split(',').collect();
-    let [width, mode, field, who, operation, raw, packed, median, _, lost] = columns[..] else {
+    let [width, mode, group, field, who, operation, raw, packed, median, _, lost] = columns[..]
+    else {
         return None;
     };
     let (raw, packed, median): (f64, f64, f64) =
@@ -49,6 +52,7 @@ fn point(line: &str) -> Option<Point> {
         operation: Operation::ALL.iter().copied().find(|o| o.name() == operation)?,
         width: width.parse().ok()?,
         mode: mode.parse().ok()?,
+        group: group.parse().ok()?,
         field: field.to_string(),
         share: packed / raw,
         megabytes_a_second: raw / 1e6 / median,
@@ -114,7 +118,7 @@ fn opening(svg: &mut String) {
     text(svg, 75.0, 34.0, "font-size=\"20\" font-weight=\"bold\"", "Speed against size");
     let about =
         "Fields of up to 1,048,576 values, medians. Upward is faster, leftward is smaller. \
-                 A cross: values are lost.";
+                 Groups of 32. A cross: values are lost.";
     text(svg, 75.0, 56.0, "fill=\"#555\"", about);
 }
 
@@ -135,6 +139,7 @@ impl Panel {
         self.memcpy_line(svg, points);
         let here = |point: &&Point| {
             DRAWN.contains(&point.who)
+                && point.group == 32
                 && (point.mode, point.operation) == (self.mode, self.operation)
         };
         let drawn: Vec<&Point> = points.iter().filter(here).collect();

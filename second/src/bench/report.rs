@@ -43,7 +43,7 @@ pub fn load_line() -> String {
 // --------------------------------------------------------------------- CSV
 
 pub const CSV_HEADER: &str =
-    "width,mode,field,who,operation,raw bytes,packed bytes,median seconds,minimum seconds,lost values";
+    "width,mode,group,field,who,operation,raw bytes,packed bytes,median seconds,minimum seconds,lost values";
 
 pub fn csv(rows: &[Row]) -> String {
     let mut text = format!("{CSV_HEADER}\n");
@@ -55,9 +55,9 @@ pub fn csv(rows: &[Row]) -> String {
             let runs = if timing.operation == Operation::Probe { PROBES as f64 } else { 1.0 };
             let (median, minimum) = (timing.median / runs, timing.minimum / runs);
             let (who, operation) = (timing.who.name(), timing.operation.name());
-            let Row { width, mode, field, .. } = row;
+            let Row { width, mode, group, field, .. } = row;
             let lost = lost_of(row, timing.who);
-            let _ = write!(text, "{width},{mode},{field},{who},{operation},");
+            let _ = write!(text, "{width},{mode},{group},{field},{who},{operation},");
             add(&mut text, format_args!("{raw},{packed},{median:e},{minimum:e},{lost}"));
         }
     }
@@ -65,14 +65,15 @@ pub fn csv(rows: &[Row]) -> String {
 }
 
 pub fn growth_csv(growths: &[Growth]) -> String {
-    let mut text =
-        String::from("width,mode,length,who,operation,median ns a value,minimum ns a value\n");
-    for Growth { width, mode, by_length } in growths {
+    let mut text = String::from(
+        "width,mode,group,length,who,operation,median ns a value,minimum ns a value\n",
+    );
+    for Growth { width, mode, group, by_length } in growths {
         for (length, timings) in LENGTHS.iter().zip(by_length) {
             for timing in timings {
                 let (who, operation) = (timing.who.name(), timing.operation.name());
                 let (median, minimum) = (per_value(timing.median), per_value(timing.minimum));
-                let _ = write!(text, "{width},{mode},{length},{who},{operation},");
+                let _ = write!(text, "{width},{mode},{group},{length},{who},{operation},");
                 add(&mut text, format_args!("{median:.4},{minimum:.4}"));
             }
         }
@@ -116,8 +117,8 @@ pub fn beside(baseline: Who, title: &str, rows: &[Row]) -> String {
     let mut text = format!(
         "Beside {title}. MB (10^6 raw bytes) a second, or ns a probe; in brackets the share of the \
          speed of {}, by medians and by minima.\n\n\
-         | width | mode | field | size | pack | pack, exact room | length | check | unpack | probe \
-         | memcpy |\n|---|---|---|---|---|---|---|---|---|---|---|\n",
+         | width | mode | group | field | size | pack | pack, exact room | length | check | unpack \
+         | probe | memcpy |\n|---|---|---|---|---|---|---|---|---|---|---|---|\n",
         baseline.name()
     );
     for row in rows {
@@ -126,11 +127,9 @@ pub fn beside(baseline: Who, title: &str, rows: &[Row]) -> String {
         let copy = timing_of(&row.timings, Who::Memcpy, Operation::Copy);
         let copy = copy.map_or(0.0, |copy| megabytes_a_second(row, copy.median));
         let size = share(row, Who::Ours);
-        let (Row { width, mode, field, .. }, cells) = (row, cells.join(" | "));
-        add(
-            &mut text,
-            format_args!("| {width} | {mode} | {field} | {size} | {cells} | {copy:.0} |"),
-        );
+        let (Row { width, mode, group, field, .. }, cells) = (row, cells.join(" | "));
+        let _ = write!(text, "| {width} | {mode} | {group} | {field} | {size} | ");
+        add(&mut text, format_args!("{cells} | {copy:.0} |"));
     }
     text + "\n"
 }
@@ -166,18 +165,51 @@ pub fn differences(rows: &[Row]) -> String {
          |---|---|---|---|---|---|\n",
     );
     // The fields of both modes stand in the same order.
-    let in_mode = |mode: u32| rows.iter().filter(move |row| row.mode == mode);
+    let in_mode = |mode: u32| rows.iter().filter(move |row| (row.mode, row.group) == (mode, 32));
     for (lossless, row) in in_mode(0).zip(in_mode(2)) {
         let sizes = [lossless, row].map(|row| share(row, Who::Ours)).join(" | ");
-        let [pack, unpack] = [Operation::Pack, Operation::Unpack].map(|operation| {
-            let found = [row, lossless].map(|row| timing_of(&row.timings, Who::Ours, operation));
-            let [Some(one), Some(other)] = found else { return String::new() };
-            shares(one, other)
-        });
+        let [pack, unpack] = [Operation::Pack, Operation::Unpack]
+            .map(|operation| share_of_speed(row, lossless, operation));
         let Row { width, field, .. } = row;
         add(&mut text, format_args!("| {width} | {field} | {sizes} | {pack} | {unpack} |"));
     }
     text + "\n"
+}
+
+/// The library's speed in one row as a share of that in another.
+fn share_of_speed(row: &Row, other: &Row, operation: Operation) -> String {
+    let found = [row, other].map(|row| timing_of(&row.timings, Who::Ours, operation));
+    let [Some(one), Some(other)] = found else { return String::new() };
+    shares(one, other)
+}
+
+/// What the library's groups of 128 give and cost beside those of 32.
+pub fn group_sizes(rows: &[Row]) -> String {
+    let mut text = String::from(
+        "Groups of 128 beside groups of 32, Gwizdorad alone: both sizes; in brackets the share of \
+         the stream that is width bytes; and the speed of 128 as a share of that of 32, by medians \
+         and by minima.\n\n\
+         | width | mode | field | size at 32 | size at 128 | pack | length | check | unpack | probe |\n\
+         |---|---|---|---|---|---|---|---|---|---|\n",
+    );
+    const COMPARED: [Operation; 5] =
+        [Operation::Pack, Operation::Length, Operation::Check, Operation::Unpack, Operation::Probe];
+    // The fields of both sizes stand in the same order.
+    let of_size = |group: u32| rows.iter().filter(move |row| row.group == group);
+    for (small, row) in of_size(32).zip(of_size(128)) {
+        let sizes = [small, row].map(size_and_width_bytes).join(" | ");
+        let speeds = COMPARED.map(|operation| share_of_speed(row, small, operation)).join(" | ");
+        let Row { width, mode, field, .. } = row;
+        add(&mut text, format_args!("| {width} | {mode} | {field} | {sizes} | {speeds} |"));
+    }
+    text + "\n"
+}
+
+/// Of the stream as it is packed: each group has one width byte.
+fn size_and_width_bytes(row: &Row) -> String {
+    let width_bytes = row.n.div_ceil(row.group as usize) as f64;
+    let packed = size_of(row, Who::Ours).unwrap_or(0) as f64;
+    format!("{} ({:.1} %)", share(row, Who::Ours), 100.0 * width_bytes / packed)
 }
 
 /// Sizes and speeds beside the other compressors that were found.
@@ -192,7 +224,8 @@ pub fn beside_others(rows: &[Row]) -> String {
     );
     add(&mut text, format_args!("| width | mode | field | {} |", names.join(" | ")));
     add(&mut text, format_args!("|---|---|---|{}", "---|".repeat(names.len())));
-    for row in rows {
+    // The others know no group size, and stand beside groups of 32.
+    for row in rows.iter().filter(|row| row.group == 32) {
         let cells: Vec<String> = columns.iter().map(|&who| size_and_speeds(row, who)).collect();
         let (Row { width, mode, field, .. }, cells) = (row, cells.join(" | "));
         add(&mut text, format_args!("| {width} | {mode} | {field} | {cells} |"));
@@ -264,13 +297,13 @@ fn told(lost: usize, all: usize) -> String {
 pub fn growing(growths: &[Growth]) -> String {
     let mut text = String::from(
         "ns a value, medians, the smooth field in lists of this length; last, the largest by the \
-         smallest, by medians and by minima.\n\n| | width | mode | operation |",
+         smallest, by medians and by minima.\n\n| | width | mode | group | operation |",
     );
     for length in LENGTHS {
         let _ = write!(text, " {length} |");
     }
     let columns = "---|".repeat(LENGTHS.len());
-    add(&mut text, format_args!(" factor |\n|---|---|---|---|{columns}---|"));
+    add(&mut text, format_args!(" factor |\n|---|---|---|---|---|{columns}---|"));
     for growth in growths {
         for operation in [Operation::Pack, Operation::Unpack] {
             for who in GROWING {
@@ -289,10 +322,11 @@ fn growth_line(growth: &Growth, who: Who, operation: Operation) -> String {
     let by_medians = factor(timings.iter().map(|timing| timing.median));
     let by_minima = factor(timings.iter().map(|timing| timing.minimum));
     format!(
-        "| {} | {} | {} | {} | {} | {by_medians:.2}, {by_minima:.2} |",
+        "| {} | {} | {} | {} | {} | {} | {by_medians:.2}, {by_minima:.2} |",
         who.name(),
         growth.width,
         growth.mode,
+        growth.group,
         operation.name(),
         cells.join(" | ")
     )

@@ -1,5 +1,5 @@
-//! One row of the benchmark: a field at one width and mode, every operation of
-//! each version, memcpy and the other compressors. Results are verified before
+//! One row of the benchmark: a field at one width, mode and group size, every
+//! operation of each version, memcpy and the other compressors. Results are verified before
 //! anything is timed.
 
 use super::codec::{most_bytes, tuned_codec, Codec, Setting, Value};
@@ -17,6 +17,7 @@ const MARK: u8 = 0xA5;
 pub struct Row {
     pub width: u32,
     pub mode: u32,
+    pub group: u32,
     pub field: String,
     /// How many values the field has.
     pub n: usize,
@@ -67,6 +68,7 @@ pub fn measure<P: Value>(
     Row {
         width: P::W,
         mode: setting.mode,
+        group: setting.group,
         field: sample.name.clone(),
         n,
         sizes: own.chain(foreign).collect(),
@@ -114,7 +116,7 @@ fn verify<P: Value>(case: &Case<P>, codec: &Codec<P>, space: &mut Space<P>) {
 }
 
 fn rivals_of<'a, P: Value>(case: &Case<P>, others: &'a [Other<P>]) -> Vec<Rival<'a, P>> {
-    let others = others.iter().filter(|other| other.modes.contains(&case.setting.mode));
+    let others = others.iter().filter(|other| other.runs_beside(case.setting));
     others.map(|other| Rival { other, packed: other.packed(case.setting, case.values) }).collect()
 }
 

@@ -104,16 +104,16 @@ impl Results {
         let codecs = P::codecs();
         let others: Vec<_> = installable::<P>().into_iter().filter_map(|one| one.found).collect();
         for setting in SETTINGS {
-            let (width, mode) = (P::W, setting.mode);
+            let (width, mode, group) = (P::W, setting.mode, setting.group);
             let mut add_row = |sample: &Sample<P>| {
-                eprintln!("width {width} mode {mode} {}", sample.name);
+                eprintln!("width {width} mode {mode} group {group} {}", sample.name);
                 self.rows.push(rows::measure(sample, setting, &codecs, &others, watch));
             };
             FIELDS.iter().for_each(|field| add_row(&field.sample()));
             files.iter().for_each(add_row);
-            eprintln!("width {width} mode {mode} growth");
+            eprintln!("width {width} mode {mode} group {group} growth");
             self.growths.push(growth::measure(setting, &codecs[0], watch));
-            let others = others.iter().filter(|other| other.modes.contains(&mode));
+            let others = others.iter().filter(|other| other.runs_beside(setting));
             self.keeping.extend(others.map(|other| report::kept_by(other, setting)));
         }
     }
@@ -136,6 +136,7 @@ impl Results {
             print!("{}", report::beside(Who::PlainC, "plain C", &self.rows));
         }
         print!("{}", report::differences(&self.rows));
+        print!("{}", report::group_sizes(&self.rows));
         print!("{}", report::beside_others(&self.rows));
         print!("{}", report::keeping(&self.keeping));
         print!("{}", report::growing(&self.growths));

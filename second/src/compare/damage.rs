@@ -174,7 +174,7 @@ pub fn other_bytes(rng: &mut XorShift, byte: u8, extent: Extent) -> Vec<u8> {
 }
 
 /// The bytes that differ from this one, each once; of a quick run one alone.
-pub fn without(byte: u8, mut others: Vec<u8>, rng: &mut XorShift, extent: Extent) -> Vec<u8> {
+fn without(byte: u8, mut others: Vec<u8>, rng: &mut XorShift, extent: Extent) -> Vec<u8> {
     others.sort_unstable();
     others.dedup();
     others.retain(|&other| other != byte);

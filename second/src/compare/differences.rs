@@ -35,25 +35,33 @@ fn walks(judge: &mut Judge, rng: &mut XorShift, extent: Extent, width: Width) {
 /// Groups of no bits between others: their values are those before them, and
 /// what comes after goes on from there.
 fn groups_of_no_bits(judge: &mut Judge, rng: &mut XorShift, width: Width) {
-    let groups_of = |group, firsts: [usize; 4], counts: &[usize]| {
-        let counts = counts.to_vec();
-        firsts.into_iter().flat_map(move |first| {
-            counts.clone().into_iter().map(move |count| (group, first, count))
-        })
-    };
-    let of_32 = groups_of(32, [1, 31, 32, 64], &[1, 2, 3, 15, 29]);
-    let of_128 = groups_of(128, [1, 32, 127, 128], &[1, 2, 3, 6]);
-    for (group, first, groups) in of_32.chain(of_128) {
-        let mut patterns = random_patterns(rng, width, first);
-        let last = patterns[first - 1];
-        let size = group as usize;
-        patterns.resize(first.next_multiple_of(size) + size * groups, last);
-        patterns.extend(random_patterns(rng, width, 40));
-        let n = patterns.len();
-        let list = known_list(width, group, patterns);
-        list.compare_whole(judge);
-        list.compare_probes(judge, (0..n).step_by(11).chain(n - 45..n));
+    let cases: [(u32, [usize; 4], &[usize]); 2] =
+        [(32, [1, 31, 32, 64], &[1, 2, 3, 15, 29]), (128, [1, 32, 127, 128], &[1, 2, 3, 6])];
+    for (group, firsts, counts) in cases {
+        for first in firsts {
+            for &groups in counts {
+                let list = standing_still(rng, width, group, first, groups);
+                let n = list.patterns.len();
+                list.compare_whole(judge);
+                list.compare_probes(judge, (0..n).step_by(11).chain(n - 45..n));
+            }
+        }
     }
+}
+
+/// Some random values, the last of them again through so many groups, and others.
+fn standing_still(
+    rng: &mut XorShift,
+    width: Width,
+    group: u32,
+    first: usize,
+    groups: usize,
+) -> KnownList {
+    let mut patterns = random_patterns(rng, width, first);
+    let (last, size) = (patterns[first - 1], group as usize);
+    patterns.resize(first.next_multiple_of(size) + size * groups, last);
+    patterns.extend(random_patterns(rng, width, 40));
+    known_list(width, group, patterns)
 }
 
 fn random_patterns(rng: &mut XorShift, width: Width, n: usize) -> Vec<u64> {

@@ -69,8 +69,13 @@ fn measure_and_pack(judge: &mut Judge, packing: Packing, list: &List) -> Option<
 const FAR_NUMBERS: [u32; 9] =
     [108, 256, 256 + 1, 256 + 2, 256 + 9, 1 << 16, (1 << 31) + 8, u32::MAX - 1, u32::MAX];
 
-/// Group sizes that there are not.
-pub const OTHER_SIZES: [u32; 12] = [0, 1, 8, 31, 33, 64, 127, 129, 256, 1024, 1 << 31, u32::MAX];
+/// Group sizes that there are not: those beside the two and between them, and some
+/// that are one of them in their lowest bits alone.
+#[rustfmt::skip]
+const OTHER_SIZES: [u32; 16] = [
+    0, 1, 8, 31, 33, 64, 127, 129, 256, 256 + 32, 256 + 128, 1024, (1 << 16) + 32, 1 << 31,
+    (1 << 31) + 128, u32::MAX,
+];
 
 /// Each k at the edges, and some that are an allowed one modulo a power of 2.
 #[rustfmt::skip]

@@ -328,7 +328,7 @@ pub fn streams_of_128(rng: &mut XorShift) -> Vec<Vec<u8>> {
     let mut streams = Vec::new();
     for setting in settings_of_128() {
         for n in [0, 1, 127, 128, 129, 1000, 1024, 1025, 1152, 1153, 2048, 2100] {
-            let w = rng.below(12) as u8;
+            let w = if n == 0 { 0 } else { rng.below(12) as u8 };
             streams.push(stream_of_codes(setting, &codes_of_width(rng, w, n)));
         }
         let sound = stream_of_codes(setting, &[3; 200]);

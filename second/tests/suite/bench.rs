@@ -4,7 +4,7 @@ use second::bench::codec::{Setting, SETTINGS};
 use second::bench::fields::{special_values, Cell, Field, Sample, FIELDS, SIDE, VALUES};
 use second::bench::others::{lost, Lost};
 use second::bench::picture::{letter_places, overlap, picture};
-use second::bench::report::{csv, differences, CSV_HEADER};
+use second::bench::report::{csv, differences, group_sizes, CSV_HEADER};
 use second::bench::rows::Row;
 use second::bench::timing::{timed, Contender, Operation, Space, Timing, Watch, Who};
 use std::cell::Cell as Counter;
@@ -106,17 +106,18 @@ fn every_contender_runs_once_a_round() {
 
 #[test]
 fn the_picture_is_drawn_from_results_alone() {
-    let line = "32,0,smooth,Gwizdorad,pack,4194304,3600000,0.004,0.003,0";
-    let copy = "32,0,smooth,memcpy,copy,4194304,4194304,0.0005,0.0004,0";
-    let file = "32,0,sea.f32,Gwizdorad,pack,400,300,0.004,0.003,0";
-    let svg = picture(&format!("{CSV_HEADER}\n{line}\n{copy}\n{file}\n")).unwrap();
-    // Two marks in a panel, and two in the legend.
+    let line = "32,0,32,smooth,Gwizdorad,pack,4194304,3600000,0.004,0.003,0";
+    let large = "32,0,128,smooth,Gwizdorad,pack,4194304,3500000,0.004,0.003,0";
+    let copy = "32,0,32,smooth,memcpy,copy,4194304,4194304,0.0005,0.0004,0";
+    let file = "32,0,32,sea.f32,Gwizdorad,pack,400,300,0.004,0.003,0";
+    let svg = picture(&format!("{CSV_HEADER}\n{line}\n{large}\n{copy}\n{file}\n")).unwrap();
+    // Two marks in a panel, those with groups of 32, and two in the legend.
     assert_eq!(svg.matches("<circle").count(), 4);
     assert!(svg.contains("s smooth, c calm, n noisy, h half-dry, t tide, 1 sea.f32."), "{svg}");
     assert!(svg.contains(">s</text>") && svg.contains(">1</text>"), "{svg}");
     assert!(svg.starts_with("<svg") && svg.ends_with("</svg>\n"));
     assert_eq!(picture("width,mode\n"), None);
-    assert_eq!(picture(&format!("{CSV_HEADER}\n32,0,smooth\n")), None);
+    assert_eq!(picture(&format!("{CSV_HEADER}\n32,0,32,smooth\n")), None);
 }
 
 #[test]
@@ -126,7 +127,8 @@ fn a_mark_whose_compressor_lost_values_is_crossed() {
         let pack = Timing { who, operation: Operation::Pack, median: 0.004, minimum: 0.003 };
         let (sizes, losses) = (vec![(who, 4000)], vec![(who, lost)]);
         let (field, timings) = (String::from("noisy"), vec![pack]);
-        let results = csv(&[Row { width: 32, mode: 1, field, n: 1024, sizes, losses, timings }]);
+        let (width, mode, group, n) = (32, 1, 32, 1024);
+        let results = csv(&[Row { width, mode, group, field, n, sizes, losses, timings }]);
         assert!(results.ends_with(&format!(",{lost}\n")), "{results}");
         picture(&results).unwrap().matches("stroke=\"#111\"").count()
     };
@@ -134,21 +136,25 @@ fn a_mark_whose_compressor_lost_values_is_crossed() {
     assert_eq!([crosses(0), crosses(7)], [0, 4]);
 }
 
+/// A row of the library alone, of a thousand values called tide.
+fn row_of(width: u32, mode: u32, group: u32, size: usize, seconds: f64) -> Row {
+    let who = Who::Ours;
+    let timing = |operation, median| Timing { who, operation, median, minimum: median / 2.0 };
+    let timings = vec![timing(Operation::Pack, seconds), timing(Operation::Unpack, 1.0)];
+    let (field, sizes) = (String::from("tide"), vec![(who, size)]);
+    Row { width, mode, group, field, n: 1000, sizes, losses: vec![], timings }
+}
+
 #[test]
 fn mode_2_stands_beside_mode_0_of_its_width_and_field() {
-    let row = |width: u32, mode: u32, field: &str, size: usize, seconds: f64| {
-        let who = Who::Ours;
-        let timing = |operation, median| Timing { who, operation, median, minimum: median / 2.0 };
-        let timings = vec![timing(Operation::Pack, seconds), timing(Operation::Unpack, 1.0)];
-        let (field, sizes) = (field.to_string(), vec![(who, size)]);
-        Row { width, mode, field, n: 1000, sizes, losses: vec![], timings }
-    };
     let rows = [
-        row(32, 0, "tide", 3000, 1.0),
-        row(32, 1, "tide", 1, 9.0),
-        row(32, 2, "tide", 1000, 2.0),
-        row(64, 0, "tide", 6000, 1.0),
-        row(64, 2, "tide", 4000, 0.5),
+        row_of(32, 0, 32, 3000, 1.0),
+        row_of(32, 1, 32, 1, 9.0),
+        row_of(32, 2, 32, 1000, 2.0),
+        row_of(32, 0, 128, 7, 1.0),
+        row_of(32, 2, 128, 7, 2.0),
+        row_of(64, 0, 32, 6000, 1.0),
+        row_of(64, 2, 32, 4000, 0.5),
     ];
     let text = differences(&rows);
     let lines: Vec<&str> = text.lines().filter(|line| line.contains("tide")).collect();
@@ -158,6 +164,18 @@ fn mode_2_stands_beside_mode_0_of_its_width_and_field() {
             "| 32 | tide | 75.0 % | 25.0 % | 0.50, 0.50 | 1.00, 1.00 |",
             "| 64 | tide | 75.0 % | 50.0 % | 2.00, 2.00 | 1.00, 1.00 |"
         ]
+    );
+}
+
+#[test]
+fn groups_of_128_stand_beside_groups_of_32() {
+    let rows = [row_of(32, 0, 32, 320, 1.0), row_of(32, 0, 128, 80, 2.0)];
+    let text = group_sizes(&rows);
+    let lines: Vec<&str> = text.lines().filter(|line| line.contains("tide")).collect();
+    // 1,000 values have 32 groups of 32, and 8 groups of 128.
+    assert_eq!(
+        lines,
+        ["| 32 | 0 | tide | 8.0 % (10.0 %) | 2.0 % (10.0 %) | 0.50, 0.50 |  |  | 1.00, 1.00 |  |"]
     );
 }
 

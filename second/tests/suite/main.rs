@@ -12,5 +12,6 @@ mod needs;
 mod numbers;
 mod places;
 mod random;
+mod sizes;
 mod streams;
 mod summaries;
