@@ -61,30 +61,6 @@ module _ (size : ℕ) (some : 0 < size) (cs : List ℕ) where
   pub none-after : (at : ℕ) → length cs ≤ at → bytesAfter size cs at ≡ []
   none-after at h = ap (chunkBytes size) (drop-of-length-le cs {i = at} h) ∙ chunk-none size some
 
-  -- a full group, and the last one
-  pub full-after : (at : ℕ) → at + size ≤ length cs → bytesAfter size cs at ≡ groupBytes (take size (drop at cs)) ++ bytesAfter size cs (at + size)
-  full-after at h =
-      group-after at (at + size) (omega arith) (let e : at + size ≡ at + min size (length cs - at) = omega arith in e)
-      ∙ ap (λ (n : ℕ). groupBytes (take n (drop at cs)) ++ bytesAfter size cs (at + size)) (let e : at + size - at ≡ size = omega arith in e)
-
-  pub full-fits : (at : ℕ) → at + size ≤ length cs → length (groupBytes (take size (drop at cs))) ≤ length (bytesAfter size cs at)
-  full-fits at h = rw (full-after at h, length-append (groupBytes (take size (drop at cs))) (bytesAfter size cs (at + size))) (omega arith)
-
-  pub last-after : (at n : ℕ) → at < n → n ≡ length cs → n < at + size → bytesAfter size cs at ≡ groupBytes (take (n - at) (drop at cs)) ++ []
-  last-after at n h e k =
-      group-after at n (omega arith) (let q : n ≡ at + min size (length cs - at) = omega arith in q)
-      ∙ ap (λ (l : List ℕ). groupBytes (take (n - at) (drop at cs)) ++ l) (none-after n (omega arith))
-
-  pub last-fits : (at n : ℕ) → at < n → n ≡ length cs → n < at + size → length (groupBytes (take (n - at) (drop at cs))) ≤ length (bytesAfter size cs at)
-  last-fits at n h e k = rw (last-after at n h e k, length-append (groupBytes (take (n - at) (drop at cs))) []) (omega arith)
-
-  -- the same of how many bytes they are
-  pub full-counted : (at r : ℕ) → at + size ≤ length cs → r ≡ length (groupBytes (take size (drop at cs))) → r + length (bytesAfter size cs (at + size)) ≡ length (bytesAfter size cs at)
-  full-counted at r h is = rw (full-after at h, length-append (groupBytes (take size (drop at cs))) (bytesAfter size cs (at + size))) (omega arith)
-
-  pub last-counted : (at n r : ℕ) → at < n → n ≡ length cs → n < at + size → r ≡ length (groupBytes (take (n - at) (drop at cs))) → r ≡ length (bytesAfter size cs at)
-  last-counted at n r h e k is = rw (last-after at n h e k, length-append (groupBytes (take (n - at) (drop at cs))) []) (omega arith)
-
 -- there are no more groups than values
 pub groups-few : (size n : ℕ) → 0 < size → groupsIn size n ≤ n
 unfolding groupsIn

@@ -2,7 +2,7 @@
 use mathlib.Core.Path.{_≡_, refl, sym, ap, ap₂, _∙_}
 use mathlib.Core.Bool.{true}
 use mathlib.Core.List.{List, _++_, map}
-use Prim.Native.Nat.{ℕ, _+_, _-_, _^_, _≤_}
+use Prim.Native.Nat.{ℕ, _+_, _-_, _^_, _≤_, min}
 use native.Mathlib.Omega.{arith}
 use lib.ListN.{length, take, drop, length-map, length-drop, take-append-drop}
 use lib.Seq.{take-at, drop-at, length-take-le}
@@ -16,8 +16,9 @@ use Rattle.stream.specs.Writing.{piece, pieceBytes}
 use Rattle.stream.specs.declared.setting.Setting.{Setting}
 use Rattle.stream.proofs.Law.Lent.Chosen.{at-32, at-other, chosen-below, chosen-piece}
 use Rattle.stream.proofs.Law.Plain.Mapped.{map-take, map-drop, part-taken}
-use Rattle.stream.proofs.Law.Setting.Allowed.{size-some, one-block, four-blocks}
+use Rattle.stream.proofs.Law.Setting.Allowed.{size-some}
 use Rattle.stream.proofs.Law.Chunk.BytesLeft.{chunk-small}
+use Rattle.stream.proofs.Law.Group.Parts.{cuts, four-codes}
 use Rattle.stream.proofs.Law.Setting.Codes.{codes-each, codes-by-difference, length-codes-after}
 use Rattle.stream.proofs.Law.Setting.Widths.{width-bytes}
 use Rattle.stream.proofs.Law.Written.Pieces.{piece-bytes}
@@ -89,23 +90,18 @@ module _ (t : Setting) (v32 v64 : List ℕ) where
       let b = width-bytes (t .width) known in
       rw lent-are (chunk-small (groupSize t) (size-some t) t (b .bytes) (chosen (t .width) v32 v64) (b .whole) (b .few) (b .format) (chosen-below (t .width) v32 v64 known under-32 under-64) few)
 
--- the full group from `at` on, of one block: where it lies, and which codes it has
-module _ (t : Setting) (at : ℕ) (short : t .size ≡ 128 → ⊥) where
-  pub full-fits : (n long : ℕ) → n ≡ long → at + groupSize t ≤ n → at + groupSize t ≤ 1024 → (at ≤ at + 32) × (at + 32 ≤ at + 32) × (at + 32 ≤ long) × (at + 32 ≤ 1024)
-  full-fits n long e h l = let o = one-block t short in (omega arith, omega arith, omega arith, omega arith)
+-- the codes of the full group from `at` on: of one record, and of four
+pub full-codes : (size at : ℕ) (part cs lent : List ℕ) → part ≡ take (at + size - at) (drop at cs) → cs ≡ lent → part ≡ take size (drop at lent)
+full-codes size at part cs lent e same = e ∙ ap₂ (λ (n : ℕ) (l : List ℕ). take n (drop at l)) (let q : at + size - at ≡ size = omega arith in q) same
 
-  pub full-codes : (count : ℕ) (codes cs lent : List ℕ) → take count codes ≡ take (at + 32 - at) (drop at cs) → cs ≡ lent
-      → take count codes ≡ take (groupSize t) (drop at lent)
-  full-codes count codes cs lent e same =
-      e ∙ ap₂ (λ (n : ℕ) (l : List ℕ). take n (drop at l)) (let o = one-block t short in let q : at + 32 - at ≡ groupSize t = omega arith in q) same
-
--- and of four
-module _ (t : Setting) (at : ℕ) (long : t .size ≡ 128) where
-  pub long-fits : (n : ℕ) → at + groupSize t ≤ n → at + groupSize t ≤ 1024 → (at ≤ at + 128) × (at + 128 ≤ at + 128) × (at + 128 ≤ n) × (at + 128 ≤ 1024)
-  long-fits n h l = let o = four-blocks t long in (omega arith, omega arith, omega arith, omega arith)
-
-  pub long-part : (cs : List ℕ) → take (at + 128 - at) (drop at cs) ≡ take (groupSize t) (drop at cs)
-  long-part cs = ap (λ (n : ℕ). take n (drop at cs)) (let o = four-blocks t long in let q : at + 128 - at ≡ groupSize t = omega arith in q)
+pub full-four-codes : (at : ℕ) (xs ys zs us cs lent : List ℕ) → xs ≡ take (at + 32 - at) (drop at cs) → ys ≡ take (at + 64 - (at + 32)) (drop (at + 32) cs)
+    → zs ≡ take (at + 96 - (at + 64)) (drop (at + 64) cs) → us ≡ take (at + 128 - (at + 96)) (drop (at + 96) cs) → cs ≡ lent
+    → xs ++ ys ++ zs ++ us ≡ take 128 (drop at lent)
+full-four-codes at xs ys zs us cs lent x y z u same =
+    let cut =
+    cuts at (at + 128) (at + 32) (at + 64) (at + 96) (omega arith) (omega arith)
+    (let e : at + 32 ≡ min (at + 32) (at + 128) = omega arith in e) (let e : at + 64 ≡ min (at + 64) (at + 128) = omega arith in e) (let e : at + 96 ≡ min (at + 96) (at + 128) = omega arith in e) in
+    full-codes 128 at (xs ++ ys ++ zs ++ us) cs lent (four-codes _ _ _ _ _ cut cs xs ys zs us x y z u) same
 
 -- the list of the width is as long as all that is lent
 module _ (W : ℕ) (v32 v64 : List ℕ) where

@@ -66,8 +66,12 @@ first-set all rest (b ∷ base) x e h = record {
   room = h;
 }
 
+-- nothing is left to write
+pub all-put : (all rest base out : List ℕ) (put : ℕ) → Appended all rest base out put → length all ≤ put → out ≡ all ++ drop put base
+all-put all rest base out put a h = a .out-is ∙ ap (λ (t : List ℕ). t ++ drop put base) (take-all put all h)
+
 pub all-there : (all base out : List ℕ) (put : ℕ) → Appended all [] base out put → out ≡ all ++ drop put base
-all-there all base out put a = a .out-is ∙ ap (λ (t : List ℕ). t ++ drop put base) (take-all put all (omega (arith, a .whole)))
+all-there all base out put a = all-put all [] base out put a (omega (arith, a .whole))
 
 module _ (all rest base out : List ℕ) (put : ℕ) (a : Appended all rest base out put) where
   pub within : put ≤ length all
@@ -93,6 +97,15 @@ module _ (all rest base out : List ℕ) (put : ℕ) (a : Appended all rest base 
 
   pub lent-room : length (take (length out - put) (drop put out)) ≡ length base - put
   lent-room = ap length (lent-is ∙ behind) ∙ length-drop put base
+
+  pub put-within : put ≤ length out
+  put-within = omega (arith, within, same-room, a .room)
+
+  -- the next piece has room there
+  pub piece-fits : (piece more : List ℕ) → rest ≡ piece ++ more → length piece ≤ length (take (length out - put) (drop put out))
+  piece-fits piece more e =
+      let q : length rest ≡ length piece + length more = ap length e ∙ length-append piece more in
+      omega (arith, lent-room, a .whole, a .room)
 
   -- the next piece, written into the part from `put` on
   pub one-piece : (piece more ys : List ℕ) (r : ℕ) → rest ≡ piece ++ more → r ≡ length piece

@@ -1,137 +1,131 @@
--- `stream::chunk::measured` meets its contract. The invariant: the bytes counted so far, and those of the codes left, are all of them.
-use Prim.Native.Nat.{ℕ, _+_, _-_, _≤_, _<_}
-use Rattle.stream.proofs.Law.Lent.Codes.{length-lent, lent-small}
-use Rattle.stream.proofs.Law.Chunk.BytesLeft.{bytesAfter, full-counted, last-counted, none-after}
-use Rattle.stream.specs.Chunk.{chunkBytes}
+-- `stream::chunk::measured` meets its contract: groups of 128 have a walk of their own; of 32, full groups and the last one.
+use mathlib.Core.Path.{_≡_, refl, ap, _∙_}
+use mathlib.Core.List.{List}
+use Prim.Native.Nat.{ℕ, _+_, _-_, _≤_}
+use native.Mathlib.Omega.{arith}
+use lib.ListN.{length}
 use Rattle.stream.specs.Group.{groupBytes}
 use Rattle.stream.specs.Lent.{lentCodes}
+use Rattle.stream.proofs.Law.Chunk.Walks.{Walk, Measured, none-measured, one-measured, all-measured, measured-small}
+use Rattle.stream.proofs.Law.Setting.Allowed.{one-block}
 use borrow.Author.Needs.{needs}
-use lib.ListN.{length, take, drop}
-use mathlib.Core.List.{List}
-use mathlib.Core.Path.{_≡_, sym, ap, subst, _∙_}
-use native.Mathlib.Nat.{zero-add}
-use native.Mathlib.Omega.{arith}
 use Rattle.stream.proofs.chunk.measured.Statement.{statement}
 use Rattle.stream.proofs.chunk.measured.Tie as tie
 
 abbrev Inv-loop : tie.InvT-loop
-Inv-loop t v32 v64 c32 n size total₀ at₀ total at =
-    let cs = lentCodes t v32 v64 in
-    (at ≤ n) × (total + length (bytesAfter size cs at) ≡ length (chunkBytes size cs))
+Inv-loop t v32 v64 c32 n total₀ at₀ total at = Measured 32 (lentCodes t v32 v64) n at total
 
 abbrev μ-loop : tie.MeasureT-loop
-μ-loop t v32 v64 c32 n size total₀ at₀ total at = n - at
+μ-loop t v32 v64 c32 n total₀ at₀ total at = n - at
 
--- the call's own, where the loop is; the size, how many values there are, and the scratch
-abbrev start : tie.At-loop Inv-loop μ-loop → tie.Start Inv-loop μ-loop
-start l = l .before .before .before .before .before .before .before .before .before .before
+-- the scratch, where it is staged
+few : (g : tie.After-stage Inv-loop μ-loop) → g .before .before .count .result ≤ 1024
+few g = omega (arith, g .before .before .count .ensures, g .before .before .before .before .before .before .pre .1)
 
-abbrev size : tie.At-loop Inv-loop μ-loop → ℕ
-size l = l .before .before .before .before .before .group-size .result
+scratch : (g : tie.After-stage Inv-loop μ-loop) → length (g .before .before .before .before .before .before .args .v32 .now) ≤ length (g .stage .last .1 .1 .0)
+scratch g = omega (arith, g .stage .kept .1 .1 .0, g .before .before .before .before .before .before .pre .2)
 
-some : (l : tie.At-loop Inv-loop μ-loop) → 0 < size l
-some l = l .before .before .before .before .before .group-size .ensures .1
+-- the chunk, in groups of 32
+abbrev staged : tie.Else1 Inv-loop μ-loop → tie.After-stage Inv-loop μ-loop
+staged e = e .before .before .before .before
 
-abbrev codes : tie.At-loop Inv-loop μ-loop → List ℕ
-codes l = let a = start l .args in lentCodes (a .t) (a .v32 .now) (a .v64 .now)
+abbrev start : tie.Else1 Inv-loop μ-loop → tie.Start Inv-loop μ-loop
+start e = e .before .before .before .before .before .before .before .before .before .before
 
-many : (l : tie.At-loop Inv-loop μ-loop) → length (codes l) ≡ l .before .before .before .before .before .before .count .result
-many l = let a = start l .args in length-lent (a .t) (a .v32 .now) (a .v64 .now) ∙ sym (l .before .before .before .before .before .before .count .ensures)
+abbrev n : tie.Else1 Inv-loop μ-loop → ℕ
+n e = e .before .before .before .before .before .before .count .result
 
-few : (l : tie.At-loop Inv-loop μ-loop) → l .before .before .before .before .before .before .count .result ≤ 1024
-few l = omega (arith, l .before .before .before .before .before .before .count .ensures, start l .pre .1)
+abbrev codes : tie.Else1 Inv-loop μ-loop → List ℕ
+codes e = let a = start e .args in lentCodes (a .t) (a .v32 .now) (a .v64 .now)
 
-scratch : (l : tie.At-loop Inv-loop μ-loop) → length (start l .args .v32 .now) ≤ length (l .before .before .before .stage .last .1 .1 .0)
-scratch l = omega (arith, l .before .before .before .stage .kept .1 .1 .0, start l .pre .2)
+walk : (e : tie.Else1 Inv-loop μ-loop) → let a = start e .args in Walk (a .t) (a .v32 .now) (a .v64 .now) 32 (n e)
+walk e = record { size-is = one-block (start e .args .t) (e .if1 .left); count-is = e .before .before .before .before .before .before .count .ensures; few = few (staged e) }
 
-small : (l : tie.At-loop Inv-loop μ-loop) → length (chunkBytes (size l) (codes l)) ≤ 9216
-small l =
-    let a = start l .args in
-    subst (λ (z : ℕ). length (chunkBytes z (codes l)) ≤ 9216) (sym (l .before .before .before .before .before .group-size .ensures .0))
-    (lent-small (a .t) (a .v32 .now) (a .v64 .now) (start l .pre .0 .known) (λ i. l .before .before .before .before .before .before .before .before .before .shared-slice-known .given i .fits) (λ i. l .before .before .before .before .before .before .before .before .shared-slice-known2 .given i .fits) (start l .pre .1))
+small : (e : tie.Else1 Inv-loop μ-loop) (at total : ℕ) → Measured 32 (codes e) (n e) at total → total ≤ 9216
+small e at total m = measured-small (walk e) m (start e .pre .0 .known) (λ i. e .before .before .before .before .before .before .before .before .before .shared-slice-known .given i .fits) (λ i. e .before .before .before .before .before .before .before .before .shared-slice-known2 .given i .fits)
+
+-- a full group more, and the last one
+more : (c : tie.After-measured-group Inv-loop μ-loop) → let l = c .before .before .before in
+    Measured 32 (codes (l .before)) (n (l .before)) (l .loop .at + 32) (l .loop .total + c .measured-group .result)
+more c =
+    let l = c .before .before .before in
+    let in-loop = c .before .before .loop-test .taken in
+    one-measured (walk (l .before)) (l .loop .inv) (l .loop .at + 32) 32 (c .measured-group .result) (omega (arith, in-loop)) (omega (arith, in-loop)) (omega arith) (c .measured-group .ensures)
+
+last : (c : tie.After-measured Inv-loop μ-loop) → let l = c .before .before .before .before .before in
+    Measured 32 (codes (l .before)) (n (l .before)) (n (l .before)) (l .loop .total + c .measured .result)
+last c =
+    let l = c .before .before .before .before .before in
+    let some = c .before .before .before .if2 .left in
+    one-measured (walk (l .before)) (l .loop .inv) (n (l .before)) (n (l .before) - l .loop .at) (c .measured .result) (omega (arith, some)) (omega (arith, some, c .before .before .before .before .loop-test .left)) refl
+    (c .measured .ensures ∙ ap (λ (cs : List ℕ). length (groupBytes cs)) (c .before .coded .ensures .1))
 
 count-requires : tie.Need-count-requires Inv-loop μ-loop
 count-requires c κs = search needs
 
-group-size-requires : tie.Need-group-size-requires Inv-loop μ-loop
-group-size-requires c κs = search needs
-
 stage-requires : tie.Need-stage-requires Inv-loop μ-loop
-stage-requires c κs = let p = c .before .before .before .before .before .before .pre in (p .0, p .2)
+stage-requires c κs = let p = c .before .before .before .before .before .pre in (p .0, p .2)
 
-loop-holds : tie.Need-loop-holds Inv-loop μ-loop
-loop-holds c = (omega arith, zero-add _)
-
-add-loop : tie.Need-add-loop Inv-loop μ-loop
-add-loop c = omega (arith, few c, c .before .before .before .before .before .group-size .ensures .2, c .loop .inv .0)
-
-measured-group-requires : tie.Need-measured-group-requires Inv-loop μ-loop
-measured-group-requires c κs =
-    let l = c .before .before in
-    let p = start l .pre in
-    let more = c .before .loop-test .taken in
-    let is = l .before .before .before .before .before .group-size .ensures .0 in (
-      (p .0, omega (arith, more, is, l .before .before .before .before .before .before .count .ensures), omega (arith, more, is, few l)),
-      (scratch l, l .before .before .before .stage .ensures),
-    )
-
-counted : (c : tie.After-measured-group Inv-loop μ-loop) → let l = c .before .before .before in
-    l .loop .total + c .measured-group .result + length (bytesAfter (size l) (codes l) (l .loop .at + size l)) ≡ length (chunkBytes (size l) (codes l))
-counted c =
-    let l = c .before .before .before in
-    let n =
-    full-counted (size l) (some l) (codes l) (l .loop .at) (c .measured-group .result) (omega (arith, many l, c .before .before .loop-test .taken))
-    (c .measured-group .ensures ∙ ap (λ (z : ℕ). length (groupBytes (take z (drop (l .loop .at) (codes l))))) (sym (l .before .before .before .before .before .group-size .ensures .0))) in
-    omega (arith, n, l .loop .inv .1)
-
-add-total : tie.Need-add-total Inv-loop μ-loop
-add-total c = omega (arith, counted c, small (c .before .before .before))
-
-add-at : tie.Need-add-at Inv-loop μ-loop
-add-at c = omega (arith, few (c .before .before .before), c .before .before .loop-test .taken)
-
-loop-less : tie.Need-loop-less Inv-loop μ-loop
-loop-less c = omega (arith, c .before .before .loop-test .taken, some (c .before .before .before))
-
-loop-again : tie.Need-loop-again Inv-loop μ-loop
-loop-again c = (c .before .before .loop-test .taken, counted c)
+measured-long-requires : tie.Need-measured-long-requires Inv-loop μ-loop
+measured-long-requires c κs = 
+    let g = c .before .before .before .before .before in
+    ((g .before .before .before .before .before .before .pre .0, c .before .if1 .taken, g .before .before .count .ensures, few g), (scratch g, g .stage .ensures))
 
 same-length : tie.Need-same-length Inv-loop μ-loop
-same-length c = c .before .before .before .before .before .stage .kept .1 .1 .0
+same-length c = c .before .before .before .before .before .before .stage .kept .1 .1 .0
 
 returns : tie.Need-returns Inv-loop μ-loop
-returns c =
-    let l = c .before .before in
-    let all : l .loop .total ≡ length (chunkBytes (size l) (codes l)) =
-    omega (arith, l .loop .inv .1, ap length (none-after (size l) (some l) (codes l) (l .loop .at) (omega (arith, many l, c .if1 .taken)))) in
-    all ∙ ap (λ (z : ℕ). length (chunkBytes z (codes l))) (l .before .before .before .before .before .group-size .ensures .0)
+returns c = c .measured-long .ensures
 
-measured-last-requires : tie.Need-measured-last-requires Inv-loop μ-loop
-measured-last-requires c κs =
-    let l = c .before .before .before in
-    let p = start l .pre in
-    let is = l .before .before .before .before .before .group-size .ensures .0 in (
-      (p .0, l .loop .inv .0, omega (arith, c .before .before .loop-test .left, is), omega (arith, l .before .before .before .before .before .before .count .ensures), few l),
-      (scratch l, l .before .before .before .stage .ensures),
-    )
+loop-holds : tie.Need-loop-holds Inv-loop μ-loop
+loop-holds c = none-measured (walk c)
 
-ended : (c : tie.After-measured-last Inv-loop μ-loop) → let l = c .before .before .before .before in
-    l .loop .total + c .measured-last .result ≡ length (chunkBytes (size l) (codes l))
-ended c =
-    let l = c .before .before .before .before in
-    let n =
-    last-counted (size l) (some l) (codes l) (l .loop .at) (l .before .before .before .before .before .before .count .result) (c .measured-last .result) (omega (arith, c .before .before .if1 .left)) (sym (many l)) (omega (arith, c .before .before .before .loop-test .left))
-    (c .measured-last .ensures) in
-    omega (arith, n, l .loop .inv .1)
+add-loop : tie.Need-add-loop Inv-loop μ-loop
+add-loop c = omega (arith, walk (c .before) .few, c .loop .inv .inside)
 
-add-result : tie.Need-add-result Inv-loop μ-loop
-add-result c = omega (arith, ended c, small (c .before .before .before .before))
+measured-group-requires : tie.Need-measured-group-requires Inv-loop μ-loop
+measured-group-requires c κs = 
+    let e = c .before .before .before in
+    let g = staged e in
+    let more = c .before .loop-test .taken in
+    ((start e .pre .0, omega (arith, more, walk e .count-is), omega (arith, more, walk e .few)), (scratch g, g .stage .ensures))
+
+add-total : tie.Need-add-total Inv-loop μ-loop
+add-total c = omega (arith, small (c .before .before .before .before) _ _ (more c))
+
+add-at : tie.Need-add-at Inv-loop μ-loop
+add-at c = omega (arith, walk (c .before .before .before .before) .few, c .before .before .loop-test .taken)
+
+loop-less : tie.Need-loop-less Inv-loop μ-loop
+loop-less c = omega (arith, c .before .before .loop-test .taken)
+
+loop-again : tie.Need-loop-again Inv-loop μ-loop
+loop-again c = more c
 
 same-length-2 : tie.Need-same-length-2 Inv-loop μ-loop
-same-length-2 c = c .before .before .before .before .before .before .before .stage .kept .1 .1 .0
+same-length-2 c = staged (c .before .before .before) .stage .kept .1 .1 .0
 
 returns-2 : tie.Need-returns-2 Inv-loop μ-loop
-returns-2 c = ended c ∙ ap (λ (z : ℕ). length (chunkBytes z (codes (c .before .before .before .before)))) (c .before .before .before .before .before .before .before .before .before .group-size .ensures .0)
+returns-2 c = let l = c .before .before in all-measured (walk (l .before)) (l .loop .inv) (c .if2 .taken)
+
+coded-requires : tie.Need-coded-requires Inv-loop μ-loop
+coded-requires c κs = 
+    let l = c .before .before .before in
+    let e = l .before in
+    let g = staged e in
+    ((start e .pre .0, l .loop .inv .inside, omega (arith, c .before .before .loop-test .left), omega (arith, walk e .count-is), walk e .few), (scratch g, g .stage .ensures))
+
+measured-requires : tie.Need-measured-requires Inv-loop μ-loop
+measured-requires c κs = omega (arith, c .coded .ensures .0, c .before .before .before .loop-test .left)
+
+add-result : tie.Need-add-result Inv-loop μ-loop
+add-result c = omega (arith, small (c .before .before .before .before .before .before) _ _ (last c))
+
+same-length-3 : tie.Need-same-length-3 Inv-loop μ-loop
+same-length-3 c = staged (c .before .before .before .before .before .before) .stage .kept .1 .1 .0
+
+returns-3 : tie.Need-returns-3 Inv-loop μ-loop
+returns-3 c = all-measured (walk (c .before .before .before .before .before .before)) (last c) (omega arith)
 
 pub measured-spec : {M : Type 1} → statement M
 measured-spec =
@@ -140,8 +134,10 @@ measured-spec =
     Inv-loop
     μ-loop
     count-requires
-    group-size-requires
     stage-requires
+    measured-long-requires
+    same-length
+    returns
     loop-holds
     add-loop
     measured-group-requires
@@ -149,9 +145,10 @@ measured-spec =
     add-at
     loop-less
     loop-again
-    same-length
-    returns
-    measured-last-requires
-    add-result
     same-length-2
-    returns-2)
+    returns-2
+    coded-requires
+    measured-requires
+    add-result
+    same-length-3
+    returns-3)

@@ -1,189 +1,179 @@
--- `stream::chunk::written` meets its contract. The invariant: the bytes put so far, and those of the codes left, are all of them; the scratch stays as it was staged.
-use Prim.Native.Nat.{ℕ, _+_, _-_, _≤_, _<_}
-use Rattle.stream.proofs.Law.Plain.Appended.{Appended, nothing-yet, within, same-room, lent-room, one-piece, all-there}
-use Rattle.stream.proofs.Law.Lent.Codes.{length-lent}
-use Rattle.stream.proofs.Law.Chunk.BytesLeft.{bytesAfter, full-after, full-fits, last-after, last-fits, none-after}
-use Rattle.stream.specs.Chunk.{chunkBytes}
+-- `stream::chunk::written` meets its contract: groups of 128 have a walk of their own; of 32, full groups and the last one.
+use mathlib.Core.Path.{_≡_, refl, ap, _∙_}
+use mathlib.Core.List.{List, _++_}
+use Prim.Native.Nat.{ℕ, _+_, _-_, _≤_}
+use native.Mathlib.Omega.{arith}
+use lib.ListN.{length, take, drop}
+use borrow.Rule.Slice.PartMut.{putMid}
 use Rattle.stream.specs.Group.{groupBytes}
 use Rattle.stream.specs.Lent.{lentCodes}
-use Rattle.stream.specs.Setting.{groupSize}
+use Rattle.stream.proofs.Law.Chunk.Walks.{Walk, Put, none-put, group-fits, one-put, walk-done}
+use Rattle.stream.proofs.Law.Plain.Appended.{within, same-room, put-within}
+use Rattle.stream.proofs.Law.Setting.Allowed.{one-block}
 use borrow.Author.Needs.{needs}
-use borrow.Rule.Slice.PartMut.{putMid}
-use lib.ListN.{length, take, drop}
-use mathlib.Core.List.{List, [], _++_}
-use mathlib.Core.Path.{_≡_, sym, ap, _∙_}
-use native.Mathlib.Nat.{le-trans, le-of-eq}
-use native.Mathlib.Omega.{arith}
 use Rattle.stream.proofs.chunk.written.Statement.{statement}
 use Rattle.stream.proofs.chunk.written.Tie as tie
 
 abbrev Inv-loop : tie.InvT-loop
-Inv-loop t v32 v64 c32 out₀ n size put₀ at₀ out put at =
-    let cs = lentCodes t v32 v64 in
-    (at ≤ n) × Appended (chunkBytes size cs) (bytesAfter size cs at) out₀ out put
+Inv-loop t v32 v64 c32 out₀ n put₀ at₀ out put at = Put 32 (lentCodes t v32 v64) n at out₀ out put
 
 abbrev μ-loop : tie.MeasureT-loop
-μ-loop t v32 v64 c32 out₀ n size put₀ at₀ out put at = n - at
+μ-loop t v32 v64 c32 out₀ n put₀ at₀ out put at = n - at
 
--- the call's own, where the loop is; the size, how many values there are, and the scratch
-abbrev start : tie.At-loop Inv-loop μ-loop → tie.Start Inv-loop μ-loop
-start l = l .before .before .before .before .before .before .before .before .before .before .before
+-- the scratch, where it is staged
+few : (g : tie.After-stage Inv-loop μ-loop) → g .before .before .count .result ≤ 1024
+few g = omega (arith, g .before .before .count .ensures, g .before .before .before .before .before .before .before .pre .0 .1)
 
-abbrev size : tie.At-loop Inv-loop μ-loop → ℕ
-size l = l .before .before .before .before .before .group-size .result
+scratch : (g : tie.After-stage Inv-loop μ-loop) → length (g .before .before .before .before .before .before .before .args .v32 .now) ≤ length (g .stage .last .1 .1 .0)
+scratch g = omega (arith, g .stage .kept .1 .1 .0, g .before .before .before .before .before .before .before .pre .0 .2)
 
-some : (l : tie.At-loop Inv-loop μ-loop) → 0 < size l
-some l = l .before .before .before .before .before .group-size .ensures .1
+-- the chunk, in groups of 32
+abbrev staged : tie.Else1 Inv-loop μ-loop → tie.After-stage Inv-loop μ-loop
+staged e = e .before .before .before .before
 
-abbrev codes : tie.At-loop Inv-loop μ-loop → List ℕ
-codes l = let a = start l .args in lentCodes (a .t) (a .v32 .now) (a .v64 .now)
+abbrev start : tie.Else1 Inv-loop μ-loop → tie.Start Inv-loop μ-loop
+start e = e .before .before .before .before .before .before .before .before .before .before .before
 
-many : (l : tie.At-loop Inv-loop μ-loop) → length (codes l) ≡ l .before .before .before .before .before .before .count .result
-many l = let a = start l .args in length-lent (a .t) (a .v32 .now) (a .v64 .now) ∙ sym (l .before .before .before .before .before .before .count .ensures)
+abbrev n : tie.Else1 Inv-loop μ-loop → ℕ
+n e = e .before .before .before .before .before .before .count .result
 
-few : (l : tie.At-loop Inv-loop μ-loop) → l .before .before .before .before .before .before .count .result ≤ 1024
-few l = omega (arith, l .before .before .before .before .before .before .count .ensures, start l .pre .0 .1)
+abbrev codes : tie.Else1 Inv-loop μ-loop → List ℕ
+codes e = let a = start e .args in lentCodes (a .t) (a .v32 .now) (a .v64 .now)
 
-scratch : (l : tie.At-loop Inv-loop μ-loop) → length (start l .args .v32 .now) ≤ length (l .before .before .before .stage .last .1 .1 .0)
-scratch l = omega (arith, l .before .before .before .stage .kept .1 .1 .0, start l .pre .0 .2)
+walk : (e : tie.Else1 Inv-loop μ-loop) → let a = start e .args in Walk (a .t) (a .v32 .now) (a .v64 .now) 32 (n e)
+walk e = record { size-is = one-block (start e .args .t) (e .if1 .left); count-is = e .before .before .before .before .before .before .count .ensures; few = few (staged e) }
 
-put-within : (l : tie.At-loop Inv-loop μ-loop) → l .loop .put ≤ length (l .loop .out)
-put-within l = let a = l .loop .inv .1 in omega (arith, within _ _ _ _ _ a, same-room _ _ _ _ _ a, a .room)
+room : (l : tie.At-loop Inv-loop μ-loop) → l .loop .put ≤ length (l .loop .out)
+room l = put-within _ _ _ _ _ (l .loop .inv .so-far)
 
--- the code's group is that of the size
-group-is : (l : tie.At-loop Inv-loop μ-loop) → groupBytes (take (groupSize (start l .args .t)) (drop (l .loop .at) (codes l))) ≡ groupBytes (take (size l) (drop (l .loop .at) (codes l)))
-group-is l = ap (λ (z : ℕ). groupBytes (take z (drop (l .loop .at) (codes l)))) (sym (l .before .before .before .before .before .group-size .ensures .0))
+-- a full group more, and the last one
+more : (c : tie.After-slice-known5 Inv-loop μ-loop) → let l = c .before .before .before .before .before .before in
+    Put 32 (codes (l .before)) (n (l .before)) (l .loop .at + 32) (start (l .before) .args .out .now)
+    (putMid (l .loop .put) (length (l .loop .out) - l .loop .put) (l .loop .out) (c .before .before .put-group .last .1 .1 .1 .1 .1 .0)) (l .loop .put + c .before .before .put-group .result)
+more c =
+    let l = c .before .before .before .before .before .before in
+    let r = c .before .before .put-group in
+    let in-loop = c .before .before .before .before .before .loop-test .taken in
+    one-put (walk (l .before)) (l .loop .inv) (l .loop .at + 32) 32 (r .result) (r .last .1 .1 .1 .1 .1 .0) (omega (arith, in-loop)) (omega (arith, in-loop)) (omega arith) (r .ensures .0) (r .ensures .1)
 
--- what is put, in the words of the contract
-told : (l : tie.At-loop Inv-loop μ-loop) (r : ℕ) (new : List ℕ) → r ≡ length (chunkBytes (size l) (codes l)) → new ≡ chunkBytes (size l) (codes l) ++ drop r (start l .args .out .now)
-    → (r ≡ length (chunkBytes (groupSize (start l .args .t)) (codes l))) × (new ≡ chunkBytes (groupSize (start l .args .t)) (codes l) ++ drop r (start l .args .out .now))
-told l r new e is =
-    let z = l .before .before .before .before .before .group-size .ensures .0 in
-    (e ∙ ap (λ (n : ℕ). length (chunkBytes n (codes l))) z, is ∙ ap (λ (n : ℕ). chunkBytes n (codes l) ++ drop r (start l .args .out .now)) z)
+last : (c : tie.After-slice-known6 Inv-loop μ-loop) → let l = c .before .before .before .before .before .before .before .before in
+    Put 32 (codes (l .before)) (n (l .before)) (n (l .before)) (start (l .before) .args .out .now)
+    (putMid (l .loop .put) (length (l .loop .out) - l .loop .put) (l .loop .out) (c .before .before .written .last .1 .0)) (l .loop .put + c .before .before .written .result)
+last c =
+    let l = c .before .before .before .before .before .before .before .before in
+    let m = n (l .before) in
+    let r = c .before .before .written in
+    let some = c .before .before .before .before .before .before .if2 .left in
+    let same = c .before .before .before .before .coded .ensures .1 in
+    one-put (walk (l .before)) (l .loop .inv) m (m - l .loop .at) (r .result) (r .last .1 .0) (omega (arith, some)) (omega (arith, some, c .before .before .before .before .before .before .before .loop-test .left)) refl
+    (r .ensures .0 ∙ ap (λ (cs : List ℕ). length (groupBytes cs)) same)
+    (r .ensures .1 ∙ ap (λ (cs : List ℕ). groupBytes cs ++ drop (r .result) (take (length (l .loop .out) - l .loop .put) (drop (l .loop .put) (l .loop .out)))) same)
 
 count-requires : tie.Need-count-requires Inv-loop μ-loop
 count-requires c κs = search needs
 
-group-size-requires : tie.Need-group-size-requires Inv-loop μ-loop
-group-size-requires c κs = search needs
-
 stage-requires : tie.Need-stage-requires Inv-loop μ-loop
-stage-requires c κs = let p = c .before .before .before .before .before .before .before .pre .0 in (p .0, p .2)
+stage-requires c κs = let p = c .before .before .before .before .before .before .pre .0 in (p .0, p .2)
+
+written-long-requires : tie.Need-written-long-requires Inv-loop μ-loop
+written-long-requires c κs = 
+    let g = c .before .before .before .before .before .before in
+    let p = g .before .before .before .before .before .before .before .pre in
+    ((p .0 .0, c .before .before .if1 .taken, g .before .before .count .ensures, few g), ((scratch g, g .stage .ensures), p .1))
+
+same-length : tie.Need-same-length Inv-loop μ-loop
+same-length c = c .before .before .before .before .before .before .before .before .before .stage .kept .1 .1 .0
+
+same-length-2 : tie.Need-same-length-2 Inv-loop μ-loop
+same-length-2 c = c .before .before .written-long .kept .1 .1 .1 .1 .1 .0
+
+returns : tie.Need-returns Inv-loop μ-loop
+returns c = let r = c .before .before .written-long in (r .ensures .0, r .ensures .1)
 
 loop-holds : tie.Need-loop-holds Inv-loop μ-loop
-loop-holds c = let f = c .before .before .before .before .group-size in (omega arith, nothing-yet _ _ (rw (f .ensures .0) (c .before .before .before .before .before .before .before .before .before .before .pre .1)))
+loop-holds c = none-put (walk c) (start c .args .out .now) (start c .pre .1)
 
 add-loop : tie.Need-add-loop Inv-loop μ-loop
-add-loop c = omega (arith, few c, c .before .before .before .before .before .group-size .ensures .2, c .loop .inv .0)
+add-loop c = omega (arith, walk (c .before) .few, c .loop .inv .inside)
 
 sub-put-group : tie.Need-sub-put-group Inv-loop μ-loop
-sub-put-group c = put-within (c .before .before)
+sub-put-group c = room (c .before .before)
 
 part-put-group-start : tie.Need-part-put-group-start Inv-loop μ-loop
-part-put-group-start c = put-within (c .before .before)
+part-put-group-start c = room (c .before .before)
 
 part-put-group-end : tie.Need-part-put-group-end Inv-loop μ-loop
 part-put-group-end c = search needs
 
-fits : (c : tie.After-put-group-arg2 Inv-loop μ-loop) → let l = c .before .before .before in
-    length (groupBytes (take (groupSize (start l .args .t)) (drop (l .loop .at) (codes l)))) ≤ length (take (length (l .loop .out) - l .loop .put) (drop (l .loop .put) (l .loop .out)))
-fits c =
-    let l = c .before .before .before in
-    let a = l .loop .inv .1 in
-    rw (group-is l)
-    (le-trans (let n = full-fits (size l) (some l) (codes l) (l .loop .at) (omega (arith, many l, c .before .before .loop-test .taken)) in omega (arith, n, a .whole, a .room))
-    (le-of-eq (sym (lent-room _ _ _ _ _ a))))
-
 put-group-requires : tie.Need-put-group-requires Inv-loop μ-loop
-put-group-requires c κs = let l = c .before .before .before in
-    let p = start l .pre in
-    let more = c .before .before .loop-test .taken in
-    let is = l .before .before .before .before .before .group-size .ensures .0 in (
-      (p .0 .0, omega (arith, more, is, l .before .before .before .before .before .before .count .ensures), omega (arith, more, is, few l)),
-      ((scratch l, l .before .before .before .stage .ensures), fits c),
+put-group-requires c κs = 
+    let l = c .before .before .before in
+    let e = l .before in
+    let g = staged e in
+    let in-loop = c .before .before .loop-test .taken in (
+      (start e .pre .0 .0, omega (arith, in-loop, walk e .count-is), omega (arith, in-loop, walk e .few)),
+      ((scratch g, g .stage .ensures), group-fits (walk e) (l .loop .inv) (l .loop .at + 32) 32 (omega (arith, in-loop)) (omega (arith, in-loop)) (omega arith)),
     )
-
--- the group is one piece more
-appended : (c : tie.After-slice-known4 Inv-loop μ-loop) → let l = c .before .before .before .before .before .before in
-    Appended (chunkBytes (size l) (codes l)) (bytesAfter (size l) (codes l) (l .loop .at + size l)) (start l .args .out .now)
-    (putMid (l .loop .put) (length (l .loop .out) - l .loop .put) (l .loop .out) (c .before .before .put-group .last .1 .1 .1 .1 .1 .0)) (l .loop .put + c .before .before .put-group .result)
-appended c =
-    let l = c .before .before .before .before .before .before in
-    let r = c .before .before .put-group in
-    one-piece _ _ _ _ _ (l .loop .inv .1) (groupBytes (take (size l) (drop (l .loop .at) (codes l)))) _ (r .last .1 .1 .1 .1 .1 .0) (r .result)
-    (full-after (size l) (some l) (codes l) (l .loop .at) (omega (arith, many l, c .before .before .before .before .before .loop-test .taken)))
-    (r .ensures .0 ∙ ap length (group-is l))
-    (r .ensures .1 ∙ ap (λ (g : List ℕ). g ++ drop (r .result) (take (length (l .loop .out) - l .loop .put) (drop (l .loop .put) (l .loop .out)))) (group-is l))
 
 add-put : tie.Need-add-put Inv-loop μ-loop
-add-put c = let n = appended c in omega (arith, within _ _ _ _ _ n, n .room, start (c .before .before .before .before .before .before) .good)
+add-put c = let a = more c .so-far in omega (arith, within _ _ _ _ _ a, a .room, start (c .before .before .before .before .before .before .before) .good)
 
 add-at : tie.Need-add-at Inv-loop μ-loop
-add-at c = omega (arith, few (c .before .before .before .before .before .before), c .before .before .before .before .before .loop-test .taken)
+add-at c = omega (arith, walk (c .before .before .before .before .before .before .before) .few, c .before .before .before .before .before .loop-test .taken)
 
 loop-less : tie.Need-loop-less Inv-loop μ-loop
-loop-less c = omega (arith, c .before .before .before .before .before .loop-test .taken, some (c .before .before .before .before .before .before))
+loop-less c = omega (arith, c .before .before .before .before .before .loop-test .taken)
 
 loop-again : tie.Need-loop-again Inv-loop μ-loop
-loop-again c = (c .before .before .before .before .before .loop-test .taken, appended c)
-
-same-length : tie.Need-same-length Inv-loop μ-loop
-same-length c = c .before .before .before .before .before .stage .kept .1 .1 .0
-
-same-length-2 : tie.Need-same-length-2 Inv-loop μ-loop
-same-length-2 c = same-room _ _ _ _ _ (c .before .before .loop .inv .1)
-
-returns : tie.Need-returns Inv-loop μ-loop
-returns c =
-    let l = c .before .before in
-    let done = none-after (size l) (some l) (codes l) (l .loop .at) (omega (arith, many l, c .if1 .taken)) in
-    told l (l .loop .put) (l .loop .out) (omega (arith, l .loop .inv .1 .whole, ap length done)) (all-there _ _ _ (l .loop .put) (rw done at (l .loop .inv .1)))
-
-sub-put-last : tie.Need-sub-put-last Inv-loop μ-loop
-sub-put-last c = put-within (c .before .before .before)
-
-part-put-last-start : tie.Need-part-put-last-start Inv-loop μ-loop
-part-put-last-start c = put-within (c .before .before .before)
-
-part-put-last-end : tie.Need-part-put-last-end Inv-loop μ-loop
-part-put-last-end c = search needs
-
-put-last-requires : tie.Need-put-last-requires Inv-loop μ-loop
-put-last-requires c κs =
-    let l = c .before .before .before .before in
-    let p = start l .pre in
-    let a = l .loop .inv .1 in
-    let is = l .before .before .before .before .before .group-size .ensures .0 in
-    let short = c .before .before .before .loop-test .left in
-    let n = last-fits (size l) (some l) (codes l) (l .loop .at) (l .before .before .before .before .before .before .count .result) (omega (arith, c .before .before .if1 .left)) (sym (many l)) (omega (arith, short)) in (
-      (p .0 .0, l .loop .inv .0, omega (arith, short, is), omega (arith, l .before .before .before .before .before .before .count .ensures), few l),
-      ((scratch l, l .before .before .before .stage .ensures), le-trans (omega (arith, n, a .whole, a .room)) (le-of-eq (sym (lent-room _ _ _ _ _ a)))),
-    )
-
--- and so is the short one
-ended : (c : tie.After-slice-known5 Inv-loop μ-loop) → let l = c .before .before .before .before .before .before .before in
-    Appended (chunkBytes (size l) (codes l)) [] (start l .args .out .now)
-    (putMid (l .loop .put) (length (l .loop .out) - l .loop .put) (l .loop .out) (c .before .before .put-last .last .1 .1 .1 .1 .1 .1 .0)) (l .loop .put + c .before .before .put-last .result)
-ended c =
-    let l = c .before .before .before .before .before .before .before in
-    let r = c .before .before .put-last in
-    let n = l .before .before .before .before .before .before .count .result in
-    one-piece _ _ _ _ _ (l .loop .inv .1) (groupBytes (take (n - l .loop .at) (drop (l .loop .at) (codes l)))) _ (r .last .1 .1 .1 .1 .1 .1 .0) (r .result)
-    (last-after (size l) (some l) (codes l) (l .loop .at) n (omega (arith, c .before .before .before .before .before .if1 .left)) (sym (many l)) (omega (arith, c .before .before .before .before .before .before .loop-test .left)))
-    (r .ensures .0)
-    (r .ensures .1)
-
-add-result : tie.Need-add-result Inv-loop μ-loop
-add-result c = let n = ended c in omega (arith, within _ _ _ _ _ n, n .room, start (c .before .before .before .before .before .before .before) .good)
+loop-again c = more c
 
 same-length-3 : tie.Need-same-length-3 Inv-loop μ-loop
-same-length-3 c = c .before .before .before .before .before .before .before .before .before .before .stage .kept .1 .1 .0
+same-length-3 c = staged (c .before .before .before) .stage .kept .1 .1 .0
 
 same-length-4 : tie.Need-same-length-4 Inv-loop μ-loop
-same-length-4 c = same-room _ _ _ _ _ (ended c)
+same-length-4 c = same-room _ _ _ _ _ (c .before .before .loop .inv .so-far)
 
 returns-2 : tie.Need-returns-2 Inv-loop μ-loop
-returns-2 c = let n = ended c in told (c .before .before .before .before .before .before .before) _ _ (omega (arith, n .whole)) (all-there _ _ _ _ n)
+returns-2 c = let l = c .before .before in walk-done (walk (l .before)) (l .loop .inv) (c .if2 .taken)
+
+coded-requires : tie.Need-coded-requires Inv-loop μ-loop
+coded-requires c κs = 
+    let l = c .before .before .before in
+    let e = l .before in
+    let g = staged e in
+    ((start e .pre .0 .0, l .loop .inv .inside, omega (arith, c .before .before .loop-test .left), omega (arith, walk e .count-is), walk e .few), (scratch g, g .stage .ensures))
+
+sub-written : tie.Need-sub-written Inv-loop μ-loop
+sub-written c = room (c .before .before .before .before)
+
+part-written-start : tie.Need-part-written-start Inv-loop μ-loop
+part-written-start c = room (c .before .before .before .before)
+
+part-written-end : tie.Need-part-written-end Inv-loop μ-loop
+part-written-end c = search needs
+
+written-requires : tie.Need-written-requires Inv-loop μ-loop
+written-requires c κs = 
+    let g = c .before in
+    let l = c .before .before .before .before .before in
+    let m = n (l .before) in
+    let some = c .before .before .before .if2 .left in
+    let short = c .before .before .before .before .loop-test .left in (
+      omega (arith, g .coded .ensures .0, short),
+      rw (g .coded .ensures .1) (group-fits (walk (l .before)) (l .loop .inv) m (m - l .loop .at) (omega (arith, some)) (omega (arith, some, short)) refl),
+    )
+
+add-result : tie.Need-add-result Inv-loop μ-loop
+add-result c = let a = last c .so-far in omega (arith, within _ _ _ _ _ a, a .room, start (c .before .before .before .before .before .before .before .before .before) .good)
+
+same-length-5 : tie.Need-same-length-5 Inv-loop μ-loop
+same-length-5 c = staged (c .before .before .before .before .before .before .before .before .before) .stage .kept .1 .1 .0
+
+same-length-6 : tie.Need-same-length-6 Inv-loop μ-loop
+same-length-6 c = same-room _ _ _ _ _ (last c .so-far)
+
+returns-3 : tie.Need-returns-3 Inv-loop μ-loop
+returns-3 c = walk-done (walk (c .before .before .before .before .before .before .before .before .before)) (last c) (omega arith)
 
 pub written-spec : {M : Type 1} → statement M
 written-spec =
@@ -192,8 +182,11 @@ written-spec =
     Inv-loop
     μ-loop
     count-requires
-    group-size-requires
     stage-requires
+    written-long-requires
+    same-length
+    same-length-2
+    returns
     loop-holds
     add-loop
     sub-put-group
@@ -204,14 +197,15 @@ written-spec =
     add-at
     loop-less
     loop-again
-    same-length
-    same-length-2
-    returns
-    sub-put-last
-    part-put-last-start
-    part-put-last-end
-    put-last-requires
-    add-result
     same-length-3
     same-length-4
-    returns-2)
+    returns-2
+    coded-requires
+    sub-written
+    part-written-start
+    part-written-end
+    written-requires
+    add-result
+    same-length-5
+    same-length-6
+    returns-3)
