@@ -1,6 +1,6 @@
 -- The walks over a chunk's groups that measure it and write it, for any group size: how far they have come, one group more, and the end. A group is
 -- full or the last one, which goes as far as there are codes.
-use mathlib.Core.Path.{_≡_, sym, ap, subst, _∙_}
+use mathlib.Core.Path.{_≡_, sym, ap, _∙_}
 use mathlib.Core.Bool.{true}
 use mathlib.Core.List.{List, _++_}
 use Prim.Native.Nat.{ℕ, _+_, _-_, _^_, _≤_, _<_, min}

@@ -1,5 +1,5 @@
 -- `stream::chunk::measured` meets its contract: groups of 128 have a walk of their own; of 32, full groups and the last one.
-use mathlib.Core.Path.{_≡_, refl, ap, _∙_}
+use mathlib.Core.Path.{refl, ap, _∙_}
 use mathlib.Core.List.{List}
 use Prim.Native.Nat.{ℕ, _+_, _-_, _≤_}
 use native.Mathlib.Omega.{arith}
@@ -67,7 +67,7 @@ stage-requires : tie.Need-stage-requires Inv-loop μ-loop
 stage-requires c κs = let p = c .before .before .before .before .before .pre in (p .0, p .2)
 
 measured-long-requires : tie.Need-measured-long-requires Inv-loop μ-loop
-measured-long-requires c κs = 
+measured-long-requires c κs =
     let g = c .before .before .before .before .before in
     ((g .before .before .before .before .before .before .pre .0, c .before .if1 .taken, g .before .before .count .ensures, few g), (scratch g, g .stage .ensures))
 
@@ -84,7 +84,7 @@ add-loop : tie.Need-add-loop Inv-loop μ-loop
 add-loop c = omega (arith, walk (c .before) .few, c .loop .inv .inside)
 
 measured-group-requires : tie.Need-measured-group-requires Inv-loop μ-loop
-measured-group-requires c κs = 
+measured-group-requires c κs =
     let e = c .before .before .before in
     let g = staged e in
     let more = c .before .loop-test .taken in
@@ -109,7 +109,7 @@ returns-2 : tie.Need-returns-2 Inv-loop μ-loop
 returns-2 c = let l = c .before .before in all-measured (walk (l .before)) (l .loop .inv) (c .if2 .taken)
 
 coded-requires : tie.Need-coded-requires Inv-loop μ-loop
-coded-requires c κs = 
+coded-requires c κs =
     let l = c .before .before .before in
     let e = l .before in
     let g = staged e in

@@ -1,13 +1,10 @@
 -- `stream::chunk::measured_long` meets its contract: full groups of 128, and the last one.
-use mathlib.Core.Path.{_≡_, refl}
-use mathlib.Core.List.{List}
+use mathlib.Core.Path.{refl}
 use Prim.Native.Nat.{ℕ, _+_, _-_, _≤_}
 use native.Mathlib.Omega.{arith}
-use lib.ListN.{length}
 use Rattle.stream.specs.Lent.{lentCodes}
 use Rattle.stream.proofs.Law.Chunk.Walks.{Walk, Measured, none-measured, one-measured, all-measured, measured-small}
 use Rattle.stream.proofs.Law.Setting.Allowed.{four-blocks}
-use borrow.Author.Needs.{needs}
 use Rattle.stream.proofs.chunk.measured_long.Statement.{statement}
 use Rattle.stream.proofs.chunk.measured_long.Tie as tie
 
@@ -53,7 +50,7 @@ add-measured-long : tie.Need-add-measured-long Inv-loop μ-loop
 add-measured-long c = omega (arith, walk (start (c .before)) .few, c .loop-test .taken)
 
 measured-long-requires : tie.Need-measured-long-requires Inv-loop μ-loop
-measured-long-requires c κs = 
+measured-long-requires c κs =
     let s = start (c .before) in
     let more = c .loop-test .taken in
     let p = s .pre .0 in
@@ -75,7 +72,7 @@ returns : tie.Need-returns Inv-loop μ-loop
 returns c = let l = c .before .before in all-measured (walk (start l)) (l .loop .inv) (c .if1 .taken)
 
 measured-long-requires-2 : tie.Need-measured-long-requires-2 Inv-loop μ-loop
-measured-long-requires-2 c κs = 
+measured-long-requires-2 c κs =
     let l = c .before .before in
     let s = start l in
     let p = s .pre .0 in

@@ -1,5 +1,5 @@
 -- `stream::chunk::written` meets its contract: groups of 128 have a walk of their own; of 32, full groups and the last one.
-use mathlib.Core.Path.{_≡_, refl, ap, _∙_}
+use mathlib.Core.Path.{refl, ap, _∙_}
 use mathlib.Core.List.{List, _++_}
 use Prim.Native.Nat.{ℕ, _+_, _-_, _≤_}
 use native.Mathlib.Omega.{arith}
@@ -76,7 +76,7 @@ stage-requires : tie.Need-stage-requires Inv-loop μ-loop
 stage-requires c κs = let p = c .before .before .before .before .before .before .pre .0 in (p .0, p .2)
 
 written-long-requires : tie.Need-written-long-requires Inv-loop μ-loop
-written-long-requires c κs = 
+written-long-requires c κs =
     let g = c .before .before .before .before .before .before in
     let p = g .before .before .before .before .before .before .before .pre in
     ((p .0 .0, c .before .before .if1 .taken, g .before .before .count .ensures, few g), ((scratch g, g .stage .ensures), p .1))
@@ -106,7 +106,7 @@ part-put-group-end : tie.Need-part-put-group-end Inv-loop μ-loop
 part-put-group-end c = search needs
 
 put-group-requires : tie.Need-put-group-requires Inv-loop μ-loop
-put-group-requires c κs = 
+put-group-requires c κs =
     let l = c .before .before .before in
     let e = l .before in
     let g = staged e in
@@ -137,7 +137,7 @@ returns-2 : tie.Need-returns-2 Inv-loop μ-loop
 returns-2 c = let l = c .before .before in walk-done (walk (l .before)) (l .loop .inv) (c .if2 .taken)
 
 coded-requires : tie.Need-coded-requires Inv-loop μ-loop
-coded-requires c κs = 
+coded-requires c κs =
     let l = c .before .before .before in
     let e = l .before in
     let g = staged e in
@@ -153,7 +153,7 @@ part-written-end : tie.Need-part-written-end Inv-loop μ-loop
 part-written-end c = search needs
 
 written-requires : tie.Need-written-requires Inv-loop μ-loop
-written-requires c κs = 
+written-requires c κs =
     let g = c .before in
     let l = c .before .before .before .before .before in
     let m = n (l .before) in

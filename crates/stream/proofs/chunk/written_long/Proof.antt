@@ -1,7 +1,6 @@
 -- `stream::chunk::written_long` meets its contract: full groups of 128, and the last one.
-use mathlib.Core.Path.{_≡_, refl}
-use mathlib.Core.List.{List}
-use Prim.Native.Nat.{ℕ, _+_, _-_, _≤_}
+use mathlib.Core.Path.{refl}
+use Prim.Native.Nat.{_+_, _-_, _≤_}
 use native.Mathlib.Omega.{arith}
 use lib.ListN.{length}
 use borrow.Rule.Slice.PartMut.{putMid}
@@ -68,7 +67,7 @@ part-put-long-end : tie.Need-part-put-long-end Inv-loop μ-loop
 part-put-long-end c = search needs
 
 put-long-requires : tie.Need-put-long-requires Inv-loop μ-loop
-put-long-requires c κs = 
+put-long-requires c κs =
     let l = c .before .before in
     let s = start l in
     let in-loop = c .before .loop-test .taken in
@@ -105,7 +104,7 @@ part-put-long-end-2 : tie.Need-part-put-long-end-2 Inv-loop μ-loop
 part-put-long-end-2 c = search needs
 
 put-long-requires-2 : tie.Need-put-long-requires-2 Inv-loop μ-loop
-put-long-requires-2 c κs = 
+put-long-requires-2 c κs =
     let l = c .before .before .before in
     let s = start l in
     let n = s .args .n in

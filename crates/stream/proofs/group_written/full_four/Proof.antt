@@ -1,9 +1,9 @@
 -- `stream::group_written::full_four` meets its contract: the width byte, and behind it four blocks.
-use mathlib.Core.Path.{_≡_, refl, sym, ap, ap₂, _∙_}
+use mathlib.Core.Path.{_≡_, refl, sym, ap₂, _∙_}
 use mathlib.Core.List.{List, [], _++_, append-nil}
 use Prim.Native.Nat.{ℕ, _+_, _-_, _*_, _≤_, max}
 use native.Mathlib.Omega.{arith}
-use lib.ListN.{length, take, drop, set}
+use lib.ListN.{length, take, set}
 use borrow.Rule.Slice.PartMut.{putMid}
 use Rattle.stream.specs.Group.{packed, groupBytes}
 use Rattle.stream.proofs.Law.Group.FullFour.{Full, InBlocks, in-blocks, block-fits, one-block}
@@ -153,7 +153,7 @@ same-length : tie.Need-same-length
 same-length c = search needs
 
 returns : tie.Need-returns
-returns c = 
+returns c =
     let q = c .before in
     let one = blocks q .length-is in
     (omega (arith, one, c .if1 .taken), all-put _ _ _ _ _ (begun q) (omega (arith, one, c .if1 .taken)))
@@ -168,7 +168,7 @@ part-put-block-end : tie.Need-part-put-block-end
 part-put-block-end c = search needs
 
 put-block-requires : tie.Need-put-block-requires
-put-block-requires c κs = 
+put-block-requires c κs =
     let q = c .before .before in
     (narrow q, blocks q .below-a, block-fits _ _ _ _ _ (begun (c .before .before)) (q .wider3 .result) (start q .args .a .codes) (after-a q) refl (blocks q .long-a))
 
@@ -188,7 +188,7 @@ part-put-block-end-2 : tie.Need-part-put-block-end-2
 part-put-block-end-2 c = search needs
 
 put-block-requires-2 : tie.Need-put-block-requires-2
-put-block-requires-2 c κs = 
+put-block-requires-2 c κs =
     let q = c .before .before .before .before .before .before in
     (narrow q, blocks q .below-b, block-fits _ _ _ _ _ (stands-1 (c .before .before .before)) (q .wider3 .result) (start q .args .b .codes) (after-b q) refl (blocks q .long-b))
 
@@ -208,7 +208,7 @@ part-put-block-end-3 : tie.Need-part-put-block-end-3
 part-put-block-end-3 c = search needs
 
 put-block-requires-3 : tie.Need-put-block-requires-3
-put-block-requires-3 c κs = 
+put-block-requires-3 c κs =
     let q = c .before .before .before .before .before .before .before .before .before .before in
     (narrow q, blocks q .below-c, block-fits _ _ _ _ _ (stands-2 (c .before .before .before)) (q .wider3 .result) (start q .args .c .codes) (after-c q) refl (blocks q .long-c))
 
@@ -228,7 +228,7 @@ part-put-block-end-4 : tie.Need-part-put-block-end-4
 part-put-block-end-4 c = search needs
 
 put-block-requires-4 : tie.Need-put-block-requires-4
-put-block-requires-4 c κs = 
+put-block-requires-4 c κs =
     let q = c .before .before .before .before .before .before .before .before .before .before .before .before .before .before in
     (narrow q, blocks q .below-d, block-fits _ _ _ _ _ (stands-3 (c .before .before .before)) (q .wider3 .result) (start q .args .d .codes) ([]) (sym (append-nil (after-c q))) (blocks q .long-d))
 

@@ -154,7 +154,7 @@ same-length : tie.Need-same-length
 same-length c = search needs
 
 returns : tie.Need-returns
-returns c = 
+returns c =
     let q = c .before in
     let one = blocks q .length-is in
     (omega (arith, one, c .if1 .taken), all-put _ _ _ _ _ (begun q) (omega (arith, one, c .if1 .taken)))
@@ -172,7 +172,7 @@ part-packed32-end : tie.Need-part-packed32-end
 part-packed32-end c = search needs
 
 packed32-requires : tie.Need-packed32-requires
-packed32-requires c κs = 
+packed32-requires c κs =
     let q = c .before .before .before in
     (omega (arith, c .before .before .if1 .left), narrow q, full-a (start q) .long, blocks q .below-a, block-fits _ _ _ _ _ (begun (c .before .before .before)) (q .wider3 .result) (start q .args .a .codes) (after-a q) refl (blocks q .long-a))
 
@@ -195,7 +195,7 @@ part-packed32-end-2 : tie.Need-part-packed32-end-2
 part-packed32-end-2 c = search needs
 
 packed32-requires-2 : tie.Need-packed32-requires-2
-packed32-requires-2 c κs = 
+packed32-requires-2 c κs =
     let q = c .before .before .before .before .before .before .before .before in
     (omega (arith, c .before .before .before .before .before .before .before .if1 .left), narrow q, full-b (start q) .long, blocks q .below-b, block-fits _ _ _ _ _ (stands-1 (c .before .before .before .before)) (q .wider3 .result) (start q .args .b .codes) (after-b q) refl (blocks q .long-b))
 
@@ -218,7 +218,7 @@ part-packed32-end-3 : tie.Need-part-packed32-end-3
 part-packed32-end-3 c = search needs
 
 packed32-requires-3 : tie.Need-packed32-requires-3
-packed32-requires-3 c κs = 
+packed32-requires-3 c κs =
     let q = c .before .before .before .before .before .before .before .before .before .before .before .before .before in
     (omega (arith, c .before .before .before .before .before .before .before .before .before .before .before .before .if1 .left), narrow q, full-c (start q) .long, blocks q .below-c, block-fits _ _ _ _ _ (stands-2 (c .before .before .before .before)) (q .wider3 .result) (start q .args .c .codes) (after-c q) refl (blocks q .long-c))
 
@@ -241,7 +241,7 @@ part-packed32-end-4 : tie.Need-part-packed32-end-4
 part-packed32-end-4 c = search needs
 
 packed32-requires-4 : tie.Need-packed32-requires-4
-packed32-requires-4 c κs = 
+packed32-requires-4 c κs =
     let q = c .before .before .before .before .before .before .before .before .before .before .before .before .before .before .before .before .before .before in
     (omega (arith, c .before .before .before .before .before .before .before .before .before .before .before .before .before .before .before .before .before .if1 .left), narrow q, full-d (start q) .long, blocks q .below-d, block-fits _ _ _ _ _ (stands-3 (c .before .before .before .before)) (q .wider3 .result) (start q .args .d .codes) ([]) (sym (append-nil (after-c q))) (blocks q .long-d))
 

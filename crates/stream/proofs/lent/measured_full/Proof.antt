@@ -110,7 +110,7 @@ add-coded-narrow : tie.Need-add-coded-narrow
 add-coded-narrow c = search needs
 
 coded-narrow-requires : tie.Need-coded-narrow-requires
-coded-narrow-requires c κs = 
+coded-narrow-requires c κs =
     let q = c .before .before in
     let p = start-32 q .pre .1 in
     ((q .if1 .taken, omega arith, omega arith, omega (arith, enough-32 q), omega arith), (p .0, p .1, c .if2 .left))
@@ -122,7 +122,7 @@ add-coded-narrow-3 : tie.Need-add-coded-narrow-3
 add-coded-narrow-3 c = search needs
 
 coded-narrow-requires-2 : tie.Need-coded-narrow-requires-2
-coded-narrow-requires-2 c κs = 
+coded-narrow-requires-2 c κs =
     let q = c .before .before .before in
     let p = start-32 q .pre .1 in
     ((q .if1 .taken, omega arith, omega arith, omega (arith, enough-32 q), omega arith), (p .0, p .1, c .before .if2 .left))
@@ -134,7 +134,7 @@ add-coded-narrow-5 : tie.Need-add-coded-narrow-5
 add-coded-narrow-5 c = search needs
 
 coded-narrow-requires-3 : tie.Need-coded-narrow-requires-3
-coded-narrow-requires-3 c κs = 
+coded-narrow-requires-3 c κs =
     let q = c .before .before .before .before in
     let p = start-32 q .pre .1 in
     ((q .if1 .taken, omega arith, omega arith, omega (arith, enough-32 q), omega arith), (p .0, p .1, c .before .before .if2 .left))
@@ -146,7 +146,7 @@ add-coded-narrow-7 : tie.Need-add-coded-narrow-7
 add-coded-narrow-7 c = search needs
 
 coded-narrow-requires-4 : tie.Need-coded-narrow-requires-4
-coded-narrow-requires-4 c κs = 
+coded-narrow-requires-4 c κs =
     let q = c .before .before .before .before .before in
     let p = start-32 q .pre .1 in
     ((q .if1 .taken, omega arith, omega arith, omega (arith, enough-32 q), omega arith), (p .0, p .1, c .before .before .before .if2 .left))

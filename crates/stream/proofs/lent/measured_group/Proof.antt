@@ -1,6 +1,6 @@
 -- `stream::lent::measured_group` meets its contract: the length of the group of one record, by width and mode.
 use mathlib.Core.Path.{_≡_, ap, _∙_}
-use mathlib.Core.List.{List, _++_}
+use mathlib.Core.List.{List}
 use Prim.Native.Nat.{ℕ, _+_, _≤_}
 use native.Mathlib.Omega.{arith}
 use lib.ListN.{length, take, drop}
@@ -8,7 +8,6 @@ use Rattle.stream.specs.Group.{groupBytes}
 use Rattle.stream.specs.Lent.{lentCodes}
 use Rattle.stream.proofs.Law.Lent.Codes.{differences-32, each-32, differences-64, each-64, full-codes, length-32, length-other}
 use Rattle.stream.proofs.Law.Setting.Allowed.{width-other}
-use borrow.Author.Needs.{needs}
 use Rattle.stream.proofs.lent.measured_group.Statement.{statement}
 use Rattle.stream.proofs.lent.measured_group.Tie as tie
 
@@ -64,7 +63,7 @@ returns : tie.Need-returns
 returns c = c .measured-full32 .ensures ∙ ap (λ (cs : List ℕ). length (groupBytes cs)) (codes-differenced-narrow (c .before))
 
 coded-narrow-requires : tie.Need-coded-narrow-requires
-coded-narrow-requires c κs = 
+coded-narrow-requires c κs =
     let q = c .before .before in
     let p = start-32 q .pre .1 in
     ((q .if1 .taken, omega arith, omega arith, omega (arith, enough-32 q), omega arith), (p .0, p .1, c .if2 .left))

@@ -85,7 +85,7 @@ narrow-requires-4 : tie.Need-narrow-requires-4
 narrow-requires-4 c κs = let q = c .before .before .before in ((q .if1 .taken, omega arith, omega arith, omega (arith, enough-32 q), omega arith), start-32 q .pre .1 .0)
 
 full-four32-requires : tie.Need-full-four32-requires
-full-four32-requires c κs = 
+full-four32-requires c κs =
     let g = c .before in (
       (omega (arith, g .before .before .before .narrow .ensures .0), omega (arith, g .before .before .narrow2 .ensures .0), omega (arith, g .before .narrow3 .ensures .0), omega (arith, g .narrow4 .ensures .0)),
       rw (codes-narrow g) (start-32 (g .before .before .before .before) .pre .1 .1),
@@ -95,7 +95,7 @@ same-length : tie.Need-same-length
 same-length c = search needs
 
 returns : tie.Need-returns
-returns c = 
+returns c =
     let g = c .before .before .before .before in
     let w = c .before .before .full-four32 in (
       w .ensures .0 ∙ ap (λ (cs : List ℕ). length (groupBytes cs)) (codes-narrow g),
@@ -136,7 +136,7 @@ wide-requires-4 : tie.Need-wide-requires-4
 wide-requires-4 c κs = let q = c .before .before .before in (is-64 q, omega arith, omega arith, omega (arith, enough-64 q), omega arith)
 
 full-four-requires : tie.Need-full-four-requires
-full-four-requires c κs = 
+full-four-requires c κs =
     let g = c .before in (
       (omega (arith, g .before .before .before .wide .ensures .0), omega (arith, g .before .before .wide2 .ensures .0), omega (arith, g .before .wide3 .ensures .0), omega (arith, g .wide4 .ensures .0)),
       rw (codes-wide g) (start-64 (g .before .before .before .before) .pre .1 .1),
@@ -146,7 +146,7 @@ same-length-2 : tie.Need-same-length-2
 same-length-2 c = search needs
 
 returns-2 : tie.Need-returns-2
-returns-2 c = 
+returns-2 c =
     let g = c .before .before .before .before in
     let w = c .before .before .full-four in (
       w .ensures .0 ∙ ap (λ (cs : List ℕ). length (groupBytes cs)) (codes-wide g),

@@ -54,7 +54,7 @@ differenced-narrow-requires : tie.Need-differenced-narrow-requires
 differenced-narrow-requires c κs = (omega arith, omega arith, omega (arith, enough-32 (c .before .before)), omega arith)
 
 full32-requires : tie.Need-full32-requires
-full32-requires c κs = 
+full32-requires c κs =
     let g = c .before in
     (omega (arith, g .differenced-narrow .ensures .0), rw (codes-differenced-narrow g) (start-32 (g .before .before .before) .pre .1 .1))
 
@@ -62,7 +62,7 @@ same-length : tie.Need-same-length
 same-length c = search needs
 
 returns : tie.Need-returns
-returns c = 
+returns c =
     let g = c .before .before .before .before in
     let w = c .before .before .full32 in (
       w .ensures .0 ∙ ap (λ (cs : List ℕ). length (groupBytes cs)) (codes-differenced-narrow g),
@@ -70,13 +70,13 @@ returns c =
     )
 
 coded-narrow-requires : tie.Need-coded-narrow-requires
-coded-narrow-requires c κs = 
+coded-narrow-requires c κs =
     let q = c .before .before in
     let p = start-32 q .pre .1 .0 in
     ((q .if1 .taken, omega arith, omega arith, omega (arith, enough-32 q), omega arith), (p .0, p .1, c .if2 .left))
 
 full32-requires-2 : tie.Need-full32-requires-2
-full32-requires-2 c κs = 
+full32-requires-2 c κs =
     let g = c .before in
     (omega (arith, g .coded-narrow .ensures .0), rw (codes-coded-narrow g) (start-32 (g .before .before .before) .pre .1 .1))
 
@@ -84,7 +84,7 @@ same-length-2 : tie.Need-same-length-2
 same-length-2 c = search needs
 
 returns-2 : tie.Need-returns-2
-returns-2 c = 
+returns-2 c =
     let g = c .before .before .before .before in
     let w = c .before .before .full322 in (
       w .ensures .0 ∙ ap (λ (cs : List ℕ). length (groupBytes cs)) (codes-coded-narrow g),
@@ -95,7 +95,7 @@ wide-requires : tie.Need-wide-requires
 wide-requires c κs = (is-64 c, omega arith, omega arith, omega (arith, enough-64 c), omega arith)
 
 full-requires : tie.Need-full-requires
-full-requires c κs = 
+full-requires c κs =
     let g = c .before in
     (omega (arith, g .wide .ensures .0), rw (codes-wide g) (start-64 (g .before) .pre .1 .1))
 
@@ -103,7 +103,7 @@ same-length-3 : tie.Need-same-length-3
 same-length-3 c = search needs
 
 returns-3 : tie.Need-returns-3
-returns-3 c = 
+returns-3 c =
     let g = c .before .before .before .before in
     let w = c .before .before .full in (
       w .ensures .0 ∙ ap (λ (cs : List ℕ). length (groupBytes cs)) (codes-wide g),
