@@ -111,6 +111,13 @@ module _ (W : ℕ) (v32 v64 : List ℕ) where
   pub length-other : (W ≡ 32 → ⊥) → length (chosen W v32 v64) ≡ length v64
   length-other n = ap length (at-other W v32 v64 n)
 
+  -- so what lies within the one lies within the other
+  pub within-32 : (n : ℕ) → W ≡ 32 → n ≤ length (chosen W v32 v64) → n ≤ length v32
+  within-32 n e h = omega (arith, length-32 e)
+
+  pub within-other : (n : ℕ) → (W ≡ 32 → ⊥) → n ≤ length (chosen W v32 v64) → n ≤ length v64
+  within-other n e h = omega (arith, length-other e)
+
 pub chosen-parts : (W : ℕ) (v32 v64 p32 p64 : List ℕ) (j : ℕ) → p32 ≡ piece v32 j → p64 ≡ piece v64 j → chosen W p32 p64 ≡ piece (chosen W v32 v64) j
 chosen-parts W v32 v64 p32 p64 j e32 e64 = ap₂ (chosen W) e32 e64 ∙ chosen-piece W v32 v64 j
 

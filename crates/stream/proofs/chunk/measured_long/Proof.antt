@@ -1,4 +1,5 @@
--- `stream::chunk::measured_long` meets its contract: full groups of 128, and the last one.
+-- `stream::chunk::measured_long` meets its contract: full groups of 128, and the last one. The invariant is how far
+-- measuring has come.
 use mathlib.Core.Path.{refl}
 use Prim.Native.Nat.{ℕ, _+_, _-_, _≤_}
 use native.Mathlib.Omega.{arith}

@@ -1,4 +1,5 @@
--- `stream::chunk::written` meets its contract: groups of 128 have a walk of their own; of 32, full groups and the last one.
+-- `stream::chunk::written` meets its contract: groups of 128 have a walk of their own; of 32, full groups and the last one. The invariant is how far
+-- writing has come.
 use mathlib.Core.Path.{refl, ap, _∙_}
 use mathlib.Core.List.{List, _++_}
 use Prim.Native.Nat.{ℕ, _+_, _-_, _≤_}

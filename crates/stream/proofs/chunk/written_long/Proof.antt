@@ -1,4 +1,5 @@
--- `stream::chunk::written_long` meets its contract: full groups of 128, and the last one.
+-- `stream::chunk::written_long` meets its contract: full groups of 128, and the last one. The invariant is how far
+-- writing has come.
 use mathlib.Core.Path.{refl}
 use Prim.Native.Nat.{_+_, _-_, _≤_}
 use native.Mathlib.Omega.{arith}

@@ -6,7 +6,7 @@ use native.Mathlib.Omega.{arith}
 use lib.ListN.{length, take, drop}
 use Rattle.stream.specs.Group.{groupBytes}
 use Rattle.stream.specs.Lent.{lentCodes}
-use Rattle.stream.proofs.Law.Lent.Codes.{differences-32, each-32, differences-64, each-64, full-four-codes, length-32, length-other}
+use Rattle.stream.proofs.Law.Lent.Codes.{differences-32, each-32, differences-64, each-64, full-four-codes, within-32, within-other}
 use Rattle.stream.proofs.Law.Setting.Allowed.{width-other}
 use borrow.Author.Needs.{needs}
 use Rattle.stream.proofs.lent.measured_full.Statement.{statement}
@@ -23,16 +23,10 @@ is-64 c = width-other (start-64 c .args .t .width) (start-64 c .pre .0 .0 .known
 
 -- there are values as far as the group goes
 enough-32 : (c : tie.Then1) → start-32 c .args .at + 128 ≤ length (start-32 c .args .v32 .now)
-enough-32 c =
-    let s = start-32 c in
-    let a = s .args in
-    omega (arith, length-32 (a .t .width) (a .v32 .now) (a .v64 .now) (c .if1 .taken), s .pre .0 .1)
+enough-32 c = let a = start-32 c .args in within-32 (a .t .width) (a .v32 .now) (a .v64 .now) _ (c .if1 .taken) (start-32 c .pre .0 .1)
 
 enough-64 : (c : tie.Else1) → start-64 c .args .at + 128 ≤ length (start-64 c .args .v64 .now)
-enough-64 c =
-    let s = start-64 c in
-    let a = s .args in
-    omega (arith, length-other (a .t .width) (a .v32 .now) (a .v64 .now) (c .if1 .left), s .pre .0 .1)
+enough-64 c = let a = start-64 c .args in within-other (a .t .width) (a .v32 .now) (a .v64 .now) _ (c .if1 .left) (start-64 c .pre .0 .1)
 
 -- the codes of the four records are those of the group
 codes-differenced-narrow : (c : tie.After-differenced-narrow4) → let a = start-32 (c .before .before .before .before .before .before) .args in
