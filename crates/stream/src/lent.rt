@@ -2,7 +2,7 @@
 // at the width. What is left in the scratch (c32, c64), in the output of the other width, and in a group behind its count, nobody asks.
 ghost use mathlib.Core.Path.{_≡_};
 ghost use mathlib.Core.List.{map, _++_};
-ghost use Prim.Native.Nat.{_≤_, _<_, _-_, _+_, _^_, min};
+ghost use Prim.Native.Nat.{ℕ, _≤_, _<_, _-_, _+_, _*_, _/_, _^_, min};
 ghost use lib.ListN.{length, take, drop, getD, replicate};
 ghost use Rattle.numbers.specs.Difference.{differenceCodes, runningSums, lastOf};
 ghost use Rattle.blocks.specs.Bytes.{Below};
@@ -662,17 +662,29 @@ pub(crate) fn carried(t: Setting, before: u64, s: &[u8], n: usize) -> u64
     group_sum(t, before, s, n)
 }
 
+// The value i of a good group of n, from its own block: the codes of the blocks before it count by the pattern `last` that what follows them stands behind.
+fn value_behind(t: Setting, last: u64, s: &[u8], n: usize, i: usize) -> u64
+    requires { ⌜ Allowed t × (last < 2 ^ t .width) × (i < n) × (n ≤ 128) × (givenWidth (now s) ≤ t .width) × (groupLength n (now s) ≤ length (now s)) ⌝ }
+    ensures { λ p. ⌜ ((before : ℕ) → SameBehind t last (lastOf before (patternsAfter t before (groupCodes (32 * (i / 32)) (now (s .entry)))))
+        → p ≡ getD (patternsAfter t before (groupCodes n (now (s .entry)))) i 0) ⌝ }
+{
+    let w = bytes::wide(s[0]) as usize;
+    let block = i / 32;
+    let passed = 32 * block;
+    let from = 4 * w * block;
+    let g = group_read::codes_of(&s[from..], w, group_read::block_count(n - passed));
+    let codes = g.codes;
+    picked(t, last, &codes, i - passed)
+}
+
 // The value i of a good group of n, whose codes stand behind `before`: the full blocks before its own are passed over, and in mode 2 summed up.
 pub(crate) fn value(t: Setting, before: u64, s: &[u8], n: usize, i: usize) -> u64
     requires { ⌜ Allowed t × (before < 2 ^ t .width) × (i < n) × (n ≤ 128) × (givenWidth (now s) ≤ t .width) × (groupLength n (now s) ≤ length (now s)) ⌝ }
     ensures { λ p. ⌜ p ≡ getD (patternsAfter t before (groupCodes n (now (s .entry)))) i 0 ⌝ }
 {
-    let w = bytes::wide(s[0]) as usize;
-    let block = i / 32;
-    let passed = 32 * block;
-    let last = carried(t, before, s, passed);
-    let from = 4 * w * block;
-    let g = group_read::codes_of(&s[from..], w, group_read::block_count(n - passed));
-    let codes = g.codes;
-    picked(t, last, &codes, i - passed)
+    if t.mode == 2 {
+        let last = group_sum(t, before, s, 32 * (i / 32));
+        return value_behind(t, last, s, n, i);
+    }
+    value_behind(t, before, s, n, i)
 }
