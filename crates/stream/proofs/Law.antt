@@ -1,4 +1,5 @@
--- The laws of the definitions in specs/, in folders by subject. Nothing here fixes a group's size but `dividing` and `size-most` of Setting/Allowed.
+-- The laws of the definitions in specs/, in folders by subject. They hold of any group size; that it is 32 or 128 is said in Setting/Allowed, and of four records
+-- in Group/Parts and Group/FullFour.
 pub mod Plain
 pub mod Setting
 pub mod Group

@@ -143,14 +143,6 @@ group-size-is t e = go (size-cases (t .size) e)
     go (inl a) = rw a
     go (inr a) = rw a
 
-pub size-most : (t : Setting) → groupSize t ≤ 128
-unfolding groupSize
-size-most t = go (eqb (t .size) 128)
-  where
-    go : (b : Bool) → cond b 128 32 ≤ 128
-    go true = lit≤ tt
-    go false = lit≤ tt
-
 -- a chunk has at most 32 groups
 pub groups-most : (t : Setting) (n : ℕ) → n ≤ 1024 → groupsIn (groupSize t) n ≤ 32
 unfolding groupsIn groupSize
