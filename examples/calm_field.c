@@ -3,9 +3,9 @@
  *
  *     cc -std=c99 -I include examples/calm_field.c target/lib/libgwizdorad.a -o calm_field
  *
- * Each group has a byte for the width of its codes, and all its codes are as wide as the widest. In calm water the codes have few bits or none, and
- * these bytes are a visible share of the file: groups of 128 have a quarter as many. But one rough value widens 128 codes in place of 32. And a reader
- * of level 12 or below refuses groups of 128. So: ask who reads the file, then ask gwz_length.
+ * Each group has a byte for the width of its codes, and all its codes are as wide as the widest. In calm water the codes within a tolerance have
+ * few bits or none, and these bytes are a visible share of the file: groups of 128 have a quarter as many. But one rough value widens 128 codes in place
+ * of 32. And a reader of level 12 or below refuses groups of 128. So: ask who reads the file, then ask gwz_length.
  */
 #include "gwizdorad.h"
 
@@ -90,7 +90,7 @@ static void compare_sizes(const char *what, int rough)
     printf("  groups of 128 take %.1f %% of the bytes of groups of 32\n", 100.0 * bytes[1] / bytes[0]);
     if (memcmp(back[0], back[1], sizeof back[0]) != 0)
         stop("comparing", "a value depends on the group size");
-    printf("  to be chosen: groups of %lu if every reader is of level 13, and of %lu if one is of level 12\n",
+    printf("  to be chosen: groups of %lu if every reader is of level 13 or later, and of %lu if one is of level 12\n",
            (unsigned long)group_for(GWZ_LEVEL_13, cells), (unsigned long)group_for(GWZ_LEVEL_12, cells));
 }
 

@@ -2,7 +2,7 @@
  * The field of the first run: packed, summed up, and read back and measured.
  *
  *     harbour pack FIELD FOLDER METRES       packs FIELD into FOLDER: lossless in both ways, within a tolerance, the same in groups of
- *                                            128 values in place of 32, the same with a summary beside it, and a cut file
+ *                                            128 values, the one in groups of 32 with a summary beside it, and a cut file
  *     harbour read FIELD FOLDER METRES       reads the six files back, compares them with FIELD, and lists the chunks with high water
  *     harbour verdict FIELD FOLDER METRES    the same in three lines, with the five streams cut at every length
  *

@@ -68,8 +68,8 @@ static uint8_t *packed(const float *values, size_t n, int32_t k, size_t *length)
     uint32_t *patterns = (uint32_t *)allocated(n * sizeof *patterns);
     memcpy(patterns, values, n * sizeof *patterns);
 
-    /* How much room? Ask for the exact length, or lend GWZ_LONGEST_STREAM(32, group, n) bytes without asking. Groups of 32 are
-       what every reader reads; examples/calm_field.c says when groups of 128 are the better ones. */
+    /* How much room? Ask for the exact length, or lend GWZ_LONGEST_STREAM(32, group, n) bytes without asking. Groups of 32 ask
+       for no later reader than mode and width do; examples/calm_field.c says when groups of 128 are the better ones. */
     const uint32_t level = GWZ_HIGHEST_LEVEL, mode = GWZ_WITHIN_TOLERANCE, group = GWZ_GROUPS_OF_32;
     size_t room = gwz_answer(not_refused("length", gwz_length32(level, mode, k, group, patterns, n)));
     uint8_t *stream = (uint8_t *)allocated(room);

@@ -16,8 +16,8 @@
  * WHAT IS LENT
  *
  * - A lent part is a pointer and a count of elements. The library reads or writes there and nowhere else,
- *   during the call and not after it. It allocates nothing, keeps nothing between calls and has no state, so
- *   any number of threads may call it at once, each with outputs of its own.
+ *   during the call and not after it. It allocates nothing (it uses under 13 kB of the stack), keeps nothing
+ *   between calls and has no state, so any number of threads may call it at once, each with outputs of its own.
  * - An output must not overlap any other part lent to the same call.
  * - During the call nobody else writes to a lent part, or reads an output.
  * - A part of no elements (count 0) is never read or written, and its pointer may be NULL. No other pointer
@@ -33,10 +33,10 @@
  * WHAT IS NOT SEEN
  *
  * The format has no checksum. An altered bit of a code that breaks no rule is read as another value, and in mode
- * GWZ_DIFFERENCES it also moves every value behind it in its chunk: of single bits flipped at random in streams of a
- * harbour field, 94 % and more were accepted, nearly each with one wrong value, or with wrong values to the end of a
- * chunk (README.md has the figures). A file that travels needs a checksum around it; examples/pack_field.c keeps a
- * CRC-32. A summary is none: beside it too, a wrong value is not seen that leaves what the summary says of its chunk.
+ * GWZ_DIFFERENCES it also moves every value behind it in its chunk: of single bits flipped at random in streams (groups
+ * of 32) of a harbour field, 94 % and more were accepted, nearly each with one wrong value, or with wrong values to the
+ * end of a chunk (README.md has the figures). A file that travels needs a checksum around it; examples/pack_field.c keeps
+ * a CRC-32. A summary is none: beside it too, a wrong value is not seen that leaves what the summary says of its chunk.
  *
  *
  * WHAT IS ANSWERED
@@ -63,7 +63,8 @@
  * stream is refused. Who adds such a part also raises the needed minor to 12 if it is below that (in groups of 128 it is 13), and
  * the written one if it is below the needed (docs/FORMAT.md has the bytes): then readers of this library refuse the stream by 7
  * below the need and by 15, with the first such id, from it on; and older ones, which knew no such ids, by 7 too. Where the need
- * was not raised, a reader that reaches it refuses the stream by 8 in this library, and skips the part in older ones.
+ * had to be raised and was not (in groups of 32), a reader that reaches it refuses the stream by 8 in this library, and skips
+ * the part in releases before 0.10.0.
  *
  *
  * PATTERNS, NOT FLOATS
@@ -115,11 +116,11 @@ enum gwz_mode {
  *
  * - GWZ_GROUPS_OF_32 where some reader is of level 12 or below; and for fields with rough spots, which then cost their width in a
  *   group of 32 and not in one of 128.
- * - GWZ_GROUPS_OF_128 for calm fields, where the width bytes are a visible share of the file, if every reader is of level 13 or
- *   later. There are a quarter as many of them.
+ * - GWZ_GROUPS_OF_128 for fields whose codes have few bits over long stretches, as calm ones within a tolerance have (lossless
+ *   a calm field is often larger so), if every reader is of level 13 or later. There are a quarter as many width bytes.
  *
- * Which is the smaller for a field, gwz_length tells. In the stream and the listing there is no number for it: 256 is added to
- * the mode number for 128. In a call the mode is 0, 1 or 2 for both.
+ * Which is the smaller for a field, gwz_length tells; examples/calm_field.c compares both. In the stream and the listing there
+ * is no number for it: 256 is added to the mode number for 128. In a call the mode is 0, 1 or 2 for both.
  */
 enum gwz_group {
     GWZ_GROUPS_OF_32 = 32,  /* what every release before 0.12.0 wrote */
@@ -147,8 +148,8 @@ enum gwz_limit {
 /*
  * The most bytes that gwz_pack writes for n values (at most GWZ_MOST_VALUES) of a width, 32 or 64, in groups of 32 or 128:
  * header, chunk table, a width byte for each group, and the values. (A stream to which side parts were added may be longer.)
- * What is enough for groups of 32 is enough for groups of 128; any other size, which gwz_pack refuses, counts as 32 here.
- * A constant where all three are, so it can be the length of an array. It mentions n more than once.
+ * This number for groups of 32 is enough for groups of 128 too (what gwz_length answers is not); any other size, which gwz_pack
+ * refuses, counts as 32 here. A constant where all three are, so it can be the length of an array. It mentions n more than once.
  */
 #define GWZ_LONGEST_STREAM(width, group, n)                                                  \
     (48u + 4u * (((size_t)(n) + 1023u) / 1024u)                                              \

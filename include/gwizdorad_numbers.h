@@ -63,8 +63,8 @@ enum gwz_refusal_number {
     GWZ_NO_HEADER = 5,            /* fewer than GWZ_HEADER_BYTES bytes */
     GWZ_OTHER_MAJOR = 6,          /* major not 1: another format */
     GWZ_TOO_NEW = 7,              /* needed minor above the level; detail: the needed minor */
-    GWZ_BROKEN_HEADER = 8,        /* another header rule broken, as when the bytes end before the data, or the need is not
-                                     that of the stream */
+    GWZ_BROKEN_HEADER = 8,        /* another header rule broken, as when the bytes end before the data, the mode number is
+                                     not 0, 1, 2, 256, 257 or 258, or the need is not that of the stream */
     GWZ_BROKEN_TABLE = 9,         /* chunk table or side table rule broken */
     GWZ_BROKEN_CHUNK = 10,        /* a chunk breaks a rule; detail: chunk * 32 + group (of a code alone: 0) */
     GWZ_NO_SUCH_INDEX = 11,       /* index not below the count of values */

@@ -24,7 +24,7 @@ use Rattle.stream.specs.declared.answers.Answer.the-variants.{Done}
 use Rattle.stream.specs.declared.answers.Probe32.{Probe32}
 use Rattle.stream.specs.declared.answers.Probe64.{Probe64}
 use Rattle.stream.proofs.Readers.{check-order, unpack-order, probe-order, refused-check, refused-unpack, refused-probe32, refused-probe64, refused-untouched, written-values, probe-as-unpack32, probe-as-unpack64, check-higher, unpack-higher, probe-higher32, probe-higher64}
-use Rattle.stream.proofs.Written.{length-order, pack-order, refused-length, refused-pack, refused-pack-untouched, accepted-later, accepted-list, accepted-leaves, accepted-is-raised, the-minors-as-they-were, length-is-answered, packed-length-bound, the-stream-is-packed, it-is-read, it-is-too-new, refused-by-15, refused-by-8}
+use Rattle.stream.proofs.Written.{length-order, pack-order, refused-length, refused-pack, refused-pack-untouched, accepted-setting, accepted-later, accepted-list, accepted-leaves, accepted-is-raised, the-minors-as-they-were, length-is-answered, packed-length-bound, the-stream-is-packed, it-is-read, it-is-too-new, refused-by-15, refused-by-8}
 use Rattle.stream.proofs.Understood.{the-high-ids, a-high-id-is-never-skipped}
 use Rattle.summary.proofs.Theorems.{add-order, test-order, list-order, refused-add, refused-add-untouched, refused-test, refused-list, refused-list-untouched, add-takes, side-parts-are-refused-by-16, the-copy-fits, the-copy-is-left, the-copy-is-read-as-the-original, only-the-number-of-side-parts-is-another, the-summary-that-is-added-is-true, a-test-accepts-what-is-added, a-test-accepts-exactly-the-true-summaries, all-else-is-refused-by-17, a-true-summary-has-an-entry-for-each-chunk, a-true-summary-says, the-list-fits, a-list-is-made-of-a-true-summary, the-list-names-exactly, the-list-is-in-order, past-the-list, a-list-is-given, a-not-a-number-is-refused-by-2, a-high-id-is-not-skipped}
 use Rattle.summary.proofs.Ieee.{nan-as, is-a-number}
@@ -105,6 +105,7 @@ pub demand-3 : Demand3
 unfolding groupsIn
 demand-3 =
     record {
+      takes = accepted-setting;
       packs = λ W level mode k group vs o.
           let p = offered W level mode k group vs o in (
             length (stream level (settingOf W mode k group) vs),

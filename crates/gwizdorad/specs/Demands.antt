@@ -6,7 +6,7 @@
 -- W is a width, 32 or 64; `group` a group size, 32 or 128; vs a list of values, patterns of W bits; s any bytes; `level` is the writer's level and L the
 -- reader's.
 use mathlib.Core.Path.{_≡_}
-use mathlib.Core.Logic.{_↔_}
+use mathlib.Core.Logic.{_⊎_, _↔_}
 use mathlib.Core.Bool.{true, false}
 use mathlib.Core.List.{List, [], _∷_, _++_}
 use Prim.Native.Nat.{ℕ, suc, _+_, _-_, _*_, _/_, _^_, _≤_, _<_}
@@ -181,6 +181,9 @@ pub data ReadBack (W mode : ℕ) (k : ℤ) (group : ℕ) (vs s : List ℕ) (L : 
       → ReadBack W mode k group vs s L back
 
 pub record Demand3 : Type 0 where
+  -- pack takes no other list, level and setting than demand 3 speaks of
+  pub takes : (W level mode : ℕ) (k : ℤ) (group : ℕ) (vs out : List ℕ) (size : ℕ) → packAnswer W level mode k group vs (length out) ≡ Done size
+      → (length vs ≤ 1048576) × (knownLevel level ≡ true) × (mode ≤ 2) × ((group ≡ 32) ⊎ (group ≡ 128)) × (need (settingOf W mode k group) ≤ level)
   -- enough room is what the length call answers, which is never above the limit that document 01 states, with the group size "in place of 32"
   pub packs : (W level mode : ℕ) (k : ℤ) (group : ℕ) (vs : List ℕ) → Offered W level mode k group vs
       → (size : ℕ) × (lengthAnswer W level mode k group vs ≡ Done size)
@@ -228,7 +231,8 @@ pub record NotSkipped : Type 0 where
       × (needed ≤ L → (RightNeed W mode k group parts written needed → ⊥) → RefusedBy W L s (length vs) 8 0)
       × (needed ≤ L → RightNeed W mode k group parts written needed → someHigh (idsOf parts) ≡ true → RefusedBy W L s (length vs) 15 (firstHigh (idsOf parts)))
       × (needed ≤ L → RightNeed W mode k group parts written needed → someHigh (idsOf parts) ≡ false → checkAnswer L s ≡ Done (length vs))
-  -- so who adds a part with a high id and leaves both minors as pack wrote them gets 8 at each level that reaches the needed one: it is the setting's, below 12
+  -- so who adds a part with a high id and leaves both minors as pack wrote them gets 8 at each level that reaches the needed one, where that is
+  -- below 12, as it is in groups of 32. In groups of 128 it is 13 already, and the readers that reach it answer 15 (`packed`).
   pub unraised : (W level mode : ℕ) (k : ℤ) (group : ℕ) (vs out : List ℕ) (size : ℕ) → knownWidth W ≡ true → Below (2 ^ W) vs → packAnswer W level mode k group vs (length out) ≡ Done size
       → (parts : List Side) → WellFormedSides (size + 12 * length parts) parts → someHigh (idsOf parts) ≡ true
       → (L : ℕ) → knownLevel L ≡ true → need (settingOf W mode k group) ≤ L → need (settingOf W mode k group) < 12

@@ -177,7 +177,7 @@ pub long-checked : checkedAll theirLong ≡ replicate 5 (Refused 7 13) ++ (Done 
 unfolding size signedView folded bitsOf number digits bytesFor largest widthOf givenWidth groupLength groupNumber groupCodes within goodGroup highestLevel knownLevel knownWidth fractionBits widthNeed modeNeed sizeNeed need someHigh streamNeed losslessMode isZero allowedSetting allowedMode knownSize binFor groupSize limitOf groupsIn firstFault chunkAnswer first answer word headerOf kOf chunksIn tooMany needRight settingRight saidMode saidSize layoutRight every startAt startRight chunkTableRight partAt sideTableRight idsFrom idsIn countOf chunkOf chunkState spell headerRows openingRows needRow sideRows tableRows faultDetail faultRow rowsFrom chunkRow chunkRows contentRows checkRows checkAnswer checkedAll theirLong
 long-checked = refl
 
--- mode numbers at level 13: the six that are allowed, with the need of each, and others
+-- mode numbers at level 13, width 32: the six that are allowed, with the need of each
 pub withMode : ℕ → ℕ → List ℕ
 withMode needed mode = spell (1 ∷ 13 ∷ needed ∷ 32 ∷ mode ∷ 0 ∷ 0 ∷ 0 ∷ 48 ∷ 48 ∷ 0 ∷ 48 ∷ [])
 
@@ -185,10 +185,12 @@ pub modes-checked : map (checkAnswer 13) (withMode 8 0 ∷ withMode 9 1 ∷ with
 unfolding size signedView folded bitsOf number digits bytesFor largest widthOf givenWidth groupLength groupNumber groupCodes within goodGroup highestLevel knownLevel knownWidth fractionBits widthNeed modeNeed sizeNeed need someHigh streamNeed losslessMode isZero allowedSetting allowedMode knownSize binFor groupSize limitOf groupsIn firstFault chunkAnswer first answer word headerOf kOf chunksIn tooMany needRight settingRight saidMode saidSize layoutRight every startAt startRight chunkTableRight partAt sideTableRight idsFrom idsIn countOf chunkOf chunkState spell headerRows openingRows needRow sideRows tableRows faultDetail faultRow rowsFrom chunkRow chunkRows contentRows checkRows checkAnswer kOffset lastBin allowedK binOf largestU withMode
 modes-checked = refl
 
--- "another size is .. 8 when read", and so is a need of 12
-pub others-checked : map (λ (mode : ℕ). checkAnswer 13 (withMode 13 mode)) (3 ∷ 32 ∷ 128 ∷ 255 ∷ 259 ∷ 512 ∷ 0xFFFF_FF00 ∷ []) ++ (checkAnswer 13 (withMode 12 256) ∷ [])
-    ≡ replicate 8 (Refused 8 0)
-unfolding size signedView folded bitsOf number digits bytesFor largest widthOf givenWidth groupLength groupNumber groupCodes within goodGroup highestLevel knownLevel knownWidth fractionBits widthNeed modeNeed sizeNeed need someHigh streamNeed losslessMode isZero allowedSetting allowedMode knownSize binFor groupSize limitOf groupsIn firstFault chunkAnswer first answer word headerOf kOf chunksIn tooMany needRight settingRight saidMode saidSize layoutRight every startAt startRight chunkTableRight partAt sideTableRight idsFrom idsIn countOf chunkOf chunkState spell headerRows openingRows needRow sideRows tableRows faultDetail faultRow rowsFrom chunkRow chunkRows contentRows checkRows checkAnswer kOffset lastBin allowedK binOf largestU withMode
+-- "another size is .. 8 when read": another number, with any need, and so is 256 with a need of 12
+pub otherModes : ℕ → List Answer
+otherModes needed = map (λ (mode : ℕ). checkAnswer 13 (withMode needed mode)) (3 ∷ 32 ∷ 128 ∷ 255 ∷ 259 ∷ 384 ∷ 511 ∷ 512 ∷ 0xFFFF_FF00 ∷ [])
+
+pub others-checked : otherModes 8 ++ otherModes 9 ++ otherModes 11 ++ otherModes 13 ++ (checkAnswer 13 (withMode 12 256) ∷ []) ≡ replicate 37 (Refused 8 0)
+unfolding size signedView folded bitsOf number digits bytesFor largest widthOf givenWidth groupLength groupNumber groupCodes within goodGroup highestLevel knownLevel knownWidth fractionBits widthNeed modeNeed sizeNeed need someHigh streamNeed losslessMode isZero allowedSetting allowedMode knownSize binFor groupSize limitOf groupsIn firstFault chunkAnswer first answer word headerOf kOf chunksIn tooMany needRight settingRight saidMode saidSize layoutRight every startAt startRight chunkTableRight partAt sideTableRight idsFrom idsIn countOf chunkOf chunkState spell headerRows openingRows needRow sideRows tableRows faultDetail faultRow rowsFrom chunkRow chunkRows contentRows checkRows checkAnswer kOffset lastBin allowedK binOf largestU withMode otherModes
 others-checked = refl
 
 -- In groups of 128, 1,024 zeros are 8 data bytes; of 1,025 sevens in mode 2 the first of each chunk has a code of 4 bits, in a group of 1 + 64 bytes and in one of

@@ -3,6 +3,7 @@ pub mod Law
 pub mod Theorems
 pub mod Known
 pub mod KnownStream
+pub mod KnownGroups
 pub mod Readers
 pub mod Access
 pub mod Place

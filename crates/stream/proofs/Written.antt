@@ -36,7 +36,7 @@ use Rattle.stream.proofs.Law.Values.ThreeReaders.{done-pass, refused-st
 use Rattle.stream.proofs.Law.Written.Pieces.{end-most}
 use Rattle.stream.proofs.Law.Rows.Packing.{Passed, length-passed, rows-pass, room-enough, length-stream, length-done, pack-done}
 use Rattle.stream.proofs.Law.ReadBack.Readers.{same-need, rewritten, sided-sent, plain-sent, bytes-sent, header-words, header-read, setting-kept, layout-kept, chunk-table-kept, side-table-kept, ids-kept, chunks-kept, values-read, told-low, told-high, told-wrong, check-read, check-stop, unpack-read, unpack-stop, probe-read, probe-stop}
-use Rattle.stream.proofs.Law.Setting.Allowed.{level-small, group-size-is, size-known, made-allowed, storable}
+use Rattle.stream.proofs.Law.Setting.Allowed.{level-small, group-size-is, size-cases, size-known, mode-allowed, mode-small, made-allowed, storable}
 use Rattle.stream.proofs.Law.ReadBack.Values.{lossless-back, length-back, tolerance-back, special-back}
 
 -- Demand 1: a refused pack leaves its output as it was.
@@ -99,6 +99,13 @@ module _ (W level mode : ℕ) (k : ℤ) (size : ℕ) (vs out : List ℕ) (n : �
 
   pub accepted-list : knownWidth W ≡ true → Below (2 ^ W) vs → Packable W level mode k size vs
   accepted-list width below = accepted-later width below level (omega arith) (level-small level (three-passed .known))
+
+  -- what it takes: a list within the limit, a level that is known, a mode and a group size that there are, and a setting that the level allows
+  pub accepted-setting : (length vs ≤ 1048576) × (knownLevel level ≡ true) × (mode ≤ 2) × ((size ≡ 32) ⊎ (size ≡ 128)) × (need (settingOf W mode k size) ≤ level)
+  accepted-setting =
+      let p = three-passed in
+      let modes = mode-allowed W mode k size (p .allowed) in
+      (p .few, p .known, mode-small W mode k modes, size-cases size (size-known W mode k size (p .allowed)), p .needs)
 
   pub accepted-bytes : take n (packOut W level mode k size vs out) ≡ stream level (settingOf W mode k size) vs
   unfolding packOut after

@@ -1,5 +1,5 @@
 -- What a library above this one reads of a stream that a check has accepted: the values of one chunk, and one side part (document 02, R-5, R-11, R-14). These
--- are no operations of document 01 and give no refusal: they look at no level, no need and no id, because who calls them has made a check before. But every
+-- are no operations of document 01 and give no refusal: they look at no level and at no id, and at the need no more than a header's rules do, because who calls them has made a check before. But every
 -- definition is total, and says of any bytes what is answered. What it is where a check accepts is said in proofs/Access.antt.
 use Prim.Native.Nat.{ℕ, suc, _+_, _-_, _*_}
 use mathlib.Core.Bool.{Bool, false, _&&_, _||_, cond}
@@ -17,7 +17,7 @@ use Rattle.stream.specs.declared.answers.SidePart.{SidePart}
 use Rattle.stream.specs.declared.answers.SidePart.the-variants.{Part, NoPart}
 use Rattle.stream.specs.declared.header.Header.{Header}
 
--- the rules of refusals 5 and 8. Those of 1, 6 and 7, and of the tables, are the check's.
+-- the rules of refusal 5 and of the 8 before the tables. Those of 1, 6 and 7, of the tables, and of the late 8 are the check's.
 unfoldable pub headerRight : List ℕ → Bool
 headerRight s = leb 48 (length s) && settingRight (headerOf s) && layoutRight (length s) (headerOf s)
 

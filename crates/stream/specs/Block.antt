@@ -1,5 +1,5 @@
--- For the contracts of private functions: a group of 128 is four blocks of 32 codes behind one width byte (document 02, R-6), since 32 codes of w bits are
--- 4w whole bytes. A block is read behind some byte, as a group is behind its first; but what that byte holds counts for nothing, and w is said.
+-- For the contracts of private functions: a group of document 02, R-6, is here four blocks of 32 codes behind one width byte, the last of a list fewer and
+-- shorter ones, since 32 codes of w bits are 4w whole bytes. A block is read behind some byte, as a group is behind its first; but what that byte holds counts for nothing, and w is said.
 use Prim.Native.Nat.{ℕ, _+_, _/_, _^_}
 use mathlib.Core.Path.{_≡_}
 use mathlib.Core.Logic.{_⊎_}

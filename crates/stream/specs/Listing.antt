@@ -125,7 +125,7 @@ formatLine h =
     labelled formatWord (h .major) ++ labelled point (h .written)
     ++ labelled needsWord (h .major) ++ labelled point (h .needed) ++ newline
 
--- `width 32 mode 0 bound 0`: "after `bound` it prints k"
+-- `width 32 mode 0 bound 0`: "after `bound` it prints k". Document 02, R-6: "In the header and the listing 256 is added to the mode number for 128".
 unfoldable pub settingLine : Header → List ℕ
 settingLine h = labelled widthWord (h .width) ++ labelled modeWord (h .mode) ++ boundWord ++ signedDecimal (kOf h) ++ newline
 

@@ -1,4 +1,4 @@
--- Document 01, "Order", and document 02, R-4 and R-6: each operation's rows, its answer, and what its lent output holds afterwards. These are the promises.
+-- Document 01, "Order", and document 02, R-1, R-4 and R-6: each operation's rows, its answer, and what its lent output holds afterwards. These are the promises.
 use Prim.Native.Nat.{ℕ, _+_, _*_, _/_}
 use mathlib.Core.Bool.{true, false, _&&_, _||_, not}
 use mathlib.Core.List.{List, [], _∷_, _++_, map}
@@ -51,7 +51,7 @@ sideRows h ids = needRow h ids ∷ map idRow ids
 unfoldable pub tableRows : Header → List ℕ → List Row
 tableRows h s = row 9 (not (chunkTableRight h s && sideTableRight h s)) 0 ∷ sideRows h (idsIn h s)
 
--- Document 02, R-1, the detail of refusal 10: "chunk·32 + group, the first bad group"
+-- Document 02, R-1, the detail of refusal 10: "chunk·32 + group, the first bad group"; and R-6: "refusal 10's detail keeps its 32"
 unfoldable pub faultDetail : ℕ → ℕ → ℕ
 faultDetail chunk group = chunk * 32 + group
 

@@ -2,6 +2,7 @@
 use mathlib.Core.Path.{_≡_, refl}
 use Prim.Native.Nat.{ℕ}
 use mathlib.Core.List.{List, [], _∷_, _++_}
+use lib.ListN.{replicate}
 use lib.Ieee.{size}
 use Rattle.numbers.specs.Signed.{signedView}
 use Rattle.bins.specs.Tolerance.{kOffset, lastBin, allowedK, binOf, largestU}
@@ -48,6 +49,19 @@ noneText =
 pub none-listed : listing (spell (1 ∷ 9 ∷ 9 ∷ 32 ∷ 1 ∷ 4294967294 ∷ 0 ∷ 0 ∷ 48 ∷ 48 ∷ 0 ∷ 48 ∷ [])) ≡ noneText
 unfolding size signedView number digits bytesFor largest widthOf givenWidth groupLength groupNumber groupCodes within goodGroup highestLevel knownLevel knownWidth fractionBits widthNeed modeNeed sizeNeed need someHigh streamNeed losslessMode isZero allowedSetting allowedMode knownSize binFor groupSize limitOf groupsIn firstFault chunkAnswer first answer word headerOf kOf chunksIn tooMany needRight settingRight saidMode saidSize layoutRight every startAt startRight chunkTableRight partAt sideTableRight idsFrom idsIn joined countOf chunkOf chunkState spell headerRows openingRows needRow sideRows tableRows faultDetail faultRow rowsFrom chunkRow chunkRows contentRows checkRows checkAnswer mostInput digit decimalIn decimal minus signedDecimal newline point formatWord needsWord widthWord modeWord boundWord valuesWord chunksWord sidesWord chunkWord atWord bytesWord groupsWord refusedWord detailWord labelled formatLine settingLine countLine chunkLine streamLines refusedLine answerLines listing kOffset lastBin allowedK binOf largestU noneText
 none-listed = refl
+
+-- `format 1.13 needs 1.13`, `width 32 mode 256 bound 0`, `values 1024 chunks 1 sides 0`, `chunk 0 at 0 bytes 8 groups 8`
+pub longText : List ℕ
+longText =
+    (102 ∷ 111 ∷ 114 ∷ 109 ∷ 97 ∷ 116 ∷ 32 ∷ 49 ∷ 46 ∷ 49 ∷ 51 ∷ 32 ∷ 110 ∷ 101 ∷ 101 ∷ 100 ∷ 115 ∷ 32 ∷ 49 ∷ 46 ∷ 49 ∷ 51 ∷ 10 ∷ [])
+    ++ (119 ∷ 105 ∷ 100 ∷ 116 ∷ 104 ∷ 32 ∷ 51 ∷ 50 ∷ 32 ∷ 109 ∷ 111 ∷ 100 ∷ 101 ∷ 32 ∷ 50 ∷ 53 ∷ 54 ∷ 32 ∷ 98 ∷ 111 ∷ 117 ∷ 110 ∷ 100 ∷ 32 ∷ 48 ∷ 10 ∷ [])
+    ++ (118 ∷ 97 ∷ 108 ∷ 117 ∷ 101 ∷ 115 ∷ 32 ∷ 49 ∷ 48 ∷ 50 ∷ 52 ∷ 32 ∷ 99 ∷ 104 ∷ 117 ∷ 110 ∷ 107 ∷ 115 ∷ 32 ∷ 49 ∷ 32 ∷ 115 ∷ 105 ∷ 100 ∷ 101 ∷ 115 ∷ 32 ∷ 48 ∷ 10 ∷ [])
+    ++ (99 ∷ 104 ∷ 117 ∷ 110 ∷ 107 ∷ 32 ∷ 48 ∷ 32 ∷ 97 ∷ 116 ∷ 32 ∷ 48 ∷ 32 ∷ 98 ∷ 121 ∷ 116 ∷ 101 ∷ 115 ∷ 32 ∷ 56 ∷ 32 ∷ 103 ∷ 114 ∷ 111 ∷ 117 ∷ 112 ∷ 115 ∷ 32 ∷ 56 ∷ 10 ∷ [])
+
+-- 1,024 zeros in groups of 128: "In the header and the listing 256 is added to the mode number"
+pub long-listed : listing (spell (1 ∷ 13 ∷ 13 ∷ 32 ∷ 256 ∷ 0 ∷ 1024 ∷ 1 ∷ 48 ∷ 52 ∷ 0 ∷ 60 ∷ 0 ∷ []) ++ replicate 8 0) ≡ longText
+unfolding size signedView number digits bytesFor largest widthOf givenWidth groupLength groupNumber groupCodes within goodGroup highestLevel knownLevel knownWidth fractionBits widthNeed modeNeed sizeNeed need someHigh streamNeed losslessMode isZero allowedSetting allowedMode knownSize binFor groupSize limitOf groupsIn firstFault chunkAnswer first answer word headerOf kOf chunksIn tooMany needRight settingRight saidMode saidSize layoutRight every startAt startRight chunkTableRight partAt sideTableRight idsFrom idsIn joined countOf chunkOf chunkState spell headerRows openingRows needRow sideRows tableRows faultDetail faultRow rowsFrom chunkRow chunkRows contentRows checkRows checkAnswer mostInput digit decimalIn decimal minus signedDecimal newline point formatWord needsWord widthWord modeWord boundWord valuesWord chunksWord sidesWord chunkWord atWord bytesWord groupsWord refusedWord detailWord labelled formatLine settingLine countLine chunkLine streamLines refusedLine answerLines listing kOffset lastBin allowedK binOf largestU longText
+long-listed = refl
 
 -- `refused 7 detail 14`
 pub refusedText : List ℕ
