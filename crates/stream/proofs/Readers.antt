@@ -1,7 +1,7 @@
 -- What is demanded of reading, as theorems about the promises: `checkAnswer`, `unpackAnswer`, `unpackOut` and `probeAnswer32` (64) are what
 -- the operations are proved to answer and to leave in the output.
 use mathlib.Core.Path.{_≡_, sym, ap, _∙_}
-use mathlib.Core.Logic.{_↔_}
+use mathlib.Core.Logic.{_⊎_, _↔_}
 use mathlib.Core.Bool.{true}
 use mathlib.Core.List.{List, [], _∷_, _++_}
 use Prim.Native.Nat.{ℕ, _+_, _-_, _/_, _≤_, _<_}
@@ -9,7 +9,7 @@ use native.Mathlib.Omega.{arith}
 use lib.ListN.{length, drop, set, getD, replicate, List·getD-append}
 use lib.Seq.{getD-append-add, getD-drop}
 use Rattle.stream.specs.Setting.{knownLevel}
-use Rattle.stream.specs.Header.{headerOf}
+use Rattle.stream.specs.Header.{headerOf, kOf, saidMode, saidSize}
 use Rattle.stream.specs.Stream.{values, valueAt}
 use Rattle.stream.specs.Tables.{idsIn}
 use Rattle.stream.specs.Rows.{Row, first, Decides, numbersOf, answer, after}
@@ -23,10 +23,12 @@ use Rattle.stream.specs.declared.answers.Step.{Step}
 use Rattle.stream.specs.declared.answers.Step.the-variants.{Pass}
 use Rattle.stream.proofs.Law.Values.OtherChunks.{byte-apart, probe-same, value-same}
 use Rattle.stream.proofs.Law.Header.Layout.{laid-out}
+use Rattle.stream.proofs.Law.Setting.Allowed.{mode-allowed, mode-small, settled}
+use Rattle.stream.proofs.Law.Setting.Exponent.{said-cases}
 use Rattle.stream.proofs.Law.Rows.First.{decides, decided}
 use Rattle.stream.proofs.Law.Rows.Ids.{id-numbers, length-ids}
 use Rattle.stream.proofs.Law.Rows.Chunks.{chunk-numbers, own-number}
-use Rattle.stream.proofs.Law.Rows.Passed.{opening, tables, unpacking}
+use Rattle.stream.proofs.Law.Rows.Passed.{opening, tables, checking, unpacking}
 use Rattle.stream.proofs.Law.Values.ThreeReaders.{done-pass, refused-stop, refused-stop32, refused-stop64, shown-pass32, shown-pass64, unpack-check, counted, probe-passes, probe-value, higher-check, higher-unpack, higher-probe}
 
 -- ---- a refusal is the first row that is given: "given exactly when"
@@ -136,6 +138,15 @@ past-n-untouched W level s out n e i b =
 pub check-as-unpack : (level : ℕ) (s : List ℕ) (room : ℕ) → headerOf s .count ≤ room → checkAnswer level s ≡ unpackAnswer (headerOf s .width) level s room
 unfolding checkAnswer unpackAnswer
 check-as-unpack level s room l = ap (λ (a : Step). answer a (headerOf s .count)) (sym (unpack-check level s room l))
+
+-- What check accepts says one of six mode numbers: 0, 1 and 2, or 256 more.
+pub accepted-mode : (level : ℕ) (s : List ℕ) (n : ℕ) → checkAnswer level s ≡ Done n → (headerOf s .mode ≤ 2) ⊎ ((256 ≤ headerOf s .mode) × (headerOf s .mode ≤ 258))
+unfolding checkAnswer
+accepted-mode level s n e =
+    let h = headerOf s in
+    let right = checking level s (done-pass (first (checkRows level s)) (h .count) n e .0) .0 .setting in
+    let modes = mode-allowed (h .width) (saidMode (h .mode)) (kOf h) (saidSize (h .mode)) (settled h right .allowed) in
+    said-cases (h .mode) (mode-small (h .width) (saidMode (h .mode)) (kOf h) modes)
 
 -- Unpack accepts streams of its own width alone ..
 pub accepted-width : (W level : ℕ) (s out : List ℕ) (n : ℕ) → unpackAnswer W level s (length out) ≡ Done n → headerOf s .width ≡ W

@@ -137,3 +137,12 @@ module _ (t : Setting) (allowed : Allowed t) where
   pub allowed-back : allowedSetting W (saidMode (modeNumber t)) (signedView 32 (kBits t)) (saidSize (modeNumber t)) ≡ true
   unfolding allowedSetting
   allowed-back = rw (said-back .0, said-back .1, mode-back, allowed .size)
+
+-- the numbers that say an allowed mode
+pub said-cases : (number : ℕ) → saidMode number ≤ 2 → (number ≤ 2) ⊎ ((256 ≤ number) × (number ≤ 258))
+unfolding saidMode
+said-cases number small = go (le-or-lt 256 number)
+  where
+    go : (256 ≤ number) ⊎ (number < 256) → (number ≤ 2) ⊎ ((256 ≤ number) × (number ≤ 258))
+    go (inl large) = let left : number - 256 ≤ 2 = rw (le-ltb number 256 large) at small in inr (large, omega (arith, left))
+    go (inr few) = inl (rw (lt-ltb number 256 few) at small)
