@@ -541,14 +541,19 @@ fn put_values64(t: Setting, s: &[u8], n: usize, c: &mut [u64], out: &mut [u64])
     }
 }
 
-// The same in mode 2, behind the pattern `before`, which the code 0 repeats: nearly constant fields have many groups of no bits there.
+// The same in mode 2, behind the pattern `before`, which the code 0 repeats: nearly constant fields have many groups of no bits there. The sums of a full group of 32
+// are told by a literal too.
 fn put_summed32(before: u32, s: &[u8], n: usize, c: &mut [u32], out: &mut [u32])
     requires { ⌜ (n ≤ 128) × (givenWidth (now s) ≤ 32) × (groupLength n (now s) ≤ length (now s)) × (n ≤ length (now c)) × (n ≤ length (now out)) ⌝ }
     ensures { λ _. ⌜ now (out .exit) ≡ runningSums 32 before (groupCodes n (now (s .entry))) ++ drop n (now (out .entry)) ⌝ }
 {
     if 0 < s[0] {
         read_codes32(s, n, c);
-        differences::put_sums32(before, c, n, out);
+        if n == 32 {
+            differences::put_sums32(before, c, 32, out);
+        } else {
+            differences::put_sums32(before, c, n, out);
+        }
     } else {
         repeated32(before, n, out);
     }
@@ -560,7 +565,11 @@ fn put_summed64(before: u64, s: &[u8], n: usize, c: &mut [u64], out: &mut [u64])
 {
     if 0 < s[0] {
         read_codes64(s, n, c);
-        differences::put_sums64(before, c, n, out);
+        if n == 32 {
+            differences::put_sums64(before, c, 32, out);
+        } else {
+            differences::put_sums64(before, c, n, out);
+        }
     } else {
         repeated64(before, n, out);
     }
@@ -633,7 +642,7 @@ fn block_sum(t: Setting, before: u64, s: &[u8], w: usize, n: usize) -> u64
     differences::last_sum(t, before, &codes, n)
 }
 
-// The last pattern of a group's first n codes in mode 2, block by block.
+// The last pattern of a group's first n codes in mode 2, block by block. A full block is told by a literal, so that a compiler knows its loops' lengths.
 fn group_sum(t: Setting, before: u64, s: &[u8], n: usize) -> u64
     requires { ⌜ Allowed t × (before < 2 ^ t .width) × (n ≤ 128) × (givenWidth (now s) ≤ t .width) × (groupLength n (now s) ≤ length (now s)) ⌝ }
     ensures { λ r. ⌜ (r < 2 ^ t .width) × (r ≡ lastOf before (runningSums (t .width) before (groupCodes n (now (s .entry))))) ⌝ }
@@ -642,13 +651,15 @@ fn group_sum(t: Setting, before: u64, s: &[u8], n: usize) -> u64
     let mut last = before;
     let mut from: usize = 0;
     let mut left = n;
-    while 0 < left {
-        let count = group_read::block_count(left);
-        last = block_sum(t, last, &s[from..], w, count);
+    while 32 <= left {
+        last = block_sum(t, last, &s[from..], w, 32);
         from += 4 * w;
-        left -= count;
+        left -= 32;
     }
-    last
+    if left == 0 {
+        return last;
+    }
+    block_sum(t, last, &s[from..], w, left)
 }
 
 // The pattern that what follows the first n codes of a good group stands behind. It counts in mode 2 alone, so the others do not open the group.

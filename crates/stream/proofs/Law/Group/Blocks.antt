@@ -12,7 +12,7 @@ use borrow.Author.Tests.{eq-eqb, ne-eqb, eqb-true, eqb-false}
 use lib.Dec.{leb, eqb}
 use lib.ListN.{length, take, drop, replicate, length-take, length-drop, List·getD-append}
 use lib.Pow.{pow-pos, pow-mono, shr-shr}
-use lib.Seq.{take-all, drop-drop, getD-append-add}
+use lib.Seq.{take-at, take-all, drop-drop, getD-append-add}
 use Rattle.blocks.specs.Bytes.{Below, number, digits}
 use Rattle.numbers.specs.Difference.{runningSums, lastOf}
 use Rattle.numbers.proofs.Theorems.{an-append-carries-on, sums-of-an-append}
@@ -22,7 +22,7 @@ use Rattle.blocks.proofs.Law.Digits.{byte, everywhere, below-append, below-drop
 use Rattle.blocks.proofs.Law.Truth.{le-or-lt}
 use Rattle.blocks.proofs.Law.Words.{pow-pow}
 use Rattle.stream.proofs.Law.Group.Reading.{codes-from, no-bits}
-use Rattle.stream.proofs.Law.Group.RoundTrip.{width-holds, width-least}
+use Rattle.stream.proofs.Law.Group.RoundTrip.{width-holds, width-least, length-codes}
 
 -- ---- the codes of a block
 
@@ -188,3 +188,11 @@ carry-append W before after xs ys is =
     ap (lastOf before) (sums-of-an-append W before xs ys)
     ∙ an-append-carries-on before (runningSums W before xs) (runningSums W (lastOf before (runningSums W before xs)) ys)
     ∙ ap (λ (b : ℕ). lastOf b (runningSums W b ys)) (sym is)
+
+-- the sums of the codes that were read to the front of a scratch
+pub sums-of-read : (W before n k : ℕ) (s c out : List ℕ) {codes : List ℕ} → k ≡ n → codes ≡ groupCodes n s ++ drop n c
+    → runningSums W before (take k codes) ++ drop k out ≡ runningSums W before (groupCodes n s) ++ drop n out
+sums-of-read W before n k s c out is read =
+    ap (λ (cs : List ℕ). runningSums W before (take k cs) ++ drop k out) read
+    ∙ ap (λ (j : ℕ). runningSums W before (take j (groupCodes n s ++ drop n c)) ++ drop j out) is
+    ∙ ap (λ (cs : List ℕ). runningSums W before cs ++ drop n out) (take-at (groupCodes n s) (drop n c) n (length-codes n s))

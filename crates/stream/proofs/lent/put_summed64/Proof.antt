@@ -1,17 +1,16 @@
 -- `stream::lent::put_summed64` meets its contract: the sums of its codes, and for a group of no bits the pattern before.
-use mathlib.Core.Path.{_≡_, sym, ap, _∙_}
+use mathlib.Core.Path.{_≡_, refl, sym, ap, _∙_}
 use mathlib.Core.List.{List, _++_}
 use Prim.Native.Nat.{ℕ}
 use native.Mathlib.Omega.{arith}
 use lib.Dec.{lit<}
-use lib.ListN.{take, drop, getD}
-use lib.Seq.{take-at}
+use lib.ListN.{drop, getD}
 use borrow.Author.Needs.{needs}
 use Rattle.numbers.specs.Difference.{runningSums}
 use Rattle.numbers.proofs.Theorems.{sums-of-zeros}
-use Rattle.stream.specs.Group.{givenWidth, groupLength, groupCodes}
+use Rattle.stream.specs.Group.{givenWidth, groupLength}
 use Rattle.stream.proofs.Law.Group.Reading.{no-codes}
-use Rattle.stream.proofs.Law.Group.RoundTrip.{length-codes}
+use Rattle.stream.proofs.Law.Group.Blocks.{sums-of-read}
 use Rattle.stream.proofs.lent.put_summed64.Statement.{statement}
 use Rattle.stream.proofs.lent.put_summed64.Tie as tie
 
@@ -28,6 +27,9 @@ read-codes64-requires c κs =
 put-sums64-requires : tie.Need-put-sums64-requires
 put-sums64-requires c κs = search needs
 
+put-sums64-requires-2 : tie.Need-put-sums64-requires-2
+put-sums64-requires-2 c κs = search needs
+
 repeated64-requires : tie.Need-repeated64-requires
 repeated64-requires c κs = search needs
 
@@ -39,17 +41,30 @@ same-length-2 c = search needs
 
 returns : tie.Need-returns
 returns c =
-    let a = c .before .before .before .before .before .before .before .before .before .before .before .before .before .before .args in
-    let cs = groupCodes (a .n) (a .s .now) in
-    c .before .before .put-sums64 .ensures
-    ∙ ap (λ (l : List ℕ). runningSums 64 (a .before) l ++ drop (a .n) (a .out .now))
-    (ap (take (a .n)) (c .before .before .before .before .before .before .before .read-codes64 .ensures) ∙ take-at cs (drop (a .n) (a .c .now)) (a .n) (length-codes (a .n) (a .s .now)))
+    let put = c .before .before in
+    let full = put .before .before .before in
+    let read = full .before .before .before in
+    let a = read .before .before .before .before .before .before .before .args in
+    put .put-sums64 .ensures ∙ sums-of-read 64 (a .before) (a .n) 32 (a .s .now) (a .c .now) (a .out .now) (sym (full .if2 .taken)) (read .read-codes64 .ensures)
 
 same-length-3 : tie.Need-same-length-3
 same-length-3 c = search needs
 
+same-length-4 : tie.Need-same-length-4
+same-length-4 c = search needs
+
 returns-2 : tie.Need-returns-2
 returns-2 c =
+    let put = c .before .before in
+    let read = put .before .before .before .before .before .before in
+    let a = read .before .before .before .before .before .before .before .args in
+    put .put-sums642 .ensures ∙ sums-of-read 64 (a .before) (a .n) (a .n) (a .s .now) (a .c .now) (a .out .now) refl (read .read-codes64 .ensures)
+
+same-length-5 : tie.Need-same-length-5
+same-length-5 c = search needs
+
+returns-3 : tie.Need-returns-3
+returns-3 c =
     let s = c .before .before .before .before .before .before .before .before .before in
     let a = s .args in
     let zero : getD (a .s .now) 0 0 ≡ 0 = omega (arith, c .before .before .before .before .if1 .left) in
@@ -64,9 +79,13 @@ put-summed64-spec =
     shared-slice-read-if1
     read-codes64-requires
     put-sums64-requires
+    put-sums64-requires-2
     repeated64-requires
     same-length
     same-length-2
     returns
     same-length-3
-    returns-2)
+    same-length-4
+    returns-2
+    same-length-5
+    returns-3)
