@@ -16,8 +16,9 @@
  * WHAT IS LENT
  *
  * - A lent part is a pointer and a count of elements. The library reads or writes there and nowhere else,
- *   during the call and not after it. It allocates nothing (it uses under 13 kB of the stack), keeps nothing
- *   between calls and has no state, so any number of threads may call it at once, each with outputs of its own.
+ *   during the call and not after it. It allocates nothing, keeps nothing between calls and has no state, so
+ *   any number of threads may call it at once, each with outputs of its own. (Of the stack it takes under 13 kB on
+ *   x86-64: that is measured, and not proved.)
  * - An output must not overlap any other part lent to the same call.
  * - During the call nobody else writes to a lent part, or reads an output.
  * - A part of no elements (count 0) is never read or written, and its pointer may be NULL. No other pointer
