@@ -1,4 +1,4 @@
--- The 64 rows of SLEEK's Table II and the limits of k, each as one computed statement over its table: a row that is wrong would be left in
+-- The 64 rows of SLEEK's Table II, the halves of R-7 and the limits of k, each as one computed statement over its table: a row that is wrong would be left in
 -- the list, and the error would name it. The values that document 01 marks * stand in `numbers`, beside the lossless ones.
 use mathlib.Core.Path.{_≡_, refl}
 use mathlib.Core.Bool.{Bool, _&&_, cond}
@@ -7,26 +7,26 @@ use Prim.Native.Nat.{ℕ, _+_}
 use lib.Dec.{eqb}
 use lib.IntN.{ℤ, negsuc}
 use lib.Ieee as Ieee
-use Rattle.bins.specs.Tolerance.{kOffset, lastBin, binOf, sign, ordinal, significand, magnitude, ordinalOf, threshold, thresholdOrdinal, near, magnitudeCode, toleranceCode, restoredOrdinal, toleranceRestored}
+use Rattle.bins.specs.Tolerance.{kOffset, lastBin, binOf, sign, ordinal, significand, magnitude, ordinalOf, threshold, thresholdOrdinal, upper, halfway, nearest, near, magnitudeCode, toleranceCode, restoredOrdinal, toleranceRestored}
 
 -- the rows for which a test fails
 unfoldable pub wrong : {A : Type 0} → (A → Bool) → List A → List A
 wrong right [] = []
 wrong right (x ∷ xs) = cond (right x) (wrong right xs) (x ∷ wrong right xs)
 
--- ---- tolerance: width, fraction bits, k, pattern, code, pattern restored
+-- ---- tolerance: width, fraction bits, rule for halves, k, pattern, code, pattern restored
 
-unfoldable pub toleranceRight : ℕ × ℕ × ℤ × ℕ × ℕ × ℕ → Bool
-unfolding kOffset binOf sign ordinal significand magnitude ordinalOf threshold thresholdOrdinal near magnitudeCode toleranceCode restoredOrdinal toleranceRestored Ieee.size
+unfoldable pub toleranceRight : ℕ × ℕ × ℕ × ℤ × ℕ × ℕ × ℕ → Bool
+unfolding kOffset binOf sign ordinal significand magnitude ordinalOf threshold thresholdOrdinal upper halfway nearest near magnitudeCode toleranceCode restoredOrdinal toleranceRestored Ieee.size
 toleranceRight r =
-    let j = binOf (r .0) (r .1) (r .2) in
-    eqb (toleranceCode (r .0) (r .1) j (r .3)) (r .4) && eqb (toleranceRestored (r .0) (r .1) j (r .4)) (r .5)
+    let j = binOf (r .0) (r .1) (r .3) in
+    eqb (toleranceCode (r .0) (r .1) (r .2) j (r .4)) (r .5) && eqb (toleranceRestored (r .0) (r .1) j (r .5)) (r .6)
 
 -- Document 000, Table II: a format of 7 bits with 2 of fraction, at the bound 0.25. Each row has the bit pattern, the encoded value and
 -- the pattern of the decoded value.
 sleekRight : ℕ × ℕ × ℕ → Bool
 unfolding toleranceRight
-sleekRight r = toleranceRight (7, 2, negsuc 1, r .0, r .1, r .2)
+sleekRight r = toleranceRight (7, 2, 0, negsuc 1, r .0, r .1, r .2)
 
 sleekRows : List (ℕ × ℕ × ℕ)
 sleekRows =

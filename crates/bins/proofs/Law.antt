@@ -1,6 +1,7 @@
 -- Theorems about the definitions of specs/, each once over the width W and the fraction bits m.
 pub mod Number
 pub mod Machine
+pub mod Nearest
 pub mod Tolerance
 pub mod Working
 pub mod Straight

@@ -3,7 +3,7 @@
 -- is 2 ^ j with j = k + 150 (k + 1075), a natural number for every allowed k. The definitions use j, and k meets them at `binOf`.
 use Prim.Native.Nat.{ℕ, suc, _+_, _-_, _*_, _/_, _%_, _^_}
 use mathlib.Core.Bool.{Bool, _&&_, cond}
-use lib.Dec.{ltb, eqb}
+use lib.Dec.{leb, ltb, eqb}
 use lib.IntN.{ℤ, pos, negℤ, natAbs, subℕ, _+ℤ_}
 use lib.Signed.{leZ}
 use lib.Ieee.{size}
@@ -58,17 +58,32 @@ threshold m j = 2 ^ j * 2 ^ m
 unfoldable pub thresholdOrdinal : ℕ → ℕ → ℕ
 thresholdOrdinal m j = suc j * 2 ^ m
 
--- "|v|/E, exactly, rounded to the nearest whole number, a half going away from zero": the whole part of x / 2^j + 1/2
-unfoldable pub near : ℕ → ℕ → ℕ
-near j x = (2 * x + 2 ^ j) / 2 ^ suc j
+-- The whole number nearest to a / b. It is the whole part of a / b + 1/2; where a / b lies halfway between two whole numbers, that is the upper one, away
+-- from zero.
+unfoldable pub upper : ℕ → ℕ → ℕ
+upper a b = (2 * a + b) / (2 * b)
+
+unfoldable pub halfway : ℕ → ℕ → Bool
+halfway a b = eqb ((2 * a + b) % (2 * b)) 0
+
+-- Which one a half goes to is the rule `halves`: 0 is "away from zero" (document 01), and 1 "ties to even" (document 02, R-7), to the even one of the two.
+unfoldable pub knownHalves : ℕ → Bool
+knownHalves halves = leb halves 1
+
+unfoldable pub nearest : ℕ → ℕ → ℕ → ℕ
+nearest halves a b = cond (eqb halves 1 && halfway a b) (upper a b - upper a b % 2) (upper a b)
+
+-- "|v|/E, exactly, rounded to the nearest whole number", by a rule
+unfoldable pub near : ℕ → ℕ → ℕ → ℕ
+near halves j x = nearest halves x (2 ^ j)
 
 -- "Magnitude of v below T: the magnitude code u is |v|/E .. All others: u = ordinal of v - ordinal of T + 2^m."
-unfoldable pub magnitudeCode : ℕ → ℕ → ℕ → ℕ
-magnitudeCode m j o = cond (ltb (magnitude m o) (threshold m j)) (near j (magnitude m o)) (o - thresholdOrdinal m j + 2 ^ m)
+unfoldable pub magnitudeCode : ℕ → ℕ → ℕ → ℕ → ℕ
+magnitudeCode m halves j o = cond (ltb (magnitude m o) (threshold m j)) (near halves j (magnitude m o)) (o - thresholdOrdinal m j + 2 ^ m)
 
 -- "The code is 2u + sign."
-unfoldable pub toleranceCode : ℕ → ℕ → ℕ → ℕ → ℕ
-toleranceCode W m j p = 2 * magnitudeCode m j (ordinal W p) + sign W p
+unfoldable pub toleranceCode : ℕ → ℕ → ℕ → ℕ → ℕ → ℕ
+toleranceCode W m halves j p = 2 * magnitudeCode m halves j (ordinal W p) + sign W p
 
 -- "Restored: u·E if u < 2^m, else the ordinal u - 2^m + ordinal of T"
 unfoldable pub restoredOrdinal : ℕ → ℕ → ℕ → ℕ

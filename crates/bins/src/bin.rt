@@ -53,23 +53,24 @@ pub fn clipped64(bin: u32) -> u64
     if bin < 2045 { bin as u64 } else { 2045 }
 }
 
-// The tolerance code of a binary32 pattern at a bin. The test is of the bin alone, so that a loop over values can do it once.
-pub fn code_at_bin32(bin: u32, p: u32) -> u32
-    ensures { λ c. ⌜ c ≡ toleranceCode 32 23 (min bin (lastBin 32 23)) p ⌝ }
+// The tolerance code of a binary32 pattern at a bin, by the rule for halves: 1 is to even, and any other number away from zero. The test is of the bin alone,
+// so that a loop over values can do it once.
+pub fn code_at_bin32(halves: u32, bin: u32, p: u32) -> u32
+    ensures { λ c. ⌜ c ≡ toleranceCode 32 23 halves (min bin (lastBin 32 23)) p ⌝ }
 {
     if bin < float::FIRST32 {
-        return whole::code32(bin, p);
+        return whole::code32(halves, bin, p);
     }
-    float::code32(clipped32(bin), p)
+    float::code32(halves, clipped32(bin), p)
 }
 
-pub fn code_at_bin64(bin: u32, p: u64) -> u64
-    ensures { λ c. ⌜ c ≡ toleranceCode 64 52 (min bin (lastBin 64 52)) p ⌝ }
+pub fn code_at_bin64(halves: u32, bin: u32, p: u64) -> u64
+    ensures { λ c. ⌜ c ≡ toleranceCode 64 52 halves (min bin (lastBin 64 52)) p ⌝ }
 {
     if bin < float::FIRST64 {
-        return whole::code64(bin as u64, p);
+        return whole::code64(halves, bin as u64, p);
     }
-    float::code64(clipped64(bin), p)
+    float::code64(halves, clipped64(bin), p)
 }
 
 // The ordinal that u restores at a bin.

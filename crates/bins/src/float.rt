@@ -8,6 +8,7 @@ ghost use mathlib.Core.Path.{_≡_};
 ghost use Prim.Native.Nat.{_*_, _^_, _≤_, _<_};
 ghost use lib.Dec.{ltb};
 ghost use Rattle.bins.specs.Tolerance.{lastBin, near, magnitude, ordinalOf, thresholdOrdinal, restoredOrdinal, toleranceCode};
+use crate::halves;
 
 // The first bin whose half is a normal float.
 pub(crate) const FIRST32: u32 = 24;
@@ -16,26 +17,27 @@ pub(crate) const FIRST64: u32 = 53;
 
 // The bins nearest to an ordinal below that of T. q = |v| / E is exact, or so small that it is nearest to 0. Its sum r with 2^23 - 1/2 is
 // one of two neighbours, whichever way the machine rounds. t, what r has grown by, is exact, so that q < t tells which one it is.
-fn near32(j: u32, o: u32) -> u32
+// q = t is the half. Where that is to go down, q is compared with the float behind t: no other q lies between the two.
+fn near32(halves: u32, j: u32, o: u32) -> u32
     requires { ⌜ (o < thresholdOrdinal 23 j) × (24 ≤ j) × (j ≤ lastBin 32 23) ⌝ }
-    ensures { λ u. ⌜ u ≡ near j (magnitude 23 o) ⌝ }
+    ensures { λ u. ⌜ u ≡ near halves j (magnitude 23 o) ⌝ }
 {
     let q = f32::from_bits(o) * f32::from_bits((276 - j) * 0x0080_0000);
     let r = q + 8388607.5;
     let t = r - 8388607.5;
     let next = f32::to_bits(r) - 0x4AFF_FFFF;
-    if q < t { next - 1 } else { next }
+    if q < f32::from_bits(f32::to_bits(t) + halves::odd32(halves, next)) { next - 1 } else { next }
 }
 
-fn near64(j: u64, o: u64) -> u64
+fn near64(halves: u32, j: u64, o: u64) -> u64
     requires { ⌜ (o < thresholdOrdinal 52 j) × (53 ≤ j) × (j ≤ lastBin 64 52) ⌝ }
-    ensures { λ u. ⌜ u ≡ near j (magnitude 52 o) ⌝ }
+    ensures { λ u. ⌜ u ≡ near halves j (magnitude 52 o) ⌝ }
 {
     let q = f64::from_bits(o) * f64::from_bits((2097 - j) * 0x0010_0000_0000_0000);
     let r = q + 4503599627370495.5;
     let t = r - 4503599627370495.5;
     let next = f64::to_bits(r) - 0x432F_FFFF_FFFF_FFFF;
-    if q < t { next - 1 } else { next }
+    if q < f64::from_bits(f64::to_bits(t) + halves::odd64(halves, next)) { next - 1 } else { next }
 }
 
 // x where o is not below t, and else nothing.
@@ -46,27 +48,27 @@ fn from32(o: u32, t: u32, x: u32) -> u32
 }
 
 // The code of a pattern, both sides of T at once: from T on `far` is the ordinal, and nothing is left to round.
-pub(crate) fn code32(j: u32, p: u32) -> u32
+pub(crate) fn code32(halves: u32, j: u32, p: u32) -> u32
     requires { ⌜ (24 ≤ j) × (j ≤ lastBin 32 23) ⌝ }
-    ensures { λ c. ⌜ c ≡ toleranceCode 32 23 j p ⌝ }
+    ensures { λ c. ⌜ c ≡ toleranceCode 32 23 halves j p ⌝ }
 {
     let o = p % 0x8000_0000;
     let t = (j + 1) * 0x0080_0000;
     let far = from32(o, t, o);
     let place = from32(o, t, j * 0x0080_0000);
-    2 * (near32(j, o - far) + (far - place)) + p / 0x8000_0000
+    2 * (near32(halves, j, o - far) + (far - place)) + p / 0x8000_0000
 }
 
 // At width 64 plain x86-64 compares no lanes: `all` has every bit from T on and none below.
-pub(crate) fn code64(j: u64, p: u64) -> u64
+pub(crate) fn code64(halves: u32, j: u64, p: u64) -> u64
     requires { ⌜ (53 ≤ j) × (j ≤ lastBin 64 52) ⌝ }
-    ensures { λ c. ⌜ c ≡ toleranceCode 64 52 j p ⌝ }
+    ensures { λ c. ⌜ c ≡ toleranceCode 64 52 halves j p ⌝ }
 {
     let o = p % 0x8000_0000_0000_0000;
     let all = (o / 0x0010_0000_0000_0000 + (2047 - j)) / 2048 * 0xFFFF_FFFF_FFFF_FFFF;
     let far = o & all;
     let place = (j * 0x0010_0000_0000_0000) & all;
-    2 * (near64(j, o - far) + (far - place)) + p / 0x8000_0000_0000_0000
+    2 * (near64(halves, j, o - far) + (far - place)) + p / 0x8000_0000_0000_0000
 }
 
 // u bins as an ordinal, by one product, which is exact: E is a normal float and u has fewer digits than a float keeps.

@@ -2,4 +2,5 @@
 // code, and it is their callers who refuse.
 pub mod bin;
 mod float;
+mod halves;
 mod whole;

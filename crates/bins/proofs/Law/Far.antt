@@ -4,7 +4,7 @@ use mathlib.Core.Path.{_≡_, sym, ap, _∙_, subst}
 use mathlib.Core.Logic.{_⊎_, inl, inr}
 use mathlib.Core.Bool.{cond}
 use Prim.Native.Nat.{ℕ, suc, _+_, _-_, _*_, _/_, _^_, _≤_, _<_}
-use native.Mathlib.Nat.{zero-mul, one-mul, mod-eq-of-lt, div-eq-of-lt, div-eq-of-lt-le, div-lt-iff-lt-mul, le-div-iff-mul-le, add-mul, two-pow-succ}
+use native.Mathlib.Nat.{zero-mul, one-mul, mod-eq-of-lt, div-eq-of-lt, div-eq-of-lt-le, div-lt-iff-lt-mul, le-div-iff-mul-le, add-mul}
 use native.Mathlib.Omega.{arith}
 use borrow.Author.Tests.{lt-ltb, le-ltb}
 use lib.Bits.{bitAnd, and-zero-r, and-mask}
@@ -13,6 +13,7 @@ use lib.Pow.{pow-pos}
 use lib.Ieee.{size}
 use Rattle.bins.specs.Tolerance.{lastBin, sign, ordinal, magnitude, near, ordinalOf, thresholdOrdinal, restoredOrdinal, toleranceCode, largestU}
 use Rattle.bins.proofs.Law.Number.{le-or-lt}
+use Rattle.bins.proofs.Law.Nearest.{nearest-none}
 use Rattle.bins.proofs.Law.Tolerance.{magnitude-plain, restored-bins, restored-above, restored-small, next-bin, threshold-room, code-under, halves}
 use Rattle.bins.proofs.Law.Working.{by-taken, by-left, code-bins, code-rest}
 
@@ -79,26 +80,26 @@ module _ (W m : ℕ) (room : m + 3 ≤ W) (j : ℕ) (allowed : j ≤ lastBin W m
         go (inl h) = omega (arith, h .2)
         go (inr h) = omega (arith, h .0, h .1, h .2, next-bin W m room j allowed)
 
-    module _ (u : ℕ) (e : u ≡ near j (magnitude m (ordinal W p - far))) where
-      nothing : near j (magnitude m 0) ≡ 0
+    module _ (rule u : ℕ) (e : u ≡ near rule j (magnitude m (ordinal W p - far))) where
+      nothing : near rule j (magnitude m 0) ≡ 0
       unfolding near
-      nothing = ap (near j) (magnitude-plain m 0 (pow-pos m)) ∙ div-eq-of-lt (omega (arith, two-pow-succ j, pow-pos j))
+      nothing = ap (near rule j) (magnitude-plain m 0 (pow-pos m)) ∙ nearest-none rule 0 (2 ^ j) (pow-pos j) (pow-pos j)
 
-      pub far-code : 2 * (u + (far - place)) + sign W p ≡ toleranceCode W m j p
+      pub far-code : 2 * (u + (far - place)) + sign W p ≡ toleranceCode W m rule j p
       far-code = go s
         where
-          go : Split (ordinal W p) (thresholdOrdinal m j) far place (j * 2 ^ m) → 2 * (u + (far - place)) + sign W p ≡ toleranceCode W m j p
+          go : Split (ordinal W p) (thresholdOrdinal m j) far place (j * 2 ^ m) → 2 * (u + (far - place)) + sign W p ≡ toleranceCode W m rule j p
           go (inl h) =
-              ap (λ (n : ℕ). 2 * n + sign W p) ((let q : u + (far - place) ≡ u = omega (arith, h .1, h .2) in q) ∙ e ∙ ap (λ (n : ℕ). near j (magnitude m n)) (let q : ordinal W p - far ≡ ordinal W p = omega (arith, h .1) in q))
-              ∙ code-bins W m room j allowed p (h .0)
+              ap (λ (n : ℕ). 2 * n + sign W p) ((let q : u + (far - place) ≡ u = omega (arith, h .1, h .2) in q) ∙ e ∙ ap (λ (n : ℕ). near rule j (magnitude m n)) (let q : ordinal W p - far ≡ ordinal W p = omega (arith, h .1) in q))
+              ∙ code-bins W m room j allowed rule p (h .0)
           go (inr h) =
               ap (λ (n : ℕ). 2 * n + sign W p)
-              (ap (λ (n : ℕ). n + (far - place)) (e ∙ ap (λ (n : ℕ). near j (magnitude m n)) (let q : ordinal W p - far ≡ 0 = omega (arith, h .1) in q) ∙ nothing)
+              (ap (λ (n : ℕ). n + (far - place)) (e ∙ ap (λ (n : ℕ). near rule j (magnitude m n)) (let q : ordinal W p - far ≡ 0 = omega (arith, h .1) in q) ∙ nothing)
               ∙ (let q : 0 + (far - place) ≡ ordinal W p - j * 2 ^ m = omega (arith, h .1, h .2) in q))
-              ∙ code-rest W m room j allowed p (h .0)
+              ∙ code-rest W m room j allowed rule p (h .0)
 
       pub far-code-fits : p < 2 ^ W → 2 * (u + (far - place)) + sign W p < 2 ^ W
-      far-code-fits l = subst (λ (n : ℕ). n < 2 ^ W) (sym far-code) (code-under W m room j allowed p l)
+      far-code-fits l = subst (λ (n : ℕ). n < 2 ^ W) (sym far-code) (code-under W m room j allowed rule p l)
 
       pub far-sum-fits : p < 2 ^ W → u + (far - place) < 2 ^ W
       far-sum-fits l = omega (arith, far-code-fits l)

@@ -1,12 +1,13 @@
 -- The magnitude of specs/Tolerance.antt is the toolchain's own account of IEEE 754 (lib.Ieee), once over its formats:
 -- a reader need not believe ours. In that account a format f has prec f - 1 fraction bits, and its smallest number is 2 ^ -low f.
 use mathlib.Core.Path.{_≡_, refl, sym, ap, subst}
-use mathlib.Core.Bool.{Bool, cond}
+use mathlib.Core.Bool.{Bool, false, cond}
 use Prim.Native.Nat.{ℕ, zero, suc, _+_, _-_, _*_, _/_, _%_, _^_, _<_}
-use native.Mathlib.Nat.{mod-mod-of-dvd, dvd-mul-right}
+use native.Mathlib.Nat.{mod-mod-of-dvd, dvd-mul-right, mod-eq-of-lt, div-lt-iff-lt-mul, suc-mul, mul-comm}
 use native.Mathlib.Omega.{arith}
-use borrow.Author.Tests.{eq-eqb, ne-eqb}
+use borrow.Author.Tests.{eq-eqb, ne-eqb, lt-leb}
 use lib.Dec.{leb, eqb}
+use lib.Pow.{pow-pos}
 use lib.Ieee.{nan, inf, Format, prec, low, hid, ones, top, odd, ofFields, ofBits}
 use lib.Ieee.Exact.{HasValue, odd-sign}
 use Rattle.bins.specs.Tolerance.{significand, magnitude}
@@ -43,6 +44,14 @@ module _ (f : Format) where
   finite-value b h =
       subst (λ (t : ℕ). HasValue (ofFields f (leb (top f) b) (b % top f / hid f) t) (leb (top f) b) (magnitude (prec f - 1) (b % top f)) (2 ^ low f)) (same-digits b)
       (fields-value (leb (top f) b) (b % top f / hid f) (b % top f) refl h)
+
+  -- an ordinal below that of infinity
+  pub ordinal-value : (o : ℕ) → o < ones f * hid f → HasValue (ofBits f o) false (magnitude (prec f - 1) o) (2 ^ low f)
+  ordinal-value o h =
+      let in-top : o < top f = omega (arith, suc-mul (ones f) (hid f), mul-comm (suc (ones f)) (hid f)) in
+      subst (λ (s : Bool). HasValue (ofBits f o) s (magnitude (prec f - 1) o) (2 ^ low f)) (lt-leb (top f) o in-top)
+      (subst (λ (n : ℕ). HasValue (ofBits f o) (leb (top f) o) (magnitude (prec f - 1) n) (2 ^ low f)) (mod-eq-of-lt in-top)
+      (finite-value o (subst (λ (n : ℕ). n / hid f < ones f) (sym (mod-eq-of-lt in-top)) (div-lt-iff-lt-mul (pow-pos (prec f - 1)) .1 h))))
 
   special-fields : (s : Bool) (x t : ℕ) → x ≡ ones f → ofFields f s x t ≡ cond (eqb t 0) (inf s) nan
   unfolding ofFields

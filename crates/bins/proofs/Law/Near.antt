@@ -1,5 +1,5 @@
 -- |v| / E as a product of floats, once over the formats: exact, or so small that it rounds to no bin.
-use mathlib.Core.Path.{_≡_, sym, ap, _∙_, subst}
+use mathlib.Core.Path.{_≡_, refl, sym, ap, _∙_, subst}
 use mathlib.Core.Logic.{_⊎_, inl, inr}
 use mathlib.Core.Bool.{Bool, true, false, not}
 use Prim.Native.Nat.{ℕ, suc, _+_, _-_, _*_, _/_, _%_, _^_, _≤_, _<_, compare}
@@ -11,15 +11,16 @@ use lib.Ieee.{Float, Format, binary32, binary64, prec, emax, low, hid, ones, top
 use lib.Ieee.Bits.{is-false, nanBits-is}
 use lib.Ieee.Digits.{size-le}
 use lib.Ieee.Exact.{HasValue, round-exact}
-use lib.Ieee.Fits.{nearest-le}
+use lib.Ieee.Fits.{nearest-le, mul-fits}
 use lib.Ieee.Nearest.{closest}
 use lib.Ieee.Scale.{round-same, grid, round-val}
-use Rattle.bins.specs.Tolerance.{magnitude, significand, thresholdOrdinal, threshold, near}
+use Rattle.bins.specs.Tolerance.{magnitude, significand, thresholdOrdinal, threshold, nearest, near}
 use Rattle.bins.proofs.Law.Number.{le-or-lt}
+use Rattle.bins.proofs.Law.Nearest.{over, over-small, nearest-none}
 use Rattle.bins.proofs.Law.Float.{led, no-nan, mul-values, bin-value, bin-no-nan}
 use Rattle.bins.proofs.Law.Round.{Settled, settled}
 use Rattle.bins.proofs.Law.Tolerance.{below-threshold, significand-plain, significand-led}
-use Rattle.bins.proofs.Law.Ieee.{finite-value}
+use Rattle.bins.proofs.Law.Ieee.{ordinal-value}
 
 -- What a factor's value has to say: it is a / c, below 2 ^ m, and rounds to the same bins as x / 2 ^ j does.
 pub record Scaled (f : Format) (j x : ℕ) (q : Float) : Type 0 where
@@ -28,7 +29,7 @@ pub record Scaled (f : Format) (j x : ℕ) (q : Float) : Type 0 where
   pub some : 0 < c
   pub value : HasValue q false a c
   pub under : a < 2 ^ (prec f - 1) * c
-  pub bins : (2 * a + c) / (2 * c) ≡ near j x
+  pub bins : (rule : ℕ) → nearest rule a c ≡ near rule j x
 
 module _ (f : Format) where
   abbrev m : ℕ
@@ -77,9 +78,9 @@ module _ (f : Format) where
         ∙ ap (λ (n : ℕ). significand m o * n) (sym (pow-add 2 t l) ∙ ap (λ (n : ℕ). 2 ^ n) (let e : t + l ≡ r + j = omega arith in e) ∙ pow-add 2 r j)
         ∙ sym (mul-assoc (significand m o) (2 ^ r) (2 ^ j)))
 
-    same-bins : (2 * x + 2 ^ j) / (2 * 2 ^ j) ≡ near j x
+    same-bins : (rule : ℕ) → nearest rule x (2 ^ j) ≡ near rule j x
     unfolding near
-    same-bins = ap (λ (n : ℕ). (2 * x + 2 ^ j) / n) (let e : 2 * 2 ^ j ≡ 2 ^ suc j = omega (arith, two-pow-succ j) in e)
+    same-bins rule = refl
 
     -- less than 2 ^ prec of the smallest units
     module _ (h : t + l < j) where
@@ -103,16 +104,16 @@ module _ (f : Format) where
       grid-value : HasValue (round f false x (2 ^ j)) false (grid f x (2 ^ j)) (2 ^ l)
       grid-value = round-val f x (2 ^ j) (lt-of-le-of-lt grid-few (pow-lt (let e : prec f < l + suc (emax f) = omega (arith, spare f) in e)))
 
-      no-bins : near j x ≡ 0
+      no-bins : (rule : ℕ) → near rule j x ≡ 0
       unfolding near
-      no-bins =
+      no-bins rule =
           let y : 4 * x ≤ 2 ^ j =
           le-trans (let e : 4 * x ≤ 4 * (2 ^ prec f * 2 ^ t) = mul-le-mul-left 4 (le-of-lt (mul-lt-mul-of-pos-right (sig-small o) (pow-pos t))) in e)
           (le-trans (le-of-eq (sym (mul-assoc 4 (2 ^ prec f) (2 ^ t)))) (le-trans (mul-le-mul-right (2 ^ t) small-units) (le-trans (le-of-eq (sym (pow-add 2 l t))) (pow-mono (let e : l + t ≤ j = omega arith in e))))) in
-          div-eq-of-lt (omega (arith, two-pow-succ j, pow-pos j))
+          nearest-none rule x (2 ^ j) (pow-pos j) (omega (arith, pow-pos j))
 
-      none-scaled : (2 * grid f x (2 ^ j) + 2 ^ l) / (2 * 2 ^ l) ≡ near j x
-      none-scaled = div-eq-of-lt (omega (arith, grid-few, small-units, pow-pos (prec f))) ∙ sym no-bins
+      none-scaled : (rule : ℕ) → nearest rule (grid f x (2 ^ j)) (2 ^ l) ≡ near rule j x
+      none-scaled rule = nearest-none rule (grid f x (2 ^ j)) (2 ^ l) (pow-pos l) (omega (arith, grid-few, small-units, pow-pos (prec f))) ∙ sym (no-bins rule)
 
       grid-under : grid f x (2 ^ j) < 2 ^ m * 2 ^ l
       grid-under = lt-of-lt-of-le (let e : grid f x (2 ^ j) < 2 ^ l = omega (arith, grid-few, small-units, pow-pos (prec f)) in e) (le-trans (le-of-eq (sym (one-mul (2 ^ l)))) (mul-le-mul-right (2 ^ l) (pow-pos m)))
@@ -126,16 +127,9 @@ module _ (f : Format) where
 
     -- the ordinal is that of a float
     module _ (w : suc j ≤ ones f) where
-      in-top : o < top f
-      unfolding thresholdOrdinal
-      in-top = lt-of-lt-of-le below (le-trans (mul-le-mul-right (2 ^ m) w) (le-trans (mul-le-mul-right (2 ^ m) (let q : ones f ≤ suc (ones f) = omega arith in q)) (le-of-eq (mul-comm (suc (ones f)) (2 ^ m)))))
-
       o-value : HasValue (ofBits f o) false x (2 ^ l)
       unfolding thresholdOrdinal magnitude
-      o-value =
-          subst (λ (b : Bool). HasValue (ofBits f o) b x (2 ^ l)) (is-false (leb (top f) o) (not-T (leb (top f) o) (λ (u : T (leb (top f) o)). omega (arith, leb→le (top f) o u, in-top))))
-          (subst (λ (n : ℕ). HasValue (ofBits f o) (leb (top f) o) (magnitude m n) (2 ^ l)) (mod-eq-of-lt in-top)
-          (finite-value f o (subst (λ (n : ℕ). n / 2 ^ m < ones f) (sym (mod-eq-of-lt in-top)) (lt-of-lt-of-le (div-lt-iff-lt-mul (pow-pos m) .1 below) w))))
+      o-value = ordinal-value f o (lt-of-lt-of-le below (mul-le-mul-right (2 ^ m) w))
 
       ordinal-a-number : T (not (nanBits f o))
       ordinal-a-number = subst (λ (b : Bool). T (not b)) (sym (nanBits-is f o)) (no-nan (ofBits f o) false x (2 ^ l) o-value)
@@ -182,7 +176,7 @@ module _ {f : Format} {j o F : ℕ} (k : Asked f j o F) where
 
   module _ (y : Float) (Y : HasValue y false (2 * 2 ^ (prec f - 1) - 1) 2) where
     by : Settled f (q-is .a) (q-is .c) q y
-    by = settled f (q-is .a) (q-is .c) (q-is .some) (q-is .under) q y (q-is .value) Y
+    by = settled f (q-is .a) (q-is .c) (q-is .some) (q-is .under) q y (mul-fits f (ofBits f o) (ofBits f (F * hid f))) (q-is .value) Y
 
     abbrev base : ℕ
     base = low f * 2 ^ (prec f - 1) + 2 ^ (prec f - 1) - 1
@@ -190,21 +184,49 @@ module _ {f : Format} {j o F : ℕ} (k : Asked f j o F) where
     abbrev sum : ℕ
     sum = toBits f (add f q y)
 
-    abbrev test : Bool
-    test = lt q (sub f (add f q y) y)
+    abbrev grown : ℕ
+    grown = toBits f (sub f (add f q y) y)
 
     pub sum-no-nan : T (not (isNan (add f q y)))
     sum-no-nan = by .number
 
+    pub grown-no-nan : T (not (isNan (sub f (add f q y) y)))
+    grown-no-nan = by .grown-number
+
     pub sum-from : base ≤ sum
     sum-from = omega (arith, by .pattern)
 
-    pub some-below : test ≡ true → 1 ≤ sum - base
-    some-below t = omega (arith, by .pattern, by .if-below (subst T (sym t) tt))
+    -- d is what the odd one of two has to be behind t
+    module _ (rule d : ℕ) (odd : d ≡ over rule (sum - base)) where
+      next-is : sum - base ≡ by .next
+      next-is = omega (arith, by .pattern)
 
-    pub near-below : test ≡ true → sum - base - 1 ≡ near j (magnitude (prec f - 1) o)
-    near-below t = (let z : sum - base - 1 ≡ (2 * q-is .a + q-is .c) / (2 * q-is .c) = omega (arith, by .pattern, by .if-below (subst T (sym t) tt)) in z) ∙ q-is .bins
+      d-is : d ≡ over rule (by .next)
+      d-is = odd ∙ ap (over rule) next-is
 
-    pub near-above : test ≡ false → sum - base ≡ near j (magnitude (prec f - 1) o)
-    near-above t =
-        (let z : sum - base ≡ (2 * q-is .a + q-is .c) / (2 * q-is .c) = omega (arith, by .pattern, by .if-above (subst (λ (b : Bool). T (not b)) (sym t) tt)) in z) ∙ q-is .bins
+      one : d ≤ 1
+      one = rw odd (over-small rule (sum - base) .0)
+
+      pub half-fits : grown + d < suc (low f) * 2 ^ (prec f - 1) + 1
+      half-fits = omega (arith, by .grown-small, one)
+
+      pub half-no-nan : T (not (nanBits f (grown + d)))
+      half-no-nan = by .half-number d one
+
+      abbrev test : Bool
+      test = lt q (ofBits f (grown + d))
+
+      below : test ≡ true → suc (nearest rule (q-is .a) (q-is .c)) ≡ by .next
+      below t = by .if-below rule (subst (λ (n : ℕ). T (lt q (ofBits f (grown + n)))) d-is (subst T (sym t) tt))
+
+      pub some-below : test ≡ true → 1 ≤ sum - base
+      some-below t = omega (arith, next-is, below t)
+
+      pub near-below : test ≡ true → sum - base - 1 ≡ near rule j (magnitude (prec f - 1) o)
+      near-below t = (let z : sum - base - 1 ≡ nearest rule (q-is .a) (q-is .c) = omega (arith, next-is, below t) in z) ∙ q-is .bins rule
+
+      pub near-above : test ≡ false → sum - base ≡ near rule j (magnitude (prec f - 1) o)
+      near-above t =
+          next-is
+          ∙ sym (by .if-above rule (subst (λ (n : ℕ). T (not (lt q (ofBits f (grown + n))))) d-is (subst (λ (b : Bool). T (not b)) (sym t) tt)))
+          ∙ q-is .bins rule

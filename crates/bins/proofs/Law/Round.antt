@@ -3,13 +3,13 @@ use mathlib.Core.Path.{_≡_, refl, sym, ap, ap₂, _∙_, subst}
 use mathlib.Core.Logic.{_⊎_, inl, inr}
 use mathlib.Core.Bool.{Bool, true, false, not, cond}
 use Prim.Native.Nat.{ℕ, suc, _+_, _-_, _*_, _/_, _%_, _^_, _≤_, _<_, compare, Ordering, Ordering·lt, Ordering·eq, Ordering·gt}
-use native.Mathlib.Nat.{mul-one, one-mul, mul-comm, mul-assoc, mul-left-comm, add-mul, suc-mul, mul-sub, mul-pos, zero-mul, le-trans, mul-le-mul-right, mod-lt, div-add-mod', le-of-eq, lt-of-not-le, not-le-of-lt, div-eq-of-lt-le, div-eq-of-lt, eq-of-mul-eq-mul-right, mul-right-comm, mul-lt-mul-of-pos-right, lt-of-lt-of-le, lt-of-le-of-lt, div-lt-iff-lt-mul, le-div-iff-mul-le, two-pow-succ, le-refl, le-of-lt, mod-eq-of-lt}
+use native.Mathlib.Nat.{mul-one, one-mul, mul-comm, mul-assoc, mul-left-comm, add-mul, suc-mul, mul-sub, mul-pos, zero-mul, le-trans, mul-le-mul-right, mod-lt, div-add-mod', le-of-eq, lt-of-mul-lt-mul-right, lt-of-not-le, not-le-of-lt, div-eq-of-lt-le, div-eq-of-lt, eq-of-mul-eq-mul-right, mul-right-comm, mul-lt-mul-of-pos-right, lt-of-lt-of-le, lt-of-le-of-lt, div-lt-iff-lt-mul, le-div-iff-mul-le, two-pow-succ, le-refl, le-of-lt, mod-eq-of-lt}
 use native.Mathlib.Omega.{arith}
 use lib.Arith.{lt-of-le-ne}
 use lib.Dec.{T, isLe, isEq, leb, ltb, eqb, leb→le, nleb→lt, eqb→eq, eqb-refl, ltb→lt, lt→ltb, not-T, lit<, lit≤}
 use lib.Pow.{pow-pos, pow-add, pow-mono, pow-lt, shl-lt}
-use lib.Ieee.{Float, nan, inf, fin, Format, binary32, binary64, prec, emax, low, up, down, size, nearest, round, sum, add, sub, neg, lt, below, hid, ones, top, ofBits, toBits, isNan, nanBits}
-use lib.Ieee.Bits.{is-true, is-false, nanBits-is}
+use lib.Ieee.{Float, nan, inf, fin, Format, binary32, binary64, prec, emax, low, up, down, size, nearest as ieee-nearest, round, sum, add, sub, neg, lt, below, hid, ones, top, ofBits, toBits, fits, isNan, nanBits}
+use lib.Ieee.Bits.{is-true, is-false, nanBits-is, ofBits-toBits}
 use lib.Ieee.Digits.{size-le}
 use lib.Ieee.Fits.{down-pos, nearest-le}
 use lib.Ieee.Back.{round-whole}
@@ -17,11 +17,12 @@ use lib.Ieee.Exact.{HasValue, round-exact}
 use lib.Ieee.Nearest.{closest, closest-same, nearest-ge}
 use lib.Ieee.Order.{transfer}
 use lib.Ieee.Scale.{round-same, grid, overflow, round-val}
-use Rattle.bins.specs.Tolerance.{magnitude, ordinalOf}
+use Rattle.bins.specs.Tolerance.{magnitude, ordinalOf, nearest}
 use Rattle.bins.proofs.Law.Number.{le-or-lt}
+use Rattle.bins.proofs.Law.Nearest.{over, over-small, nearest-none, nearest-half, nearest-other}
 use Rattle.bins.proofs.Law.Float.{led, no-nan, bits-of-value}
-use Rattle.bins.proofs.Law.Tolerance.{size-from, shiftOf, ordinal-shifted, magnitude-at}
-use Rattle.bins.proofs.Law.Ieee.{finite-value}
+use Rattle.bins.proofs.Law.Tolerance.{size-from, shiftOf, ordinal-shifted, magnitude-at, magnitude-mono, magnitude-le, magnitude-back, ordinal-most}
+use Rattle.bins.proofs.Law.Ieee.{finite-value, ordinal-value, special-value}
 
 -- ---- by values
 
@@ -89,6 +90,40 @@ lt-else (fin s m e) (fin z n g) a c b d C D h k t =
     go (inl l) u = l
     go {A} {B} (inr l) u = absurd (subst (λ (q : Bool). T (not q)) (is-true (ltb A B) (lt→ltb A B l)) u)
 
+-- ---- the ordinal of a float that has a value, and the test of one against another with d more in its ordinal
+
+-- two fractions that one float is
+same-value : (x : Float) (s t : Bool) (a c b d : ℕ) → HasValue x s a c → HasValue x t b d → a * d ≡ b * c
+same-value nan s t a c b d h k = absurd h
+same-value (inf z) s t a c b d h k = absurd h
+same-value (fin z m e) s t a c b d h k =
+    eq-of-mul-eq-mul-right (down e) (down-pos e) (a * d) (b * c)
+    (mul-right-comm a d (down e) ∙ ap (λ (n : ℕ). n * d) (sym (h .1)) ∙ mul-right-comm (m * up e) c d ∙ ap (λ (n : ℕ). n * c) (k .1) ∙ mul-right-comm b (down e) c)
+
+value-times : (x : Float) (k d b : ℕ) → HasValue x false k d → HasValue x false (k * b) (d * b)
+value-times nan k d b h = h
+value-times (inf s) k d b h = h
+value-times (fin s m e) k d b h = (h .0, sym (mul-assoc (m * up e) d b) ∙ ap (λ (n : ℕ). n * b) (h .1) ∙ mul-right-comm k (down e) b)
+
+on-grid : (f : Format) (x : Float) (a c : ℕ) → T (fits f x) → HasValue x false a c → (o : ℕ) × (magnitude (prec f - 1) o * c ≡ a * 2 ^ low f)
+on-grid f x a c F X = (o % top f, go (le-or-lt (ones f) (o % top f / hid f)))
+  where
+    o : ℕ
+    o = toBits f x
+
+    own : HasValue (ofBits f o) false a c
+    own = subst (λ (z : Float). HasValue z false a c) (sym (ofBits-toBits f x F)) X
+
+    special : (b s : Bool) → HasValue (cond b (inf s) nan) false a c → ⊥
+    special true s h = h
+    special false s h = h
+
+    go : (ones f ≤ o % top f / hid f) ⊎ (o % top f / hid f < ones f) → magnitude (prec f - 1) (o % top f) * c ≡ a * 2 ^ low f
+    go (inr h) = same-value (ofBits f o) (leb (top f) o) false (magnitude (prec f - 1) (o % top f)) (2 ^ low f) a c (finite-value f o h) own
+    go (inl h) =
+        let most : o % top f / hid f < suc (ones f) = div-lt-iff-lt-mul (pow-pos (prec f - 1)) .1 (lt-of-lt-of-le (mod-lt o (mul-pos (pow-pos (prec f - 1)) (let q : 0 < suc (ones f) = omega arith in q))) (le-of-eq (mul-comm (hid f) (suc (ones f))))) in
+        absurd (special (eqb (o % hid f) 0) (leb (top f) o) (subst (λ (z : Float). HasValue z false a c) (special-value f o (omega arith)) own))
+
 -- ---- the nearest whole number is at most a half away
 
 abbrev Cmp : Ordering → ℕ → ℕ → Type 0
@@ -107,7 +142,7 @@ cmp a b = go (compare a b) (leb→le a b) (nleb→lt a b) (eqb→eq a b) (λ (e 
 abbrev pub Half : ℕ → ℕ → ℕ → Type 0
 Half k n c = (2 * n ≤ 2 * (k * c) + c) × (2 * (k * c) ≤ 2 * n + c)
 
-half-by : (w r n c : ℕ) (o : Ordering) → w * c + r ≡ n → r < c → Cmp o (r * 2) c → Half (nearest w o) n c
+half-by : (w r n c : ℕ) (o : Ordering) → w * c + r ≡ n → r < c → Cmp o (r * 2) c → Half (ieee-nearest w o) n c
 half-by w r n c Ordering·lt e l h = (omega arith, omega arith)
 half-by w r n c Ordering·gt e l h = (omega (arith, suc-mul w c), omega (arith, suc-mul w c))
 half-by w r n c Ordering·eq e l h = go (le-or-lt (w % 2) 0)
@@ -198,13 +233,13 @@ value-cancel nan k d b B h = h
 value-cancel (inf s) k d b B h = h
 value-cancel (fin s m e) k d b B h = (h .0, eq-of-mul-eq-mul-right b B (m * up e * d) (k * down e) (mul-assoc (m * up e) d b ∙ h .1 ∙ mul-right-comm k b (down e)))
 
+middle : (f : Format) → suc (low f) < ones f
+middle binary32 = lit< tt
+middle binary64 = lit< tt
+
 module _ (f : Format) (u : ℕ) (small : u < 2 ^ (prec f - 1)) where
   abbrev b : ℕ
   b = suc (low f) * 2 ^ (prec f - 1) + u
-
-  middle : (f : Format) → suc (low f) < ones f
-  middle binary32 = lit< tt
-  middle binary64 = lit< tt
 
   b-field : b / 2 ^ (prec f - 1) ≡ suc (low f)
   b-field = div-eq-of-lt-le (2 ^ (prec f - 1)) (omega arith) (omega (arith, add-mul (suc (low f)) 1 (2 ^ (prec f - 1)), one-mul (2 ^ (prec f - 1))))
@@ -240,14 +275,18 @@ module _ (f : Format) (u : ℕ) (small : u < 2 ^ (prec f - 1)) where
 
 -- ---- a sum r of a / c with 2 ^ m - 1/2, and t, what it has grown by: which of two neighbours r is, the test a / c < t tells
 
--- What the answer rests on: r's pattern counts from that of 2 ^ m - 1/2, and is the nearest whole number, or the next one where t is above a / c.
+-- What the answer rests on: r's pattern counts from that of 2 ^ m - 1/2, and is the nearest whole number, or the next one where t is above a / c. Where a half
+-- has to go down from an odd number, the float behind t is compared.
 pub record Settled (f : Format) (a c : ℕ) (x y : Float) : Type 0 where
   pub next : ℕ
   pub small : next ≤ 2 ^ (prec f - 1)
   pub pattern : toBits f (add f x y) ≡ low f * 2 ^ (prec f - 1) + 2 ^ (prec f - 1) - 1 + next
   pub number : T (not (isNan (add f x y)))
-  pub if-below : T (lt x (sub f (add f x y) y)) → suc ((2 * a + c) / (2 * c)) ≡ next
-  pub if-above : T (not (lt x (sub f (add f x y) y))) → (2 * a + c) / (2 * c) ≡ next
+  pub grown-number : T (not (isNan (sub f (add f x y) y)))
+  pub grown-small : toBits f (sub f (add f x y) y) < suc (low f) * 2 ^ (prec f - 1)
+  pub half-number : (d : ℕ) → d ≤ 1 → T (not (nanBits f (toBits f (sub f (add f x y) y) + d)))
+  pub if-below : (rule : ℕ) → T (lt x (ofBits f (toBits f (sub f (add f x y) y) + over rule next))) → suc (nearest rule a c) ≡ next
+  pub if-above : (rule : ℕ) → T (not (lt x (ofBits f (toBits f (sub f (add f x y) y) + over rule next)))) → nearest rule a c ≡ next
 
 half-low : (f : Format) → 2 ^ low f ≡ 2 ^ (low f - 1) * 2
 half-low binary32 = refl
@@ -261,7 +300,7 @@ room : (f : Format) → prec f + (low f - 1) ≤ low f + suc (emax f)
 room binary32 = lit≤ tt
 room binary64 = lit≤ tt
 
-module _ (f : Format) (a c : ℕ) (C : 0 < c) (under : a < 2 ^ (prec f - 1) * c) (x y : Float) (X : HasValue x false a c) (Y : HasValue y false (2 * 2 ^ (prec f - 1) - 1) 2) where
+module _ (f : Format) (a c : ℕ) (C : 0 < c) (under : a < 2 ^ (prec f - 1) * c) (x y : Float) (F : T (fits f x)) (X : HasValue x false a c) (Y : HasValue y false (2 * 2 ^ (prec f - 1) - 1) 2) where
   abbrev P : ℕ
   P = 2 ^ (prec f - 1)
 
@@ -294,11 +333,86 @@ module _ (f : Format) (a c : ℕ) (C : 0 < c) (under : a < 2 ^ (prec f - 1) * c)
         (round-exact f false (J - M) 2 (J - M) (low f - 1) (lit< tt) few (lt-of-lt-of-le (shl-lt (prec f) (low f - 1) few) (pow-mono (room f)))
         (ap (λ (v : ℕ). (J - M) * v) (half-low f) ∙ sym (mul-assoc (J - M) (2 ^ (low f - 1)) 2)))
 
-    t-above : T (lt x (sub f r y)) → a * 2 < (J - M) * c
-    t-above t = lt-then x (sub f r y) a c (J - M) 2 C (lit< tt) X t-value t
+    abbrev t : Float
+    t = sub f r y
 
-    t-below : T (not (lt x (sub f r y))) → (J - M) * c ≤ a * 2
-    t-below t = lt-else x (sub f r y) a c (J - M) 2 C (lit< tt) X t-value t
+    abbrev H : ℕ
+    H = J - M
+
+    half-units : 2 * 2 ^ (low f - 1) ≡ 2 ^ low f
+    half-units = mul-comm 2 (2 ^ (low f - 1)) ∙ sym (half-low f)
+
+    digits : H < 2 ^ suc (prec f - 1)
+    digits = lt-of-lt-of-le few (le-of-eq (ap (λ (p : ℕ). 2 ^ p) (sym (led f))))
+
+    t-bits : toBits f t ≡ ordinalOf (prec f - 1) (H * 2 ^ (low f - 1))
+    t-bits = bits-of-value f t (H * 2 ^ (low f - 1)) (subst (λ (z : ℕ). HasValue t false (H * 2 ^ (low f - 1)) z) half-units (value-times t H 2 (2 ^ (low f - 1)) t-value))
+
+    t-magnitude : magnitude (prec f - 1) (toBits f t) ≡ H * 2 ^ (low f - 1)
+    t-magnitude = ap (magnitude (prec f - 1)) t-bits ∙ magnitude-back (prec f - 1) H (low f - 1) digits
+
+    t-small : toBits f t < suc (low f) * 2 ^ (prec f - 1)
+    t-small = rw t-bits (lt-of-lt-of-le (ordinal-most (prec f - 1) H (low f - 1) digits) (le-of-eq (ap (λ (z : ℕ). suc z * 2 ^ (prec f - 1)) (low-some f))))
+
+    -- x as a / c beside t as H halves, from the order of their ordinals
+    module _ (o : ℕ) (G : magnitude (prec f - 1) o * c ≡ a * 2 ^ low f) where
+      abbrev g : ℕ
+      g = 2 ^ (low f - 1)
+
+      x-side : magnitude (prec f - 1) o * c ≡ a * 2 * g
+      x-side = G ∙ ap (λ (z : ℕ). a * z) (sym half-units) ∙ sym (mul-assoc a 2 g)
+
+      t-side : magnitude (prec f - 1) (toBits f t) * c ≡ H * c * g
+      t-side = ap (λ (z : ℕ). z * c) t-magnitude ∙ mul-right-comm H g c
+
+      less : o < toBits f t → a * 2 < H * c
+      less h = lt-of-mul-lt-mul-right g (le-trans (le-of-eq (ap suc (sym x-side))) (le-trans (mul-lt-mul-of-pos-right (magnitude-mono (prec f - 1) o (toBits f t) h) C) (le-of-eq t-side)))
+
+      same : o ≡ toBits f t → a * 2 ≡ H * c
+      same e = eq-of-mul-eq-mul-right g (pow-pos (low f - 1)) (a * 2) (H * c) (sym x-side ∙ ap (λ (z : ℕ). magnitude (prec f - 1) z * c) e ∙ t-side)
+
+      more : toBits f t < o → H * c < a * 2
+      more h = lt-of-mul-lt-mul-right g (le-trans (le-of-eq (ap suc (sym t-side))) (le-trans (mul-lt-mul-of-pos-right (magnitude-mono (prec f - 1) (toBits f t) o h) C) (le-of-eq x-side)))
+
+      module _ (d : ℕ) (one : d ≤ 1) where
+        abbrev half : Float
+        half = ofBits f (toBits f t + d)
+
+        half-value : HasValue half false (magnitude (prec f - 1) (toBits f t + d)) (2 ^ low f)
+        half-value =
+            ordinal-value f (toBits f t + d)
+            (lt-of-le-of-lt (let e : toBits f t + d ≤ suc (low f) * 2 ^ (prec f - 1) = omega (arith, t-small) in e) (mul-lt-mul-of-pos-right (middle f) (pow-pos (prec f - 1))))
+
+        above : T (lt x half) → a * 2 < H * c + d
+        above z =
+            let cross : a * 2 ^ low f < magnitude (prec f - 1) (toBits f t + d) * c = lt-then x half a c (magnitude (prec f - 1) (toBits f t + d)) (2 ^ low f) C (pow-pos (low f)) X half-value z in
+            go (le-or-lt (toBits f t) o) (le-or-lt (toBits f t + d) o) (subst (λ (n : ℕ). n < magnitude (prec f - 1) (toBits f t + d) * c) (sym G) cross)
+          where
+            go : (toBits f t ≤ o) ⊎ (o < toBits f t) → (toBits f t + d ≤ o) ⊎ (o < toBits f t + d) → magnitude (prec f - 1) o * c < magnitude (prec f - 1) (toBits f t + d) * c → a * 2 < H * c + d
+            go (inr h) w l = omega (arith, less h)
+            go (inl h) (inr w) l = omega (arith, same (omega arith))
+            go (inl h) (inl w) l = absurd (not-le-of-lt l (mul-le-mul-right c (magnitude-le (prec f - 1) (toBits f t + d) o w)))
+
+        below-it : T (not (lt x half)) → H * c + d ≤ a * 2
+        below-it z =
+            let cross : magnitude (prec f - 1) (toBits f t + d) * c ≤ a * 2 ^ low f = lt-else x half a c (magnitude (prec f - 1) (toBits f t + d)) (2 ^ low f) C (pow-pos (low f)) X half-value z in
+            go (le-or-lt o (toBits f t)) (le-or-lt (toBits f t + d) o) (subst (λ (n : ℕ). magnitude (prec f - 1) (toBits f t + d) * c ≤ n) (sym G) cross)
+          where
+            go : (o ≤ toBits f t) ⊎ (toBits f t < o) → (toBits f t + d ≤ o) ⊎ (o < toBits f t + d) → magnitude (prec f - 1) (toBits f t + d) * c ≤ magnitude (prec f - 1) o * c → H * c + d ≤ a * 2
+            go (inr h) w l = omega (arith, more h)
+            go (inl h) (inl w) l = omega (arith, same (omega arith))
+            go (inl h) (inr w) l = absurd (not-le-of-lt (mul-lt-mul-of-pos-right (magnitude-mono (prec f - 1) o (toBits f t + d) w) C) l)
+
+    half-no-nan : (d : ℕ) → d ≤ 1 → T (not (nanBits f (toBits f t + d)))
+    half-no-nan d one =
+        let G = on-grid f x a c F X in
+        subst (λ (z : Bool). T (not z)) (sym (nanBits-is f (toBits f t + d))) (no-nan (ofBits f (toBits f t + d)) false (magnitude (prec f - 1) (toBits f t + d)) (2 ^ low f) (half-value (G .0) (G .1) d one))
+
+    t-above : (d : ℕ) → d ≤ 1 → T (lt x (ofBits f (toBits f t + d))) → a * 2 < H * c + d
+    t-above d one = let G = on-grid f x a c F X in above (G .0) (G .1) d one
+
+    t-below : (d : ℕ) → d ≤ 1 → T (not (lt x (ofBits f (toBits f t + d)))) → H * c + d ≤ a * 2
+    t-below d one = let G = on-grid f x a c F X in below-it (G .0) (G .1) d one
 
   P-times : c ≤ P * c
   P-times = le-trans (le-of-eq (sym (one-mul c))) (mul-le-mul-right c P-some)
@@ -341,8 +455,8 @@ module _ (f : Format) (a c : ℕ) (C : 0 < c) (under : a < 2 ^ (prec f - 1) * c)
     k-few : k - M < 2 ^ prec f
     k-few = omega (arith, k-most, both, P-some)
 
-    none : (2 * a + c) / (2 * c) ≡ 0
-    none = div-eq-of-lt (omega arith)
+    none : (rule : ℕ) → nearest rule a c ≡ 0
+    none rule = nearest-none rule a c C less
 
     settled-low : Settled f a c x y
     settled-low = record {
@@ -352,17 +466,28 @@ module _ (f : Format) (a c : ℕ) (C : 0 < c) (under : a < 2 ^ (prec f - 1) * c)
           ap (toBits f) r-is ∙ rounded-bits f n (c * 2) (low f - 1) two-c k-lo k-hi (let e : low f - 1 ≤ low f = omega arith in e)
           ∙ (let e : (low f - 1) * P + k ≡ low f * P + P - 1 + (k - M) = omega (arith, k-least, P-some, ap (λ (z : ℕ). z * P) (low-some f), suc-mul (low f - 1) P) in e);
       number = no-nan r false k 2 k-value;
-      if-below = λ t. below (le-or-lt (k - M) 0) t;
-      if-above = λ t. above (le-or-lt (k - M) 0) t;
+      grown-number = no-nan (sub f r y) false (k - M) 2 (t-value k k-least k-few k-value);
+      grown-small = t-small k k-least k-few k-value;
+      half-number = half-no-nan k k-least k-few k-value;
+      if-below = λ rule t. below rule (le-or-lt (k - M) 0) (t-above k k-least k-few k-value (over rule (k - M)) (over-small rule (k - M) .0) t);
+      if-above = λ rule t. above-it rule (le-or-lt (k - M) 0) (t-below k k-least k-few k-value (over rule (k - M)) (over-small rule (k - M) .0) t);
     }
       where
-        below : (k - M ≤ 0) ⊎ (0 < k - M) → T (lt x (sub f r y)) → suc ((2 * a + c) / (2 * c)) ≡ k - M
-        below (inr g) t = omega (arith, none, k-most)
-        below (inl g) t = absurd (let e : a * 2 < 0 * c = subst (λ (z : ℕ). a * 2 < z * c) (let q : k - M ≡ 0 = omega arith in q) (t-above k k-least k-few k-value t) in omega (arith, zero-mul c))
+        -- 0 is even
+        stays : (rule : ℕ) → k - M ≡ 0 → over rule (k - M) ≡ 0
+        stays rule e = rw e (go (eqb rule 1))
+          where
+            go : (b : Bool) → cond b (0 % 2) 0 ≡ 0
+            go true = refl
+            go false = refl
 
-        above : (k - M ≤ 0) ⊎ (0 < k - M) → T (not (lt x (sub f r y))) → (2 * a + c) / (2 * c) ≡ k - M
-        above (inl g) t = omega (arith, none)
-        above (inr g) t = absurd (let e : 1 * c ≤ a * 2 = subst (λ (z : ℕ). z * c ≤ a * 2) (let q : k - M ≡ 1 = omega (arith, k-most) in q) (t-below k k-least k-few k-value t) in omega (arith, one-mul c))
+        below : (rule : ℕ) → (k - M ≤ 0) ⊎ (0 < k - M) → a * 2 < (k - M) * c + over rule (k - M) → suc (nearest rule a c) ≡ k - M
+        below rule (inr g) t = omega (arith, none rule, k-most)
+        below rule (inl g) t = absurd (let z : k - M ≡ 0 = omega arith in omega (arith, t, stays rule z, ap (λ (n : ℕ). n * c) z, zero-mul c))
+
+        above-it : (rule : ℕ) → (k - M ≤ 0) ⊎ (0 < k - M) → (k - M) * c + over rule (k - M) ≤ a * 2 → nearest rule a c ≡ k - M
+        above-it rule (inl g) t = omega (arith, none rule)
+        above-it rule (inr g) t = absurd (let z : k - M ≡ 1 = omega (arith, k-most) in omega (arith, t, ap (λ (n : ℕ). n * c) z, one-mul c))
 
   -- from a half on r is a whole number
   module _ (more : c ≤ 2 * a) where
@@ -436,11 +561,25 @@ module _ (f : Format) (a c : ℕ) (C : 0 < c) (under : a < 2 ^ (prec f - 1) * c)
           ap (toBits f) r-is ∙ rounded-bits f n (c * 2) (low f) two-c w-lo w-hi (le-refl (low f))
           ∙ (let e : low f * P + w ≡ low f * P + P - 1 + suc R = omega (arith, w-least, P-some) in e);
       number = no-nan r false (w * 2) 2 J-value;
-      if-below = λ t. ap suc (div-eq-of-lt-le (2 * c) (omega (arith, R-twice, from-R))
-          (omega (arith, add-mul R 1 (2 * c), one-mul (2 * c), R-twice, t-above (w * 2) J-least J-few J-value t, R-odd)));
-      if-above = λ t. div-eq-of-lt-le (2 * c) (omega (arith, suc-mul R (2 * c), R-twice, t-below (w * 2) J-least J-few J-value t, R-odd))
-          (omega (arith, add-mul (suc R) 1 (2 * c), one-mul (2 * c), suc-mul R (2 * c), R-twice, to-R, C));
+      grown-number = no-nan (sub f r y) false (w * 2 - M) 2 (t-value (w * 2) J-least J-few J-value);
+      grown-small = t-small (w * 2) J-least J-few J-value;
+      half-number = half-no-nan (w * 2) J-least J-few J-value;
+      if-below = λ rule t. ap suc (sym (below rule (le-or-lt (2 * (R * c) + c) (a * 2)) (t-above (w * 2) J-least J-few J-value (over rule (suc R)) (over-small rule (suc R) .0) t)));
+      if-above = λ rule t. sym (above-it rule (le-or-lt (a * 2) (2 * (R * c) + c)) (t-below (w * 2) J-least J-few J-value (over rule (suc R)) (over-small rule (suc R) .0) t));
     }
+      where
+        -- from the half on suc R is the upper one, and at the half there is nothing left
+        at-half : (rule : ℕ) → a * 2 ≡ 2 * (R * c) + c → suc R - over rule (suc R) ≡ nearest rule a c
+        at-half rule e = nearest-half rule a c (suc R) C (omega (arith, suc-mul R (2 * c), R-twice))
+
+        below : (rule : ℕ) → (2 * (R * c) + c ≤ a * 2) ⊎ (a * 2 < 2 * (R * c) + c) → a * 2 < (w * 2 - M) * c + over rule (suc R) → R ≡ nearest rule a c
+        below rule (inr g) t = nearest-other rule a c R (2 * a + c - R * (2 * c)) (omega (arith, R-twice, from-R)) (omega (arith, R-twice, from-R, C)) (omega (arith, R-twice, g))
+        below rule (inl g) t = (let e : R ≡ suc R - over rule (suc R) = omega (arith, R-odd, t, over-small rule (suc R) .0) in e) ∙ at-half rule (omega (arith, R-odd, t, over-small rule (suc R) .0))
+
+        above-it : (rule : ℕ) → (a * 2 ≤ 2 * (R * c) + c) ⊎ (2 * (R * c) + c < a * 2) → (w * 2 - M) * c + over rule (suc R) ≤ a * 2 → suc R ≡ nearest rule a c
+        above-it rule (inl g) t = (let e : suc R ≡ suc R - over rule (suc R) = omega (arith, R-odd, t) in e) ∙ at-half rule (omega (arith, R-odd, t))
+        above-it rule (inr g) t =
+            nearest-other rule a c (suc R) (2 * a + c - suc R * (2 * c)) (omega (arith, suc-mul R (2 * c), R-twice, g)) (omega (arith, suc-mul R (2 * c), R-twice, g)) (omega (arith, suc-mul R (2 * c), R-twice, to-R, C))
 
   pub settled : Settled f a c x y
   settled = go (le-or-lt c (2 * a))

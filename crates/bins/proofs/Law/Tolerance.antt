@@ -1,16 +1,19 @@
 -- The laws of the tolerance code, once over the fraction bits m and the bin j (E is 2 ^ j units), and over W where the sign comes in.
 use mathlib.Core.Path.{_≡_, sym, ap, ap₂, _∙_}
 use mathlib.Core.Logic.{_⊎_, inl, inr}
+use mathlib.Core.Bool.{Bool, true, false, cond}
 use Prim.Native.Nat.{ℕ, suc, _+_, _-_, _*_, _/_, _%_, _^_, _≤_, _<_, min}
-use native.Mathlib.Nat.{add-zero, zero-mul, le-antisymm, le-of-eq, le-of-suc-le-suc, mul-add, le-trans, lt-of-lt-of-le, le-of-lt, mul-le-mul, mul-le-mul-right, mul-lt-mul-of-pos-right, div-lt-iff-lt-mul, le-div-iff-mul-le, mod-lt, mod-eq-of-lt, mod-add-div', mul-comm, mul-assoc, mul-one, one-mul, add-mul, suc-mul, two-pow-succ, div-eq-of-lt, div-eq-of-lt-le, add-comm, lt-div-mul-add, div-mul-le-self, mul-div-cancel}
+use native.Mathlib.Nat.{add-zero, zero-mul, le-antisymm, le-of-eq, le-of-suc-le-suc, le-trans, lt-of-lt-of-le, le-of-lt, mul-le-mul, mul-le-mul-right, mul-lt-mul-of-pos-right, div-lt-iff-lt-mul, le-div-iff-mul-le, mod-lt, mod-eq-of-lt, mod-add-div', mul-comm, mul-assoc, mul-one, one-mul, add-mul, suc-mul, two-pow-succ, div-eq-of-lt, add-comm, mul-div-cancel, mul-left-comm, div-add-mod', div-mul-le-self}
 use native.Mathlib.Omega.{arith}
 use borrow.Author.Tests.{lt-ltb, le-ltb}
 use lib.Arith.{digits-div, digits-mod}
+use lib.Dec.{eqb}
 use lib.Pow.{pow-pos, pow-mono, pow-add}
 use lib.Ieee.{size}
 use lib.Ieee.Digits.{size-lt, size-reaches, size-le}
 use Rattle.bins.specs.Tolerance.{significand, magnitude, ordinalOf, threshold, thresholdOrdinal, near, magnitudeCode, restoredOrdinal, ordinal, sign, toleranceCode, toleranceRestored, largestU, lastBin}
 use Rattle.bins.proofs.Law.Number.{le-or-lt, quotient-zero, quotient-some, twice-half}
+use Rattle.bins.proofs.Law.Nearest.{nearest-close, nearest-most, nearest-exact}
 
 -- a number that reaches 2 ^ k has more than k digits
 pub size-from : (x k : ℕ) → 2 ^ k ≤ x → k < size x
@@ -72,39 +75,58 @@ module _ (m : ℕ) where
       le-trans (le-of-eq (mul-comm (2 ^ j) (2 ^ m)))
       (rw (significand-led o led) (mul-le-mul (let q : 2 ^ m ≤ 2 ^ m + o % 2 ^ m = omega arith in q) (pow-mono (let q : j ≤ o / 2 ^ m - 1 = omega arith in q))))
 
-  -- ---- rounding
+  -- ---- a larger ordinal has a larger magnitude
 
-  scaled : (j u : ℕ) → u * 2 ^ suc j ≡ u * 2 ^ j + u * 2 ^ j
-  scaled j u = ap (λ (n : ℕ). u * n) (two-pow-succ j) ∙ mul-add u (2 ^ j) (2 ^ j)
+  same-exponent : (o p : ℕ) → o / 2 ^ m ≡ p / 2 ^ m → o < p → magnitude m o < magnitude m p
+  unfolding magnitude significand
+  same-exponent o p e h =
+      rw e
+      (mul-lt-mul-of-pos-right
+      (go (eqb (p / 2 ^ m) 0) (omega (arith, div-add-mod' o (2 ^ m), div-add-mod' p (2 ^ m), ap (λ (n : ℕ). n * 2 ^ m) e)))
+      (pow-pos (p / 2 ^ m - 1)))
+    where
+      go : (b : Bool) → o % 2 ^ m < p % 2 ^ m → cond b (o % 2 ^ m) (2 ^ m + o % 2 ^ m) < cond b (p % 2 ^ m) (2 ^ m + p % 2 ^ m)
+      go true l = l
+      go false l = omega arith
 
-  -- twice the distance between a magnitude x and near j x bins is at most one bin
-  pub near-close : (j x : ℕ) → (2 * x ≤ 2 * (near j x * 2 ^ j) + 2 ^ j) × (2 * (near j x * 2 ^ j) ≤ 2 * x + 2 ^ j)
+  pub magnitude-mono : (o p : ℕ) → o < p → magnitude m o < magnitude m p
+  unfolding thresholdOrdinal
+  magnitude-mono o p h = go (le-or-lt (p / 2 ^ m) (o / 2 ^ m))
+    where
+      go : (p / 2 ^ m ≤ o / 2 ^ m) ⊎ (o / 2 ^ m < p / 2 ^ m) → magnitude m o < magnitude m p
+      go (inl l) = same-exponent o p (le-antisymm (le-div-iff-mul-le (pow-pos m) .1 (le-trans (div-mul-le-self o (2 ^ m)) (le-of-lt h))) l) h
+      go (inr l) =
+          let j = p / 2 ^ m - 1 in
+          lt-of-lt-of-le (below-threshold j o (div-lt-iff-lt-mul (pow-pos m) .0 (let e : o / 2 ^ m < suc j = omega arith in e)))
+          (from-threshold j p (le-div-iff-mul-le (pow-pos m) .0 (let e : suc j ≤ p / 2 ^ m = omega arith in e)))
+
+  pub magnitude-le : (o p : ℕ) → o ≤ p → magnitude m o ≤ magnitude m p
+  magnitude-le o p h = go (le-or-lt p o)
+    where
+      go : (p ≤ o) ⊎ (o < p) → magnitude m o ≤ magnitude m p
+      go (inl l) = le-of-eq (ap (magnitude m) (let e : o ≡ p = omega arith in e))
+      go (inr l) = le-of-lt (magnitude-mono o p l)
+
+  -- ---- rounding, by either rule
+
+  -- twice the distance between a magnitude x and `near` bins is at most one bin
+  pub near-close : (rule j x : ℕ) → (2 * x ≤ 2 * (near rule j x * 2 ^ j) + 2 ^ j) × (2 * (near rule j x * 2 ^ j) ≤ 2 * x + 2 ^ j)
   unfolding near
-  near-close j x =
-      let u = (2 * x + 2 ^ j) / 2 ^ suc j in
-      let scale : u * 2 ^ suc j ≡ u * 2 ^ j + u * 2 ^ j = scaled j u in
-      let two : 2 ^ suc j ≡ 2 ^ j + 2 ^ j = two-pow-succ j in
-      let low : u * 2 ^ suc j ≤ 2 * x + 2 ^ j = div-mul-le-self (2 * x + 2 ^ j) (2 ^ suc j) in
-      let high : 2 * x + 2 ^ j < u * 2 ^ suc j + 2 ^ suc j = lt-div-mul-add (pow-pos (suc j)) in
-      (omega arith, omega arith)
+  near-close rule j x = nearest-close rule x (2 ^ j) (pow-pos j)
 
   -- below the threshold no code passes 2 ^ m
-  pub near-bound : (j x : ℕ) → x < threshold m j → near j x ≤ 2 ^ m
+  pub near-bound : (rule j x : ℕ) → x < threshold m j → near rule j x ≤ 2 ^ m
   unfolding near threshold
-  near-bound j x h =
-      le-of-suc-le-suc
-      (div-lt-iff-lt-mul (pow-pos (suc j)) .1
-      (let two : 2 ^ suc j ≡ 2 ^ j + 2 ^ j = two-pow-succ j in
-      let e : suc (2 ^ m) * 2 ^ suc j ≡ 2 ^ m * 2 ^ suc j + 2 ^ suc j = suc-mul (2 ^ m) (2 ^ suc j) in
-      let f : 2 ^ m * 2 ^ suc j ≡ 2 ^ j * 2 ^ m + 2 ^ j * 2 ^ m = mul-comm (2 ^ m) (2 ^ suc j) ∙ ap (λ (n : ℕ). n * 2 ^ m) two ∙ add-mul (2 ^ j) (2 ^ j) (2 ^ m) in
-      omega (arith, pow-pos j)))
+  near-bound rule j x h =
+      le-trans (nearest-most rule x (2 ^ j) (pow-pos j))
+      (le-of-suc-le-suc
+      (div-lt-iff-lt-mul (let e : 0 < 2 * 2 ^ j = omega (arith, pow-pos j) in e) .1
+      (omega (arith, pow-pos j, suc-mul (2 ^ m) (2 * 2 ^ j), mul-left-comm (2 ^ m) 2 (2 ^ j), mul-comm (2 ^ j) (2 ^ m)))))
 
   -- u bins round to u
-  pub near-exact : (j u : ℕ) → near j (u * 2 ^ j) ≡ u
+  pub near-exact : (rule j u : ℕ) → near rule j (u * 2 ^ j) ≡ u
   unfolding near
-  near-exact j u =
-      div-eq-of-lt-le (2 ^ suc j) (omega (arith, two-pow-succ j, scaled j u))
-      (omega (arith, two-pow-succ j, scaled j u, add-mul u 1 (2 ^ suc j), one-mul (2 ^ suc j), pow-pos j))
+  near-exact rule j u = nearest-exact rule (2 ^ j) u (pow-pos j)
 
   -- ---- from a magnitude to its ordinal
 
@@ -187,13 +209,13 @@ module _ (m : ℕ) where
 
   -- ---- the code and what it restores, as ordinals
 
-  pub code-below : (j o : ℕ) → magnitude m o < threshold m j → magnitudeCode m j o ≡ near j (magnitude m o)
+  pub code-below : (rule j o : ℕ) → magnitude m o < threshold m j → magnitudeCode m rule j o ≡ near rule j (magnitude m o)
   unfolding magnitudeCode
-  code-below j o h = rw (lt-ltb (magnitude m o) (threshold m j) h)
+  code-below rule j o h = rw (lt-ltb (magnitude m o) (threshold m j) h)
 
-  pub code-from : (j o : ℕ) → threshold m j ≤ magnitude m o → magnitudeCode m j o ≡ o - thresholdOrdinal m j + 2 ^ m
+  pub code-from : (rule j o : ℕ) → threshold m j ≤ magnitude m o → magnitudeCode m rule j o ≡ o - thresholdOrdinal m j + 2 ^ m
   unfolding magnitudeCode
-  code-from j o h = rw (le-ltb (magnitude m o) (threshold m j) h)
+  code-from rule j o h = rw (le-ltb (magnitude m o) (threshold m j) h)
 
   pub restored-bins : (j u : ℕ) → u < 2 ^ m → restoredOrdinal m j u ≡ ordinalOf m (u * 2 ^ j)
   unfolding restoredOrdinal
@@ -207,6 +229,16 @@ module _ (m : ℕ) where
   unfolding ordinalOf
   ordinal-zero j =
       rw (zero-mul (2 ^ j)) (let e : size 0 - suc m ≡ 0 = omega (arith, size-le 0 0 (pow-pos 0)) in rw e (add-zero (0 * 2 ^ m) ∙ zero-mul (2 ^ m)))
+
+  -- the ordinal of u with j places behind it is small, and has that magnitude
+  pub magnitude-back : (u j : ℕ) → u < 2 ^ suc m → magnitude m (ordinalOf m (u * 2 ^ j)) ≡ u * 2 ^ j
+  magnitude-back u j fits = go (le-or-lt u 0)
+    where
+      go : (u ≤ 0) ⊎ (0 < u) → magnitude m (ordinalOf m (u * 2 ^ j)) ≡ u * 2 ^ j
+      go (inl z) =
+          let e : u ≡ 0 = omega arith in
+          rw e (ap (magnitude m) (ordinal-zero j) ∙ magnitude-plain 0 (pow-pos m) ∙ sym (zero-mul (2 ^ j)))
+      go (inr z) = ap (magnitude m) (ordinal-shifted u j z fits) ∙ magnitude-shifted u j z fits
 
   -- the magnitude restored is u bins, up to 2 ^ m of them
   pub restored-magnitude : (j u : ℕ) → u ≤ 2 ^ m → magnitude m (restoredOrdinal m j u) ≡ u * 2 ^ j
@@ -239,18 +271,26 @@ module _ (m : ℕ) where
       go (inl l) = let e = from-threshold j o l in omega arith
       go (inr l) = l
 
+  pub ordinal-most : (u j : ℕ) → u < 2 ^ suc m → ordinalOf m (u * 2 ^ j) < suc (suc j) * 2 ^ m
+  unfolding threshold thresholdOrdinal
+  ordinal-most u j fits =
+      ordinal-below (suc j) (ordinalOf m (u * 2 ^ j))
+      (rw (magnitude-back u j fits)
+      (lt-of-lt-of-le (mul-lt-mul-of-pos-right fits (pow-pos j))
+      (le-of-eq (sym (pow-add 2 (suc m) j) ∙ ap (λ (n : ℕ). 2 ^ n) (let e : suc m + j ≡ suc j + m = omega arith in e) ∙ pow-add 2 (suc j) m))))
+
   -- below the threshold: twice the distance is at most one bin
-  pub returns-close : (j o : ℕ) → magnitude m o < threshold m j
-      → (2 * magnitude m o ≤ 2 * magnitude m (restoredOrdinal m j (magnitudeCode m j o)) + 2 ^ j)
-      × (2 * magnitude m (restoredOrdinal m j (magnitudeCode m j o)) ≤ 2 * magnitude m o + 2 ^ j)
-  returns-close j o h =
-      rw (code-below j o h, restored-magnitude j (near j (magnitude m o)) (near-bound j (magnitude m o) h)) (near-close j (magnitude m o))
+  pub returns-close : (rule j o : ℕ) → magnitude m o < threshold m j
+      → (2 * magnitude m o ≤ 2 * magnitude m (restoredOrdinal m j (magnitudeCode m rule j o)) + 2 ^ j)
+      × (2 * magnitude m (restoredOrdinal m j (magnitudeCode m rule j o)) ≤ 2 * magnitude m o + 2 ^ j)
+  returns-close rule j o h =
+      rw (code-below rule j o h, restored-magnitude j (near rule j (magnitude m o)) (near-bound rule j (magnitude m o) h)) (near-close rule j (magnitude m o))
 
   -- from the threshold on: the ordinal itself
-  pub returns-exact : (j o : ℕ) → threshold m j ≤ magnitude m o → restoredOrdinal m j (magnitudeCode m j o) ≡ o
-  returns-exact j o h =
+  pub returns-exact : (rule j o : ℕ) → threshold m j ≤ magnitude m o → restoredOrdinal m j (magnitudeCode m rule j o) ≡ o
+  returns-exact rule j o h =
       let l : thresholdOrdinal m j ≤ o = ordinal-from j o h in
-      ap (restoredOrdinal m j) (code-from j o h)
+      ap (restoredOrdinal m j) (code-from rule j o h)
       ∙ restored-above j (o - thresholdOrdinal m j + 2 ^ m) (omega arith)
       ∙ (let e : o - thresholdOrdinal m j + 2 ^ m - 2 ^ m + thresholdOrdinal m j ≡ o = omega arith in e)
 
@@ -262,16 +302,16 @@ module _ (m : ℕ) where
   restored-under j u h = ordinal-below j (restoredOrdinal m j u) (bins-under j u h)
 
   -- every u is the magnitude code of what it restores
-  pub code-restored : (j u : ℕ) → magnitudeCode m j (restoredOrdinal m j u) ≡ u
-  code-restored j u = go (le-or-lt (2 ^ m) u)
+  pub code-restored : (rule j u : ℕ) → magnitudeCode m rule j (restoredOrdinal m j u) ≡ u
+  code-restored rule j u = go (le-or-lt (2 ^ m) u)
     where
-      go : (2 ^ m ≤ u) ⊎ (u < 2 ^ m) → magnitudeCode m j (restoredOrdinal m j u) ≡ u
+      go : (2 ^ m ≤ u) ⊎ (u < 2 ^ m) → magnitudeCode m rule j (restoredOrdinal m j u) ≡ u
       go (inl g) =
           let o = u - 2 ^ m + thresholdOrdinal m j in
-          ap (magnitudeCode m j) (restored-above j u g)
-          ∙ code-from j o (from-threshold j o (omega arith))
+          ap (magnitudeCode m rule j) (restored-above j u g)
+          ∙ code-from rule j o (from-threshold j o (omega arith))
           ∙ (let e : o - thresholdOrdinal m j + 2 ^ m ≡ u = omega arith in e)
-      go (inr g) = code-below j (restoredOrdinal m j u) (bins-under j u g) ∙ ap (near j) (restored-magnitude j u (le-of-lt g)) ∙ near-exact j u
+      go (inr g) = code-below rule j (restoredOrdinal m j u) (bins-under j u g) ∙ ap (near rule j) (restored-magnitude j u (le-of-lt g)) ∙ near-exact rule j u
 
 module _ (W m : ℕ) (room : m + 3 ≤ W) (j : ℕ) (allowed : j ≤ lastBin W m) where
   -- between the ordinal of T and the end of the ordinals there is room for two exponents: the largest, and that of infinity
@@ -295,13 +335,13 @@ module _ (W m : ℕ) (room : m + 3 ≤ W) (j : ℕ) (allowed : j ≤ lastBin W m
       from-threshold m j o (le-trans (mul-le-mul-right (2 ^ m) (let q : suc j ≤ 2 ^ (W - 1 - m) - 1 = omega arith in q)) h)
 
   -- "The largest u": no pattern has a larger one
-  pub code-largest : (o : ℕ) → o < 2 ^ (W - 1) → magnitudeCode m j o ≤ largestU W m j
+  pub code-largest : (rule o : ℕ) → o < 2 ^ (W - 1) → magnitudeCode m rule j o ≤ largestU W m j
   unfolding largestU
-  code-largest o h = go (le-or-lt (threshold m j) (magnitude m o))
+  code-largest rule o h = go (le-or-lt (threshold m j) (magnitude m o))
     where
-      go : (threshold m j ≤ magnitude m o) ⊎ (magnitude m o < threshold m j) → magnitudeCode m j o ≤ 2 ^ (W - 1) - 1 - j * 2 ^ m
-      go (inl l) = rw (code-from m j o l) (omega (arith, ordinal-from m j o l, next-bin, threshold-room))
-      go (inr l) = rw (code-below m j o l) (omega (arith, near-bound m j (magnitude m o) l, next-bin, threshold-room, pow-pos m))
+      go : (threshold m j ≤ magnitude m o) ⊎ (magnitude m o < threshold m j) → magnitudeCode m rule j o ≤ 2 ^ (W - 1) - 1 - j * 2 ^ m
+      go (inl l) = rw (code-from m rule j o l) (omega (arith, ordinal-from m j o l, next-bin, threshold-room))
+      go (inr l) = rw (code-below m rule j o l) (omega (arith, near-bound m rule j (magnitude m o) l, next-bin, threshold-room, pow-pos m))
 
   -- what a u up to the largest restores is an ordinal
   pub restored-small : (u : ℕ) → u ≤ largestU W m j → restoredOrdinal m j u < 2 ^ (W - 1)
@@ -325,17 +365,17 @@ module _ (W m : ℕ) (room : m + 3 ≤ W) (j : ℕ) (allowed : j ≤ lastBin W m
   unfolding sign
   sign-small p h = div-lt-iff-lt-mul (pow-pos (W - 1)) .1 (omega (arith, halves))
 
-  pub code-half : (p : ℕ) → p < 2 ^ W → toleranceCode W m j p / 2 ≡ magnitudeCode m j (ordinal W p)
+  pub code-half : (rule p : ℕ) → p < 2 ^ W → toleranceCode W m rule j p / 2 ≡ magnitudeCode m rule j (ordinal W p)
   unfolding toleranceCode
-  code-half p h = ap (λ (n : ℕ). (n + sign W p) / 2) (mul-comm 2 (magnitudeCode m j (ordinal W p))) ∙ digits-div (magnitudeCode m j (ordinal W p)) (sign-small p h)
+  code-half rule p h = ap (λ (n : ℕ). (n + sign W p) / 2) (mul-comm 2 (magnitudeCode m rule j (ordinal W p))) ∙ digits-div (magnitudeCode m rule j (ordinal W p)) (sign-small p h)
 
-  code-parity : (p : ℕ) → p < 2 ^ W → toleranceCode W m j p % 2 ≡ sign W p
+  code-parity : (rule p : ℕ) → p < 2 ^ W → toleranceCode W m rule j p % 2 ≡ sign W p
   unfolding toleranceCode
-  code-parity p h = ap (λ (n : ℕ). (n + sign W p) % 2) (mul-comm 2 (magnitudeCode m j (ordinal W p))) ∙ digits-mod (magnitudeCode m j (ordinal W p)) (sign-small p h)
+  code-parity rule p h = ap (λ (n : ℕ). (n + sign W p) % 2) (mul-comm 2 (magnitudeCode m rule j (ordinal W p))) ∙ digits-mod (magnitudeCode m rule j (ordinal W p)) (sign-small p h)
 
-  pub code-under : (p : ℕ) → p < 2 ^ W → toleranceCode W m j p < 2 ^ W
+  pub code-under : (rule p : ℕ) → p < 2 ^ W → toleranceCode W m rule j p < 2 ^ W
   unfolding toleranceCode largestU
-  code-under p h = omega (arith, halves, code-largest (ordinal W p) (ordinal-small p), sign-small p h, pow-pos (W - 1))
+  code-under rule p h = omega (arith, halves, code-largest rule (ordinal W p) (ordinal-small p), sign-small p h, pow-pos (W - 1))
 
   -- a pattern put together from an ordinal and a sign
   pub joined-ordinal : (o s : ℕ) → o < 2 ^ (W - 1) → ordinal W (o + s * 2 ^ (W - 1)) ≡ o
@@ -370,26 +410,26 @@ module _ (W m : ℕ) (room : m + 3 ≤ W) (j : ℕ) (allowed : j ≤ lastBin W m
 
   -- ---- there and back
 
-  returned : (p : ℕ) → p < 2 ^ W → toleranceRestored W m j (toleranceCode W m j p) ≡ restoredOrdinal m j (magnitudeCode m j (ordinal W p)) + sign W p * 2 ^ (W - 1)
-  returned p h =
-      restored-parts (toleranceCode W m j p) (rw (code-half p h) (code-largest (ordinal W p) (ordinal-small p)))
-      ∙ ap₂ (λ (u s : ℕ). restoredOrdinal m j u + s * 2 ^ (W - 1)) (code-half p h) (code-parity p h)
+  returned : (rule p : ℕ) → p < 2 ^ W → toleranceRestored W m j (toleranceCode W m rule j p) ≡ restoredOrdinal m j (magnitudeCode m rule j (ordinal W p)) + sign W p * 2 ^ (W - 1)
+  returned rule p h =
+      restored-parts (toleranceCode W m rule j p) (rw (code-half rule p h) (code-largest rule (ordinal W p) (ordinal-small p)))
+      ∙ ap₂ (λ (u s : ℕ). restoredOrdinal m j u + s * 2 ^ (W - 1)) (code-half rule p h) (code-parity rule p h)
 
-  returned-small : (p : ℕ) → restoredOrdinal m j (magnitudeCode m j (ordinal W p)) < 2 ^ (W - 1)
-  returned-small p = restored-small (magnitudeCode m j (ordinal W p)) (code-largest (ordinal W p) (ordinal-small p))
+  returned-small : (rule p : ℕ) → restoredOrdinal m j (magnitudeCode m rule j (ordinal W p)) < 2 ^ (W - 1)
+  returned-small rule p = restored-small (magnitudeCode m rule j (ordinal W p)) (code-largest rule (ordinal W p) (ordinal-small p))
 
-  pub sign-returns : (p : ℕ) → p < 2 ^ W → sign W (toleranceRestored W m j (toleranceCode W m j p)) ≡ sign W p
-  sign-returns p h = ap (sign W) (returned p h) ∙ joined-sign _ (sign W p) (returned-small p)
+  pub sign-returns : (rule p : ℕ) → p < 2 ^ W → sign W (toleranceRestored W m j (toleranceCode W m rule j p)) ≡ sign W p
+  sign-returns rule p h = ap (sign W) (returned rule p h) ∙ joined-sign _ (sign W p) (returned-small rule p)
 
-  pub ordinal-returned : (p : ℕ) → p < 2 ^ W → ordinal W (toleranceRestored W m j (toleranceCode W m j p)) ≡ restoredOrdinal m j (magnitudeCode m j (ordinal W p))
-  ordinal-returned p h = ap (ordinal W) (returned p h) ∙ joined-ordinal _ (sign W p) (returned-small p)
+  pub ordinal-returned : (rule p : ℕ) → p < 2 ^ W → ordinal W (toleranceRestored W m j (toleranceCode W m rule j p)) ≡ restoredOrdinal m j (magnitudeCode m rule j (ordinal W p))
+  ordinal-returned rule p h = ap (ordinal W) (returned rule p h) ∙ joined-ordinal _ (sign W p) (returned-small rule p)
 
-  pub pattern-returns : (p : ℕ) → p < 2 ^ W → threshold m j ≤ magnitude m (ordinal W p) → toleranceRestored W m j (toleranceCode W m j p) ≡ p
-  pattern-returns p h l = returned p h ∙ ap (λ (o : ℕ). o + sign W p * 2 ^ (W - 1)) (returns-exact m j (ordinal W p) l) ∙ apart p
+  pub pattern-returns : (rule p : ℕ) → p < 2 ^ W → threshold m j ≤ magnitude m (ordinal W p) → toleranceRestored W m j (toleranceCode W m rule j p) ≡ p
+  pattern-returns rule p h l = returned rule p h ∙ ap (λ (o : ℕ). o + sign W p * 2 ^ (W - 1)) (returns-exact m rule j (ordinal W p) l) ∙ apart p
 
-  -- nothing read is lost when written again
-  pub code-returns : (c : ℕ) → c / 2 ≤ largestU W m j → toleranceCode W m j (toleranceRestored W m j c) ≡ c
+  -- nothing read is lost when written again, by either rule
+  pub code-returns : (rule c : ℕ) → c / 2 ≤ largestU W m j → toleranceCode W m rule j (toleranceRestored W m j c) ≡ c
   unfolding toleranceCode
-  code-returns c h =
-      rw (restored-parts c h, joined-ordinal (restoredOrdinal m j (c / 2)) (c % 2) (restored-small (c / 2) h), joined-sign (restoredOrdinal m j (c / 2)) (c % 2) (restored-small (c / 2) h), code-restored m j (c / 2))
+  code-returns rule c h =
+      rw (restored-parts c h, joined-ordinal (restoredOrdinal m j (c / 2)) (c % 2) (restored-small (c / 2) h), joined-sign (restoredOrdinal m j (c / 2)) (c % 2) (restored-small (c / 2) h), code-restored m rule j (c / 2))
       (omega arith)

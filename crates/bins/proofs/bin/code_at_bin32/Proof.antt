@@ -19,7 +19,7 @@ code32-requires c κs = omega (arith, some)
 returns : tie.Need-returns
 returns c =
     let a = c .before .before .args in
-    c .code32 .ensures ∙ ap (λ (j : ℕ). toleranceCode 32 23 j (a .p)) (own-bin 24 (lastBin 32 23) (a .bin) some (c .before .if1 .taken))
+    c .code32 .ensures ∙ ap (λ (j : ℕ). toleranceCode 32 23 (a .halves) j (a .p)) (own-bin 24 (lastBin 32 23) (a .bin) some (c .before .if1 .taken))
 
 clipped32-requires : tie.Need-clipped32-requires
 clipped32-requires c κs = search needs
@@ -32,7 +32,7 @@ code32-requires-2 c κs =
 returns-2 : tie.Need-returns-2
 returns-2 c =
     let f = c .before in
-    c .code322 .ensures ∙ ap (λ (j : ℕ). toleranceCode 32 23 j (f .before .before .args .p)) (f .clipped32 .ensures)
+    c .code322 .ensures ∙ ap (λ (j : ℕ). toleranceCode 32 23 (f .before .before .args .halves) j (f .before .before .args .p)) (f .clipped32 .ensures)
 
 pub code-at-bin32-spec : {M : Type 1} → statement M
 code-at-bin32-spec =

@@ -19,7 +19,7 @@ code64-requires c κs = omega (arith, some)
 returns : tie.Need-returns
 returns c =
     let a = c .before .before .args in
-    c .code64 .ensures ∙ ap (λ (j : ℕ). toleranceCode 64 52 j (a .p)) (own-bin 53 (lastBin 64 52) (a .bin) some (c .before .if1 .taken))
+    c .code64 .ensures ∙ ap (λ (j : ℕ). toleranceCode 64 52 (a .halves) j (a .p)) (own-bin 53 (lastBin 64 52) (a .bin) some (c .before .if1 .taken))
 
 clipped64-requires : tie.Need-clipped64-requires
 clipped64-requires c κs = search needs
@@ -32,7 +32,7 @@ code64-requires-2 c κs =
 returns-2 : tie.Need-returns-2
 returns-2 c =
     let f = c .before in
-    c .code642 .ensures ∙ ap (λ (j : ℕ). toleranceCode 64 52 j (f .before .before .args .p)) (f .clipped64 .ensures)
+    c .code642 .ensures ∙ ap (λ (j : ℕ). toleranceCode 64 52 (f .before .before .args .halves) j (f .before .before .args .p)) (f .clipped64 .ensures)
 
 pub code-at-bin64-spec : {M : Type 1} → statement M
 code-at-bin64-spec =

@@ -55,23 +55,23 @@ add-result : tie.Need-add-result
 unfolding ordinal
 add-result c =
     let f = entry (c .before) in
-    record { fits = far-sum-fits 32 23 (lit≤ tt) (f .args .j) (f .pre .1) (f .args .p) _ _ (sides (c .before)) (c .near32 .result) (c .near32 .ensures) (f .fits .p .fits) }
+    record { fits = far-sum-fits 32 23 (lit≤ tt) (f .args .j) (f .pre .1) (f .args .p) _ _ (sides (c .before)) (f .args .halves) (c .near32 .result) (c .near32 .ensures) (f .fits .p .fits) }
 
 mul-result : tie.Need-mul-result
 unfolding ordinal sign
 mul-result c =
     let f = entry (c .before) in
-    omega (arith, far-code-fits 32 23 (lit≤ tt) (f .args .j) (f .pre .1) (f .args .p) _ _ (sides (c .before)) (c .near32 .result) (c .near32 .ensures) (f .fits .p .fits))
+    omega (arith, far-code-fits 32 23 (lit≤ tt) (f .args .j) (f .pre .1) (f .args .p) _ _ (sides (c .before)) (f .args .halves) (c .near32 .result) (c .near32 .ensures) (f .fits .p .fits))
 
 add-result-2 : tie.Need-add-result-2
 unfolding ordinal sign
 add-result-2 c =
     let f = entry (c .before) in
-    record { fits = far-code-fits 32 23 (lit≤ tt) (f .args .j) (f .pre .1) (f .args .p) _ _ (sides (c .before)) (c .near32 .result) (c .near32 .ensures) (f .fits .p .fits) }
+    record { fits = far-code-fits 32 23 (lit≤ tt) (f .args .j) (f .pre .1) (f .args .p) _ _ (sides (c .before)) (f .args .halves) (c .near32 .result) (c .near32 .ensures) (f .fits .p .fits) }
 
 returns : tie.Need-returns
 unfolding ordinal sign
-returns c = let f = entry (c .before) in far-code 32 23 (lit≤ tt) (f .args .j) (f .pre .1) (f .args .p) _ _ (sides (c .before)) (c .near32 .result) (c .near32 .ensures)
+returns c = let f = entry (c .before) in far-code 32 23 (lit≤ tt) (f .args .j) (f .pre .1) (f .args .p) _ _ (sides (c .before)) (f .args .halves) (c .near32 .result) (c .near32 .ensures)
 
 pub code32-spec : {M : Type 1} → statement M
 code32-spec =

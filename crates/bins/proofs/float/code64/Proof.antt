@@ -56,23 +56,23 @@ add-result : tie.Need-add-result
 unfolding ordinal
 add-result c =
     let f = c .before in
-    record { fits = far-sum-fits 64 52 (lit≤ tt) (f .args .j) (f .pre .1) (f .args .p) _ _ (sides f) (c .near64 .result) (c .near64 .ensures) (f .fits .p .fits) }
+    record { fits = far-sum-fits 64 52 (lit≤ tt) (f .args .j) (f .pre .1) (f .args .p) _ _ (sides f) (f .args .halves) (c .near64 .result) (c .near64 .ensures) (f .fits .p .fits) }
 
 mul-result : tie.Need-mul-result
 unfolding ordinal sign
 mul-result c =
     let f = c .before in
-    omega (arith, far-code-fits 64 52 (lit≤ tt) (f .args .j) (f .pre .1) (f .args .p) _ _ (sides f) (c .near64 .result) (c .near64 .ensures) (f .fits .p .fits))
+    omega (arith, far-code-fits 64 52 (lit≤ tt) (f .args .j) (f .pre .1) (f .args .p) _ _ (sides f) (f .args .halves) (c .near64 .result) (c .near64 .ensures) (f .fits .p .fits))
 
 add-result-2 : tie.Need-add-result-2
 unfolding ordinal sign
 add-result-2 c =
     let f = c .before in
-    record { fits = far-code-fits 64 52 (lit≤ tt) (f .args .j) (f .pre .1) (f .args .p) _ _ (sides f) (c .near64 .result) (c .near64 .ensures) (f .fits .p .fits) }
+    record { fits = far-code-fits 64 52 (lit≤ tt) (f .args .j) (f .pre .1) (f .args .p) _ _ (sides f) (f .args .halves) (c .near64 .result) (c .near64 .ensures) (f .fits .p .fits) }
 
 returns : tie.Need-returns
 unfolding ordinal sign
-returns c = let f = c .before in far-code 64 52 (lit≤ tt) (f .args .j) (f .pre .1) (f .args .p) _ _ (sides f) (c .near64 .result) (c .near64 .ensures)
+returns c = let f = c .before in far-code 64 52 (lit≤ tt) (f .args .j) (f .pre .1) (f .args .p) _ _ (sides f) (f .args .halves) (c .near64 .result) (c .near64 .ensures)
 
 pub code64-spec : {M : Type 1} → statement M
 code64-spec =

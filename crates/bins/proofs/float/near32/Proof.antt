@@ -6,7 +6,7 @@ use native.Mathlib.Omega.{arith}
 use lib.Ieee.{Float, binary32, ofBits}
 use lib.Ieee.Exact.{HasValue}
 use Rattle.bins.specs.Tolerance.{lastBin}
-use Rattle.bins.proofs.Law.Near.{Asked, ordinal-no-nan, factor-no-nan, sum-no-nan, sum-from, some-below, near-below, near-above}
+use Rattle.bins.proofs.Law.Near.{Asked, ordinal-no-nan, factor-no-nan, sum-no-nan, grown-no-nan, sum-from, half-fits, half-no-nan, some-below, near-below, near-above}
 use borrow.Author.Needs.{needs}
 use Rattle.bins.proofs.float.near32.Statement.{statement}
 use Rattle.bins.proofs.float.near32.Tie as tie
@@ -50,14 +50,26 @@ float-to-bits-next c = sum-no-nan (asked c) y value
 sub-next : tie.Need-sub-next
 sub-next c = sum-from (asked c) y value
 
+float-to-bits-if1 : tie.Need-float-to-bits-if1
+float-to-bits-if1 c = grown-no-nan (asked c) y value
+
+odd32-requires : tie.Need-odd32-requires
+odd32-requires c κs = search needs
+
+add-if1 : tie.Need-add-if1
+add-if1 c = omega (arith, half-fits (asked (c .before)) y value (c .before .args .halves) (c .odd32 .result) (c .odd32 .ensures))
+
+float-from-bits-if1 : tie.Need-float-from-bits-if1
+float-from-bits-if1 c = half-no-nan (asked (c .before)) y value (c .before .args .halves) (c .odd32 .result) (c .odd32 .ensures)
+
 sub-result : tie.Need-sub-result
-sub-result c = some-below (asked (c .before)) y value (c .if1 .taken)
+sub-result c = let k = c .before in some-below (asked (k .before)) y value (k .before .args .halves) (k .odd32 .result) (k .odd32 .ensures) (c .if1 .taken)
 
 returns : tie.Need-returns
-returns c = near-below (asked (c .before)) y value (c .if1 .taken)
+returns c = let k = c .before in near-below (asked (k .before)) y value (k .before .args .halves) (k .odd32 .result) (k .odd32 .ensures) (c .if1 .taken)
 
 returns-2 : tie.Need-returns-2
-returns-2 c = near-above (asked (c .before)) y value (c .if1 .left)
+returns-2 c = let k = c .before in near-above (asked (k .before)) y value (k .before .args .halves) (k .odd32 .result) (k .odd32 .ensures) (c .if1 .left)
 
 pub near32-spec : {M : Type 1} → statement M
 near32-spec =
@@ -69,6 +81,10 @@ near32-spec =
     float-from-bits-q-2
     float-to-bits-next
     sub-next
+    float-to-bits-if1
+    odd32-requires
+    add-if1
+    float-from-bits-if1
     sub-result
     returns
     returns-2)

@@ -11,13 +11,13 @@ use Rattle.bins.proofs.whole.magnitude_code32.Statement.{statement}
 use Rattle.bins.proofs.whole.magnitude_code32.Tie as tie
 
 sum-is : (c : tie.After-past322)
-    → c .before .rounded32 .result + c .past322 .result * 2 ^ 23 ≡ magnitudeCode 23 (c .before .before .before .args .j) (c .before .before .before .args .o)
+    → c .before .rounded32 .result + c .past322 .result * 2 ^ 23 ≡ magnitudeCode 23 (c .before .before .before .args .halves) (c .before .before .before .args .j) (c .before .before .before .args .o)
 sum-is c =
     let f = c .before .before .before in
     let o = f .args .o in
     let some = (o / 2 ^ 23 + 255) / 256 in
-    ap₂ (λ (a b : ℕ). a + b * 2 ^ 23) (c .before .rounded32 .ensures ∙ ap (λ (s : ℕ). near s (some * 2 ^ 23 + o % 2 ^ 23)) (c .before .before .past32 .ensures)) (c .past322 .ensures)
-    ∙ code-straight 23 (f .args .j) o some (some-is 256 (o / 2 ^ 23) (omega (arith, f .pre .1)))
+    ap₂ (λ (a b : ℕ). a + b * 2 ^ 23) (c .before .rounded32 .ensures ∙ ap (λ (s : ℕ). near (f .args .halves) s (some * 2 ^ 23 + o % 2 ^ 23)) (c .before .before .past32 .ensures)) (c .past322 .ensures)
+    ∙ code-straight 23 (f .args .j) o (f .args .halves) some (some-is 256 (o / 2 ^ 23) (omega (arith, f .pre .1)))
 
 add-some : tie.Need-add-some
 add-some c = search needs
@@ -59,7 +59,7 @@ unfolding largestU
 add-result c =
     let f = c .before .before .before in
     let a = f .args in
-    omega (arith, sum-is c, code-largest 32 23 (lit≤ tt) (a .j) (f .pre .0) (a .o) (f .pre .1))
+    omega (arith, sum-is c, code-largest 32 23 (lit≤ tt) (a .j) (f .pre .0) (a .halves) (a .o) (f .pre .1))
 
 returns : tie.Need-returns
 returns c = sum-is c

@@ -11,7 +11,7 @@ rounded64-requires : tie.Need-rounded64-requires
 rounded64-requires c κs = search needs
 
 returns : tie.Need-returns
-returns c = c .rounded64 .ensures ∙ plain-is 52 (c .before .before .args .j) (c .before .before .args .o) (c .before .if1 .taken)
+returns c = c .rounded64 .ensures ∙ plain-is 52 (c .before .before .args .j) (c .before .before .args .o) (c .before .before .args .halves) (c .before .if1 .taken)
 
 add-rounded64 : tie.Need-add-rounded64
 unfolding lastBin
@@ -27,7 +27,7 @@ rounded64-requires-2 : tie.Need-rounded64-requires-2
 rounded64-requires-2 c κs = search needs
 
 returns-2 : tie.Need-returns-2
-returns-2 c = c .rounded642 .ensures ∙ led-is 52 (c .before .before .args .j) (c .before .before .args .o) (c .before .if1 .left) (c .before .before .pre .1)
+returns-2 c = c .rounded642 .ensures ∙ led-is 52 (c .before .before .args .j) (c .before .before .args .o) (c .before .before .args .halves) (c .before .if1 .left) (c .before .before .pre .1)
 
 pub nearest64-spec : {M : Type 1} → statement M
 nearest64-spec =

@@ -1,0 +1,114 @@
+-- The whole number nearest to a / b, once over the rule for halves. Every law about distance, exactness and size is here; nothing else asks the rule.
+use mathlib.Core.Path.{_≡_, refl, sym, ap, ap₂, _∙_, subst}
+use mathlib.Core.Logic.{_⊎_, inl, inr}
+use mathlib.Core.Bool.{Bool, true, false, _&&_, cond}
+use Prim.Native.Nat.{ℕ, suc, _+_, _-_, _*_, _/_, _%_, _≤_, _<_}
+use native.Mathlib.Nat.{mul-left-comm, mul-assoc, add-zero, add-mul, suc-mul, zero-mul, mul-pos, mod-lt, mod-le, div-add-mod', div-eq-of-lt, mul-lt-mul-of-pos-right, lt-of-lt-of-le, le-of-eq}
+use native.Mathlib.Omega.{arith}
+use borrow.Author.Tests.{eq-eqb, ne-eqb, eqb-true}
+use lib.Arith.{digits-div, digits-mod}
+use lib.Dec.{eqb}
+use Rattle.bins.specs.Tolerance.{upper, halfway, nearest}
+use Rattle.bins.proofs.Law.Number.{le-or-lt}
+
+-- u and r are the whole part and the rest of a / b + 1/2, in units of 1 / 2b
+pub nearest-by : (rule a b u r : ℕ) → u * (2 * b) + r ≡ 2 * a + b → r < 2 * b → nearest rule a b ≡ cond (eqb rule 1 && eqb r 0) (u - u % 2) u
+unfolding nearest upper halfway
+nearest-by rule a b u r e l =
+    ap₂ (λ (n k : ℕ). cond (eqb rule 1 && eqb k 0) (n - n % 2) n) (ap (λ (n : ℕ). n / (2 * b)) (sym e) ∙ digits-div u l) (ap (λ (n : ℕ). n % (2 * b)) (sym e) ∙ digits-mod u l)
+
+module _ (rule a b : ℕ) (some : 0 < b) where
+  abbrev u : ℕ
+  u = (2 * a + b) / (2 * b)
+
+  abbrev r : ℕ
+  r = (2 * a + b) % (2 * b)
+
+  parts : u * (2 * b) + r ≡ 2 * a + b
+  parts = div-add-mod' (2 * a + b) (2 * b)
+
+  rest : r < 2 * b
+  rest = mod-lt (2 * a + b) (omega arith)
+
+  -- It is the upper one, or that less 1: then the upper one is half of b too large.
+  abbrev Either : ℕ → Type 0
+  Either n = (n ≡ u) ⊎ ((suc n ≡ u) × (r ≡ 0))
+
+  either : Either (nearest rule a b)
+  either = subst Either (sym (nearest-by rule a b u r parts rest)) (go (eqb rule 1) (eqb r 0) refl)
+    where
+      parity : r ≡ 0 → (u % 2 ≤ 0) ⊎ (0 < u % 2) → Either (u - u % 2)
+      parity z (inl e) = inl (omega arith)
+      parity z (inr e) = inr (omega arith, z)
+
+      go : (even half : Bool) → eqb r 0 ≡ half → Either (cond (even && half) (u - u % 2) u)
+      go true true e = parity (eqb-true r 0 e) (le-or-lt (u % 2) 0)
+      go true false e = inl refl
+      go false half e = inl refl
+
+  -- twice the distance between a and so many b is at most b
+  pub nearest-close : (2 * a ≤ 2 * (nearest rule a b * b) + b) × (2 * (nearest rule a b * b) ≤ 2 * a + b)
+  nearest-close = go (nearest rule a b) either
+    where
+      go : (n : ℕ) → Either n → (2 * a ≤ 2 * (n * b) + b) × (2 * (n * b) ≤ 2 * a + b)
+      go n (inl e) = let p : n * (2 * b) + r ≡ 2 * a + b = rw e parts in (omega (arith, p, rest, mul-left-comm n 2 b), omega (arith, p, mul-left-comm n 2 b))
+      go n (inr e) =
+          let p : suc n * (2 * b) + r ≡ 2 * a + b = rw (e .0) parts in
+          (omega (arith, p, e .1, suc-mul n (2 * b), mul-left-comm n 2 b), omega (arith, p, suc-mul n (2 * b), mul-left-comm n 2 b))
+
+  pub nearest-most : nearest rule a b ≤ u
+  nearest-most = go (nearest rule a b) either
+    where
+      go : (n : ℕ) → Either n → n ≤ u
+      go n (inl e) = omega arith
+      go n (inr e) = omega (arith, e .0)
+
+  -- less than a half is nearest to 0
+  pub nearest-none : 2 * a < b → nearest rule a b ≡ 0
+  nearest-none h = let e : u ≡ 0 = div-eq-of-lt (omega arith) in omega (arith, nearest-most)
+
+  -- a common factor changes nothing
+  pub nearest-scaled : (d : ℕ) → 0 < d → nearest rule (a * d) (b * d) ≡ nearest rule a b
+  nearest-scaled d h =
+      nearest-by rule (a * d) (b * d) u (r * d)
+      (ap (λ (n : ℕ). n + r * d) (ap (λ (n : ℕ). u * n) (sym (mul-assoc 2 b d)) ∙ sym (mul-assoc u (2 * b) d)) ∙ sym (add-mul (u * (2 * b)) r d) ∙ ap (λ (n : ℕ). n * d) parts ∙ add-mul (2 * a) b d
+      ∙ ap (λ (n : ℕ). n + b * d) (mul-assoc 2 a d))
+      (lt-of-lt-of-le (mul-lt-mul-of-pos-right rest h) (le-of-eq (mul-assoc 2 b d)))
+      ∙ ap (λ (t : Bool). cond (eqb rule 1 && t) (u - u % 2) u) (none (le-or-lt r 0)) ∙ sym (nearest-by rule a b u r parts rest)
+    where
+      none : (r ≤ 0) ⊎ (0 < r) → eqb (r * d) 0 ≡ eqb r 0
+      none (inl z) = let e : r ≡ 0 = omega arith in eq-eqb (r * d) 0 (rw e (zero-mul d)) ∙ sym (eq-eqb r 0 e)
+      none (inr z) = ne-eqb (r * d) 0 (λ (e : r * d ≡ 0). omega (arith, mul-pos z h)) ∙ sym (ne-eqb r 0 (λ (e : r ≡ 0). omega arith))
+
+-- ---- as code finds it
+
+-- what a whole number is above the even one that halves go to, if they do
+abbrev pub over : ℕ → ℕ → ℕ
+over rule n = cond (eqb rule 1) (n % 2) 0
+
+pub over-small : (rule n : ℕ) → (over rule n ≤ 1) × (over rule n ≤ n)
+over-small rule n = go (eqb rule 1)
+  where
+    go : (b : Bool) → (cond b (n % 2) 0 ≤ 1) × (cond b (n % 2) 0 ≤ n)
+    go true = (omega arith, mod-le n 2)
+    go false = (omega arith, omega arith)
+
+-- at a half u is the upper one
+pub nearest-half : (rule a b u : ℕ) → 0 < b → u * (2 * b) ≡ 2 * a + b → u - over rule u ≡ nearest rule a b
+nearest-half rule a b u some e = go (eqb rule 1) ∙ sym (nearest-by rule a b u 0 (add-zero (u * (2 * b)) ∙ e) (omega arith))
+  where
+    go : (t : Bool) → u - cond t (u % 2) 0 ≡ cond (t && eqb 0 0) (u - u % 2) u
+    go true = refl
+    go false = let e : u - 0 ≡ u = omega arith in e
+
+-- and elsewhere it is the nearest by either rule
+pub nearest-other : (rule a b u r : ℕ) → u * (2 * b) + r ≡ 2 * a + b → 0 < r → r < 2 * b → u ≡ nearest rule a b
+nearest-other rule a b u r e some l = sym (nearest-by rule a b u r e l ∙ rw (ne-eqb r 0 (λ (z : r ≡ 0). omega arith)) (left (eqb rule 1)))
+  where
+    left : (t : Bool) → cond (t && false) (u - u % 2) u ≡ u
+    left true = refl
+    left false = refl
+
+-- u whole b are nearest to u
+pub nearest-exact : (rule b u : ℕ) → 0 < b → nearest rule (u * b) b ≡ u
+nearest-exact rule b u some = sym (nearest-other rule (u * b) b u b (ap (λ (n : ℕ). n + b) (mul-left-comm u 2 b)) some (omega arith))
