@@ -17,7 +17,7 @@ unfolding losslessCode folded signedView stepped lowered minus field rotated los
 right r =
     cond (eqb (r .0) 0)
     (eqb (losslessCode (r .1) (r .2) (r .4)) (r .5) && eqb (losslessRestored (r .1) (r .2) (r .5)) (r .6))
-    (toleranceRight (r .1, r .2, r .3, r .4, r .5, r .6))
+    (toleranceRight (r .1, r .2, 0, r .3, r .4, r .5, r .6))
 
 markedRows : List (ℕ × ℕ × ℕ × ℤ × ℕ × ℕ × ℕ)
 markedRows =
@@ -41,6 +41,33 @@ markedRows =
 marked-values : wrong right markedRows ≡ []
 unfolding wrong right markedRows
 marked-values = refl
+
+-- The same halves by the rule of document 02, R-7, and others: at k = -2 0.25 goes to 0, -0.75 stays at -1.0 and 4194303.75 at 4194304, 0.75 - 2^-24 and 0.25 + 2^-26
+-- are no halves; -1.25 goes to -1.0, and infinity to itself. At the smallest k, of a bin below the floats' own (k = -150), the smallest number and thrice that
+-- are bins, not halves; at k = -149 the smallest number is a half and goes to 0, and thrice that to 4 of it. Width 64: 0.25 and 0.75 at k = -2.
+evenRows : List (ℕ × ℕ × ℕ × ℤ × ℕ × ℕ × ℕ)
+evenRows =
+    (32, 23, 1, negsuc 1, 0x3E800000, 0, 0x00000000)
+    ∷ (32, 23, 1, negsuc 1, 0xBF400000, 5, 0xBF800000)
+    ∷ (32, 23, 1, negsuc 1, 0x4A7FFFFF, 16777216, 0x4A800000)
+    ∷ (32, 23, 1, negsuc 1, 0x3F3FFFFF, 2, 0x3F000000)
+    ∷ (32, 23, 1, negsuc 1, 0x3E800001, 2, 0x3F000000)
+    ∷ (32, 23, 1, negsuc 1, 0xBFA00000, 5, 0xBF800000)
+    ∷ (32, 23, 0, negsuc 1, 0xBFA00000, 7, 0xBFC00000)
+    ∷ (32, 23, 1, negsuc 1, 0x7F800000, 1795162112, 0x7F800000)
+    ∷ (32, 23, 1, negsuc 149, 0x00000001, 2, 0x00000001)
+    ∷ (32, 23, 1, negsuc 149, 0x00000003, 6, 0x00000003)
+    ∷ (32, 23, 1, negsuc 148, 0x00000001, 0, 0x00000000)
+    ∷ (32, 23, 0, negsuc 148, 0x00000001, 2, 0x00000002)
+    ∷ (32, 23, 1, negsuc 148, 0x00000003, 4, 0x00000004)
+    ∷ (64, 52, 1, negsuc 1, 0x3FD0000000000000, 0, 0x0000000000000000)
+    ∷ (64, 52, 1, negsuc 1, 0x3FE8000000000000, 4, 0x3FF0000000000000)
+    ∷ (64, 52, 0, negsuc 1, 0x3FD0000000000000, 2, 0x3FE0000000000000)
+    ∷ []
+
+even-values : wrong toleranceRight evenRows ≡ []
+unfolding wrong toleranceRight evenRows
+even-values = refl
 
 -- ---- "In effect exponent 0 stays 0, and in single precision 1..128 become -128..-1 and 129..255 become 1..127; in double, 1..1024 become
 -- -1024..-1 and 1025..2047 become 1..1023": the code of the pattern with the exponent e and nothing else, for every e

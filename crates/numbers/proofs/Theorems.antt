@@ -21,7 +21,7 @@ use Rattle.numbers.specs.Answers.{codeAnswer, patternAnswer}
 use Rattle.numbers.specs.Signed.{signedView}
 use Rattle.numbers.specs.Lossless.{field, stepped, losslessCode, unstepped, losslessRestored}
 use Rattle.numbers.specs.Difference.{differenceCode, differenceCodes, differenceRestored, runningSums, lastOf}
-use Rattle.bins.specs.Tolerance.{kOffset, lastBin, allowedK, binOf, sign, ordinal, magnitude, restoredOrdinal, toleranceCode, toleranceRestored, largestU}
+use Rattle.bins.specs.Tolerance.{kOffset, lastBin, allowedK, binOf, knownHalves, sign, ordinal, magnitude, restoredOrdinal, toleranceCode, toleranceRestored, largestU}
 use Rattle.bins.specs.Answers.{binAnswer}
 use Rattle.numbers.specs.Bound.{isTolerance, exponentOf, notAbove, boundAt}
 use Rattle.numbers.specs.Theorem.{Format, distance, Within, IsBound, Returned, BoundFor}
@@ -220,7 +220,7 @@ module _ (W m : ℕ) (format : Format W m) where
 
   -- A code has W bits, and so has a pattern that is restored, at every bin.
   module _ (j : ℕ) (in-range : j ≤ lastBin W m) where
-    pub tolerance-code-has-W-bits : (p : ℕ) → p < 2 ^ W → toleranceCode W m j p < 2 ^ W
+    pub tolerance-code-has-W-bits : (rule p : ℕ) → p < 2 ^ W → toleranceCode W m rule j p < 2 ^ W
     tolerance-code-has-W-bits = Tolerance.code-under W m (format .room) j in-range
 
     pub tolerance-pattern-has-W-bits : (c : ℕ) → toleranceRestored W m j c < 2 ^ W
@@ -231,62 +231,71 @@ module _ (W m : ℕ) (format : Format W m) where
     tolerance-zero = Tolerance.restored-zero W m (format .room) j in-range
 
     -- "The largest u": no pattern has a larger one ..
-    pub no-u-is-larger : (p : ℕ) → p < 2 ^ W → toleranceCode W m j p / 2 ≤ largestU W m j
+    pub no-u-is-larger : (rule p : ℕ) → p < 2 ^ W → toleranceCode W m rule j p / 2 ≤ largestU W m j
     unfolding ordinal
-    no-u-is-larger p h =
-        rw (Tolerance.code-half W m (format .room) j in-range p h)
-        (Tolerance.code-largest W m (format .room) j in-range (ordinal W p) (mod-lt p (pow-pos (W - 1))))
+    no-u-is-larger rule p h =
+        rw (Tolerance.code-half W m (format .room) j in-range rule p h)
+        (Tolerance.code-largest W m (format .room) j in-range rule (ordinal W p) (mod-lt p (pow-pos (W - 1))))
 
-  -- a k that has a code is allowed
-  pub a-coded-k-is-allowed : (k : ℤ) (p c : ℕ) → codeAnswer W m k p ≡ code.Code c → allowedK W m k ≡ true
-  unfolding codeAnswer
-  a-coded-k-is-allowed k p c e = go (allowedK W m k) refl
-    where
-      go : (b : Bool) → allowedK W m k ≡ b → allowedK W m k ≡ true
-      go true is = is
-      go false is = let z : code.NotAllowed ≡ code.Code c = rw is at e in cc
+  -- a rule that has a code is known, and a k that has one is allowed
+  module _ (rule : ℕ) (k : ℤ) (p c : ℕ) (e : codeAnswer W m rule k p ≡ code.Code c) where
+    pub a-coded-rule-is-known : knownHalves rule ≡ true
+    unfolding codeAnswer
+    a-coded-rule-is-known = go (knownHalves rule) refl
+      where
+        go : (b : Bool) → knownHalves rule ≡ b → knownHalves rule ≡ true
+        go true is = is
+        go false is = let z : code.NotAllowed ≡ code.Code c = rw is at e in cc
+
+    pub a-coded-k-is-allowed : allowedK W m k ≡ true
+    unfolding codeAnswer
+    a-coded-k-is-allowed = go (allowedK W m k) refl
+      where
+        go : (b : Bool) → allowedK W m k ≡ b → allowedK W m k ≡ true
+        go true is = is
+        go false is = let z : code.NotAllowed ≡ code.Code c = rw (a-coded-rule-is-known, is) at e in cc
 
   module _ (k : ℤ) (is-allowed : allowedK W m k ≡ true) where
     pub an-allowed-k-has-a-bin : binOf W m k ≤ lastBin W m
     an-allowed-k-has-a-bin = bin-small W m k (format .least) (format .order) is-allowed
 
     -- Demand 2: under tolerance 2^k, a value whose magnitude is below the threshold returns at most 2^k off, exactly; all else returns bit
-    -- for bit.
-    pub every-pattern-returns-within : (p : ℕ) → p < 2 ^ W
-        → Within W m (binOf W m k) p (toleranceRestored W m (binOf W m k) (toleranceCode W m (binOf W m k) p))
+    -- for bit. By either rule for halves.
+    pub every-pattern-returns-within : (rule p : ℕ) → p < 2 ^ W
+        → Within W m (binOf W m k) p (toleranceRestored W m (binOf W m k) (toleranceCode W m rule (binOf W m k) p))
     unfolding distance
-    every-pattern-returns-within p h =
+    every-pattern-returns-within rule p h =
         let j = binOf W m k in
         record {
-          signed = Tolerance.sign-returns W m (format .room) j an-allowed-k-has-a-bin p h;
+          signed = Tolerance.sign-returns W m (format .room) j an-allowed-k-has-a-bin rule p h;
           close = λ l.
-              rw (Tolerance.ordinal-returned W m (format .room) j an-allowed-k-has-a-bin p h)
-              (let near = Tolerance.returns-close m j (ordinal W p) l in omega (arith, near .0, near .1));
-          exact = Tolerance.pattern-returns W m (format .room) j an-allowed-k-has-a-bin p h;
+              rw (Tolerance.ordinal-returned W m (format .room) j an-allowed-k-has-a-bin rule p h)
+              (let near = Tolerance.returns-close m rule j (ordinal W p) l in omega (arith, near .0, near .1));
+          exact = Tolerance.pattern-returns W m (format .room) j an-allowed-k-has-a-bin rule p h;
         }
 
     -- so of the answers for a k: a pattern's code is restored within the tolerance
-    pub a-code-is-restored : (p c : ℕ) → p < 2 ^ W → codeAnswer W m k p ≡ code.Code c
+    pub a-code-is-restored : (rule p c : ℕ) → p < 2 ^ W → codeAnswer W m rule k p ≡ code.Code c
         → (q : ℕ) × (patternAnswer W m k c ≡ pattern.Pattern q) × Within W m (binOf W m k) p q
     unfolding codeAnswer patternAnswer
-    a-code-is-restored p c h e =
-        let coded : code.Code (toleranceCode W m (binOf W m k) p) ≡ code.Code c = rw is-allowed at e in
-        let is : toleranceCode W m (binOf W m k) p ≡ c = cc in
-        let least : c / 2 ≤ largestU W m (binOf W m k) = subst (λ (c : ℕ). c / 2 ≤ largestU W m (binOf W m k)) is (no-u-is-larger (binOf W m k) an-allowed-k-has-a-bin p h) in (
+    a-code-is-restored rule p c h e =
+        let coded : code.Code (toleranceCode W m rule (binOf W m k) p) ≡ code.Code c = rw (a-coded-rule-is-known rule k p c e, is-allowed) at e in
+        let is : toleranceCode W m rule (binOf W m k) p ≡ c = cc in
+        let least : c / 2 ≤ largestU W m (binOf W m k) = subst (λ (c : ℕ). c / 2 ≤ largestU W m (binOf W m k)) is (no-u-is-larger (binOf W m k) an-allowed-k-has-a-bin rule p h) in (
           toleranceRestored W m (binOf W m k) c,
           rw (is-allowed, le-leb (c / 2) (largestU W m (binOf W m k)) least),
-          subst (λ (c : ℕ). Within W m (binOf W m k) p (toleranceRestored W m (binOf W m k) c)) is (every-pattern-returns-within p h),
+          subst (λ (c : ℕ). Within W m (binOf W m k) p (toleranceRestored W m (binOf W m k) c)) is (every-pattern-returns-within rule p h),
         )
 
     -- infinities and not-a-numbers too: their ordinals are those from the largest exponent on
-    pub specials-return : (p : ℕ) → p < 2 ^ W → (2 ^ (W - 1 - m) - 1) * 2 ^ m ≤ ordinal W p
-        → toleranceRestored W m (binOf W m k) (toleranceCode W m (binOf W m k) p) ≡ p
-    specials-return p h l =
-        Tolerance.pattern-returns W m (format .room) (binOf W m k) an-allowed-k-has-a-bin p h (Tolerance.special-above W m (format .room) (binOf W m k) an-allowed-k-has-a-bin (ordinal W p) l)
+    pub specials-return : (rule p : ℕ) → p < 2 ^ W → (2 ^ (W - 1 - m) - 1) * 2 ^ m ≤ ordinal W p
+        → toleranceRestored W m (binOf W m k) (toleranceCode W m rule (binOf W m k) p) ≡ p
+    specials-return rule p h l =
+        Tolerance.pattern-returns W m (format .room) (binOf W m k) an-allowed-k-has-a-bin rule p h (Tolerance.special-above W m (format .room) (binOf W m k) an-allowed-k-has-a-bin (ordinal W p) l)
 
     -- .. and each u up to it is that of the pattern it restores
-    pub nothing-read-is-lost : (c : ℕ) → c / 2 ≤ largestU W m (binOf W m k)
-        → toleranceCode W m (binOf W m k) (toleranceRestored W m (binOf W m k) c) ≡ c
+    pub nothing-read-is-lost : (rule c : ℕ) → c / 2 ≤ largestU W m (binOf W m k)
+        → toleranceCode W m rule (binOf W m k) (toleranceRestored W m (binOf W m k) c) ≡ c
     nothing-read-is-lost = Tolerance.code-returns W m (format .room) (binOf W m k) an-allowed-k-has-a-bin
 
     -- "Restored: u·E if u < 2^m", and at u = 2^m the threshold, which is 2^m·E: the magnitude, and the sign beside it

@@ -1,11 +1,11 @@
-// Tolerance code (mode 1) under a tolerance 2^k: a k that is not allowed, and a code whose u is above the largest, are refused here, before
-// the rule at a bin (`bins`) is asked.
+// Tolerance code (mode 1) under a tolerance 2^k: a rule for halves that is not known, a k that is not allowed, and a code whose u is above the largest, are
+// refused here, before the rule at a bin (`bins`) is asked.
 ghost use mathlib.Core.Path.{_≡_};
 ghost use Rattle.numbers.specs.Answers.{codeAnswer, patternAnswer};
 use bins::bin;
 use bins::bin::BinAnswer;
 
-// A code, in the lowest bits, or the refusal of a k that is not allowed.
+// A code, in the lowest bits, or the refusal of a rule or a k that is not allowed.
 pub enum CodeAnswer {
     Code(u64),
     NotAllowed,
@@ -18,23 +18,29 @@ pub enum PatternAnswer {
     AboveLargest,
 }
 
-// The tolerance code of a binary32 pattern under the tolerance 2^k.
-pub fn code32(k: i32, p: u32) -> CodeAnswer
-    ensures { λ r. ⌜ r ≡ codeAnswer 32 23 k p ⌝ }
+// The tolerance code of a binary32 pattern under the tolerance 2^k, a half going away from zero (0) or to even (1).
+pub fn code32(halves: u32, k: i32, p: u32) -> CodeAnswer
+    ensures { λ r. ⌜ r ≡ codeAnswer 32 23 halves k p ⌝ }
 {
+    if 1 < halves {
+        return CodeAnswer::NotAllowed;
+    }
     let b = bin::bin32(k);
     match b {
-        BinAnswer::Bin(j) => CodeAnswer::Code(bin::code_at_bin32(j, p) as u64),
+        BinAnswer::Bin(j) => CodeAnswer::Code(bin::code_at_bin32(halves, j, p) as u64),
         BinAnswer::NotAllowed => CodeAnswer::NotAllowed,
     }
 }
 
-pub fn code64(k: i32, p: u64) -> CodeAnswer
-    ensures { λ r. ⌜ r ≡ codeAnswer 64 52 k p ⌝ }
+pub fn code64(halves: u32, k: i32, p: u64) -> CodeAnswer
+    ensures { λ r. ⌜ r ≡ codeAnswer 64 52 halves k p ⌝ }
 {
+    if 1 < halves {
+        return CodeAnswer::NotAllowed;
+    }
     let b = bin::bin64(k);
     match b {
-        BinAnswer::Bin(j) => CodeAnswer::Code(bin::code_at_bin64(j, p)),
+        BinAnswer::Bin(j) => CodeAnswer::Code(bin::code_at_bin64(halves, j, p)),
         BinAnswer::NotAllowed => CodeAnswer::NotAllowed,
     }
 }

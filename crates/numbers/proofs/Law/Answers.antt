@@ -4,7 +4,7 @@ use Prim.Native.Nat.{ℕ, _/_, _≤_, _<_}
 use borrow.Author.Tests.{le-leb, lt-leb}
 use lib.IntN.{ℤ}
 use Rattle.bins.specs.declared.bin.BinAnswer.the-variants as bin
-use Rattle.bins.specs.Tolerance.{allowedK, toleranceCode, toleranceRestored, largestU}
+use Rattle.bins.specs.Tolerance.{allowedK, knownHalves, toleranceCode, toleranceRestored, largestU}
 use Rattle.bins.specs.Answers.{binAnswer}
 use Rattle.bins.proofs.Law.Answers.{allowed, bin-is, refused-is}
 use Rattle.numbers.specs.declared.tolerance.CodeAnswer.the-variants as code
@@ -12,10 +12,14 @@ use Rattle.numbers.specs.declared.tolerance.PatternAnswer.the-variants a
 use Rattle.numbers.specs.Answers.{codeAnswer, patternAnswer}
 
 module _ (W m : ℕ) (k : ℤ) where
+  pub no-rule : (rule p : ℕ) → 1 < rule → codeAnswer W m rule k p ≡ code.NotAllowed
+  unfolding codeAnswer knownHalves
+  no-rule rule p unknown = rw (lt-leb rule 1 unknown)
+
   module _ (j : ℕ) (is : binAnswer W m k ≡ bin.Bin j) where
-    pub code-is : (p : ℕ) → codeAnswer W m k p ≡ code.Code (toleranceCode W m j p)
-    unfolding codeAnswer
-    code-is p = rw (allowed W m k j is, bin-is W m k j is)
+    pub code-is : (rule p : ℕ) → rule ≤ 1 → codeAnswer W m rule k p ≡ code.Code (toleranceCode W m rule j p)
+    unfolding codeAnswer knownHalves
+    code-is rule p known = rw (le-leb rule 1 known, allowed W m k j is, bin-is W m k j is)
 
     pub pattern-is : (c : ℕ) → c / 2 ≤ largestU W m j → patternAnswer W m k c ≡ pattern.Pattern (toleranceRestored W m j c)
     unfolding patternAnswer
@@ -26,9 +30,9 @@ module _ (W m : ℕ) (k : ℤ) where
     above-is c h = rw (allowed W m k j is, bin-is W m k j is, lt-leb (c / 2) (largestU W m j) h)
 
   module _ (is : binAnswer W m k ≡ bin.NotAllowed) where
-    pub no-code : (p : ℕ) → codeAnswer W m k p ≡ code.NotAllowed
-    unfolding codeAnswer
-    no-code p = rw (refused-is W m k (allowedK W m k) refl is)
+    pub no-code : (rule p : ℕ) → rule ≤ 1 → codeAnswer W m rule k p ≡ code.NotAllowed
+    unfolding codeAnswer knownHalves
+    no-code rule p known = rw (le-leb rule 1 known, refused-is W m k (allowedK W m k) refl is)
 
     pub no-pattern : (c : ℕ) → patternAnswer W m k c ≡ pattern.NotAllowed
     unfolding patternAnswer

@@ -5,10 +5,13 @@ use lib.Dec.{lit<, lit≤}
 use Rattle.numbers.specs.declared.tolerance.CodeAnswer.the-variants.{Code}
 use Rattle.bins.specs.Tolerance.{kOffset, lastBin, toleranceCode}
 use Rattle.bins.proofs.Law.Answers.{answered, unclipped}
-use Rattle.numbers.proofs.Law.Answers.{code-is, no-code}
+use Rattle.numbers.proofs.Law.Answers.{no-rule, code-is, no-code}
 use borrow.Author.Needs.{needs}
 use Rattle.numbers.proofs.tolerance.code32.Statement.{statement}
 use Rattle.numbers.proofs.tolerance.code32.Tie as tie
+
+returns : tie.Need-returns
+returns c = sym (no-rule 32 23 _ (c .before .args .halves) (c .before .args .p) (c .if1 .taken))
 
 bin32-requires : tie.Need-bin32-requires
 bin32-requires c κs = search needs
@@ -19,29 +22,30 @@ enum-known-b c = search needs
 code-at-bin32-requires : tie.Need-code-at-bin32-requires
 code-at-bin32-requires c κs = search needs
 
-cast-t7 : tie.Need-cast-t7
-cast-t7 c = search needs
+cast-t9 : tie.Need-cast-t9
+cast-t9 c = search needs
 
 enum-told : tie.Need-enum-told
 enum-told c = search needs
 
-returns : tie.Need-returns
-unfolding kOffset lastBin
-returns c =
-    ap Code (c .code-at-bin32 .ensures ∙ ap (λ (j : ℕ). toleranceCode 32 23 j (c .before .before .before .before .before .args .p)) (unclipped 32 23 (c .before .before .before .before .before .args .k) _ (answered 32 23 (c .before .before .before .before .before .args .k) (c .before .before .before .before .before .fits .k) (c .before .before .before .before .bin32 .result) _ (c .before .before .before .before .bin32 .ensures) (c .before .before .b .given .1)) (lit< tt) (lit≤ tt)))
-    ∙ sym (code-is 32 23 (c .before .before .before .before .before .args .k) _ (answered 32 23 (c .before .before .before .before .before .args .k) (c .before .before .before .before .before .fits .k) (c .before .before .before .before .bin32 .result) _ (c .before .before .before .before .bin32 .ensures) (c .before .before .b .given .1)) (c .before .before .before .before .before .args .p))
-
 returns-2 : tie.Need-returns-2
-returns-2 c = sym (no-code 32 23 (c .before .before .before .args .k) (answered 32 23 (c .before .before .before .args .k) (c .before .before .before .fits .k) (c .before .before .bin32 .result) _ (c .before .before .bin32 .ensures) (c .enum-told .given .1)) (c .before .before .before .args .p))
+unfolding kOffset lastBin
+returns-2 c =
+    ap Code (c .code-at-bin32 .ensures ∙ ap (λ (j : ℕ). toleranceCode 32 23 (c .before .before .before .before .before .before .args .halves) j (c .before .before .before .before .before .before .args .p)) (unclipped 32 23 (c .before .before .before .before .before .before .args .k) _ (answered 32 23 (c .before .before .before .before .before .before .args .k) (c .before .before .before .before .before .before .fits .k) (c .before .before .before .before .bin32 .result) _ (c .before .before .before .before .bin32 .ensures) (c .before .before .b .given .1)) (lit< tt) (lit≤ tt)))
+    ∙ sym (code-is 32 23 (c .before .before .before .before .before .before .args .k) _ (answered 32 23 (c .before .before .before .before .before .before .args .k) (c .before .before .before .before .before .before .fits .k) (c .before .before .before .before .bin32 .result) _ (c .before .before .before .before .bin32 .ensures) (c .before .before .b .given .1)) (c .before .before .before .before .before .before .args .halves) (c .before .before .before .before .before .before .args .p) (c .before .before .before .before .before .if1 .left))
+
+returns-3 : tie.Need-returns-3
+returns-3 c = sym (no-code 32 23 (c .before .before .before .before .args .k) (answered 32 23 (c .before .before .before .before .args .k) (c .before .before .before .before .fits .k) (c .before .before .bin32 .result) _ (c .before .before .bin32 .ensures) (c .enum-told .given .1)) (c .before .before .before .before .args .halves) (c .before .before .before .before .args .p) (c .before .before .before .if1 .left))
 
 pub code32-spec : {M : Type 1} → statement M
 code32-spec =
     tie.close
     (tie.spec
+    returns
     bin32-requires
     enum-known-b
     code-at-bin32-requires
-    cast-t7
+    cast-t9
     enum-told
-    returns
-    returns-2)
+    returns-2
+    returns-3)
