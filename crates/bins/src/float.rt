@@ -9,6 +9,7 @@ ghost use Prim.Native.Nat.{_*_, _^_, _≤_, _<_};
 ghost use lib.Dec.{ltb};
 ghost use Rattle.bins.specs.Tolerance.{lastBin, near, magnitude, ordinalOf, thresholdOrdinal, restoredOrdinal, toleranceCode};
 use crate::halves;
+use std::num;
 
 // The first bin whose half is a normal float.
 pub(crate) const FIRST32: u32 = 24;
@@ -17,7 +18,8 @@ pub(crate) const FIRST64: u32 = 53;
 
 // The bins nearest to an ordinal below that of T. q = |v| / E is exact, or so small that it is nearest to 0. Its sum r with 2^23 - 1/2 is
 // one of two neighbours, whichever way the machine rounds. t, what r has grown by, is exact, so that q < t tells which one it is.
-// q = t is the half. Where that is to go down, q is compared with the float behind t: no other q lies between the two.
+// q = t is the half. Where that is to go down from an odd `next`, q is compared with the float behind t: no other q lies between the two. (`next` is odd where
+// the pattern of r is even, which is the shorter way to tell.)
 fn near32(halves: u32, j: u32, o: u32) -> u32
     requires { ⌜ (o < thresholdOrdinal 23 j) × (24 ≤ j) × (j ≤ lastBin 32 23) ⌝ }
     ensures { λ u. ⌜ u ≡ near halves j (magnitude 23 o) ⌝ }
@@ -26,7 +28,7 @@ fn near32(halves: u32, j: u32, o: u32) -> u32
     let r = q + 8388607.5;
     let t = r - 8388607.5;
     let next = f32::to_bits(r) - 0x4AFF_FFFF;
-    if q < f32::from_bits(f32::to_bits(t) + halves::odd32(halves, next)) { next - 1 } else { next }
+    if q < f32::from_bits(f32::to_bits(t) + halves::odd32(halves, f32::to_bits(r) + 1)) { next - 1 } else { next }
 }
 
 fn near64(halves: u32, j: u64, o: u64) -> u64
@@ -37,7 +39,14 @@ fn near64(halves: u32, j: u64, o: u64) -> u64
     let r = q + 4503599627370495.5;
     let t = r - 4503599627370495.5;
     let next = f64::to_bits(r) - 0x432F_FFFF_FFFF_FFFF;
-    if q < f64::from_bits(f64::to_bits(t) + halves::odd64(halves, next)) { next - 1 } else { next }
+    if q < f64::from_bits(f64::to_bits(t) + halves::odd64(halves, f64::to_bits(r) + 1)) { next - 1 } else { next }
+}
+
+// o where it is below t, and else nothing.
+fn below32(o: u32, t: u32) -> u32
+    ensures { λ r. ⌜ r ≡ cond (ltb o t) o 0 ⌝ }
+{
+    if o < t { o } else { 0 }
 }
 
 // x where o is not below t, and else nothing.
@@ -47,16 +56,16 @@ fn from32(o: u32, t: u32, x: u32) -> u32
     if o < t { 0 } else { x }
 }
 
-// The code of a pattern, both sides of T at once: from T on `far` is the ordinal, and nothing is left to round.
+// The code of a pattern, both sides of T at once: from T on `rest` is the ordinal's place above the bins, and 0 is left to round. (Below T the difference
+// wraps around, and is not used.)
 pub(crate) fn code32(halves: u32, j: u32, p: u32) -> u32
     requires { ⌜ (24 ≤ j) × (j ≤ lastBin 32 23) ⌝ }
     ensures { λ c. ⌜ c ≡ toleranceCode 32 23 halves j p ⌝ }
 {
     let o = p % 0x8000_0000;
     let t = (j + 1) * 0x0080_0000;
-    let far = from32(o, t, o);
-    let place = from32(o, t, j * 0x0080_0000);
-    2 * (near32(halves, j, o - far) + (far - place)) + p / 0x8000_0000
+    let rest = from32(o, t, num::wrapping_sub_u32(o, j * 0x0080_0000));
+    2 * (near32(halves, j, below32(o, t)) + rest) + p / 0x8000_0000
 }
 
 // At width 64 plain x86-64 compares no lanes: `all` has every bit from T on and none below.
@@ -65,10 +74,10 @@ pub(crate) fn code64(halves: u32, j: u64, p: u64) -> u64
     ensures { λ c. ⌜ c ≡ toleranceCode 64 52 halves j p ⌝ }
 {
     let o = p % 0x8000_0000_0000_0000;
-    let all = (o / 0x0010_0000_0000_0000 + (2047 - j)) / 2048 * 0xFFFF_FFFF_FFFF_FFFF;
-    let far = o & all;
-    let place = (j * 0x0010_0000_0000_0000) & all;
-    2 * (near64(halves, j, o - far) + (far - place)) + p / 0x8000_0000_0000_0000
+    let room = 0x8000_0000_0000_0000 - (j + 1) * 0x0010_0000_0000_0000;
+    let all = (o + room) / 0x8000_0000_0000_0000 * 0xFFFF_FFFF_FFFF_FFFF;
+    let rest = num::wrapping_sub_u64(o, j * 0x0010_0000_0000_0000) & all;
+    2 * (near64(halves, j, o - (o & all)) + rest) + p / 0x8000_0000_0000_0000
 }
 
 // u bins as an ordinal, by one product, which is exact: E is a normal float and u has fewer digits than a float keeps.

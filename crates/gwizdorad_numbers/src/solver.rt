@@ -55,11 +55,11 @@ pub extern "C" fn gwz_lossless_restored64(code: u64) -> u64
 }
 
 #[no_mangle]
-pub extern "C" fn gwz_tolerance_code32(k: i32, pattern: u32, code: &mut u32) -> u64
-    ensures { λ r. ⌜ r ≡ codeResult (codeAnswer 32 23 k pattern) ⌝ }
-    ensures { λ _. ⌜ now (code .exit) ≡ codeOut (codeAnswer 32 23 k pattern) (now (code .entry)) ⌝ }
+pub extern "C" fn gwz_tolerance_code32(halves: u32, k: i32, pattern: u32, code: &mut u32) -> u64
+    ensures { λ r. ⌜ r ≡ codeResult (codeAnswer 32 23 halves k pattern) ⌝ }
+    ensures { λ _. ⌜ now (code .exit) ≡ codeOut (codeAnswer 32 23 halves k pattern) (now (code .entry)) ⌝ }
 {
-    let answer = tolerance::code32(k, pattern);
+    let answer = tolerance::code32(halves, k, pattern);
     match answer {
         CodeAnswer::Code(c) => {
             *code = c as u32;
@@ -86,11 +86,11 @@ pub extern "C" fn gwz_tolerance_restored32(k: i32, code: u32, pattern: &mut u32)
 }
 
 #[no_mangle]
-pub extern "C" fn gwz_tolerance_code64(k: i32, pattern: u64, code: &mut u64) -> u64
-    ensures { λ r. ⌜ r ≡ codeResult (codeAnswer 64 52 k pattern) ⌝ }
-    ensures { λ _. ⌜ now (code .exit) ≡ codeOut (codeAnswer 64 52 k pattern) (now (code .entry)) ⌝ }
+pub extern "C" fn gwz_tolerance_code64(halves: u32, k: i32, pattern: u64, code: &mut u64) -> u64
+    ensures { λ r. ⌜ r ≡ codeResult (codeAnswer 64 52 halves k pattern) ⌝ }
+    ensures { λ _. ⌜ now (code .exit) ≡ codeOut (codeAnswer 64 52 halves k pattern) (now (code .entry)) ⌝ }
 {
-    let answer = tolerance::code64(k, pattern);
+    let answer = tolerance::code64(halves, k, pattern);
     match answer {
         CodeAnswer::Code(c) => {
             *code = c;

@@ -1,11 +1,11 @@
--- Document 01, "Order", and document 02, R-1, R-4 and R-6: each operation's rows, its answer, and what its lent output holds afterwards. These are the promises.
+-- Document 01, "Order", and document 02, R-1, R-4, R-6 and R-7: each operation's rows, its answer, and what its lent output holds afterwards. These are the promises.
 use Prim.Native.Nat.{ℕ, _+_, _*_, _/_}
 use mathlib.Core.Bool.{true, false, _&&_, _||_, not}
 use mathlib.Core.List.{List, [], _∷_, _++_, map}
 use lib.Dec.{ltb, eqb}
 use lib.IntN.{ℤ}
 use lib.ListN.{length, drop}
-use Rattle.stream.specs.Setting.{knownLevel, allowedSetting, settingOf, need, streamNeed}
+use Rattle.stream.specs.Setting.{knownLevel, allowedSetting, settingOf, settingAt, need, streamNeed}
 use Rattle.stream.specs.Rows.{Row, row, rowsFrom, first, answer, after}
 use Rattle.stream.specs.Header.{headerOf, settingIn, tooMany, settingRight, layoutRight}
 use Rattle.stream.specs.Tables.{chunkTableRight, sideTableRight, idsIn, highId, someHigh}
@@ -125,19 +125,19 @@ lengthRows W level mode k size n =
     ∷ []
 
 unfoldable pub lengthAnswer : ℕ → ℕ → ℕ → ℤ → ℕ → List ℕ → Answer
-lengthAnswer W level mode k size vs = answer (first (lengthRows W level mode k size (length vs))) (length (stream level (settingOf W mode k size) vs))
+lengthAnswer W level mode k size vs = answer (first (lengthRows W level mode k size (length vs))) (length (stream level (settingAt level W mode k size) vs))
 
 unfoldable pub packRows : ℕ → ℕ → ℕ → ℤ → ℕ → List ℕ → ℕ → List Row
 packRows W level mode k size vs room =
     lengthRows W level mode k size (length vs)
-    ++ (row 4 (ltb room (length (stream level (settingOf W mode k size) vs))) (length (stream level (settingOf W mode k size) vs)) ∷ [])
+    ++ (row 4 (ltb room (length (stream level (settingAt level W mode k size) vs))) (length (stream level (settingAt level W mode k size) vs)) ∷ [])
 
 unfoldable pub packAnswer : ℕ → ℕ → ℕ → ℤ → ℕ → List ℕ → ℕ → Answer
-packAnswer W level mode k size vs room = answer (first (packRows W level mode k size vs room)) (length (stream level (settingOf W mode k size) vs))
+packAnswer W level mode k size vs room = answer (first (packRows W level mode k size vs room)) (length (stream level (settingAt level W mode k size) vs))
 
 -- "past the packed bytes, nothing is altered"
 unfoldable pub packOut : ℕ → ℕ → ℕ → ℤ → ℕ → List ℕ → List ℕ → List ℕ
 packOut W level mode k size vs out =
     after (first (packRows W level mode k size vs (length out)))
-    (stream level (settingOf W mode k size) vs ++ drop (length (stream level (settingOf W mode k size) vs)) out)
+    (stream level (settingAt level W mode k size) vs ++ drop (length (stream level (settingAt level W mode k size) vs)) out)
     out

@@ -1,6 +1,6 @@
--- Document 01, "Levels", document 02, R-2, R-4 and R-6, and what a setting says of codes. A setting is a record of natural numbers (`Setting` of
--- src/setting.rt): a width, a mode, a bin and a group size. It is made here, from the width, the mode, the k and the size of a call or of a header; all else
--- is said of the record.
+-- Document 01, "Levels", document 02, R-2, R-4, R-6 and R-7, and what a setting says of codes. A setting is a record of natural numbers (`Setting` of
+-- src/setting.rt): a width, a mode, a bin, a group size and a rule for halves. It is made here, from the width, the mode, the k and the size of a call or of a
+-- header, and for a writer from its level; all else is said of the record.
 -- The number rules are those of the libraries `numbers` and `bins`.
 use Prim.Native.Nat.{ℕ, _+_, _-_, _^_, min, max}
 use mathlib.Core.Bool.{Bool, false, _&&_, _||_, cond}
@@ -14,9 +14,9 @@ use Rattle.bins.specs.Tolerance.{allowedK, binOf, lastBin, toleranceCode, toler
 use Rattle.numbers.specs.Bound.{exponentOf}
 use Rattle.stream.specs.declared.setting.Setting.{Setting}
 
--- "A level is a minor number": 8 to 13, since "1 .. follows this and each later level" (R-4)
+-- "A level is a minor number": 8 to 14, since "1 .. follows this and each later level" (R-4)
 unfoldable pub highestLevel : ℕ
-highestLevel = 13
+highestLevel = 14
 
 unfoldable pub knownLevel : ℕ → Bool
 knownLevel level = leb 8 level && leb level highestLevel
@@ -54,8 +54,21 @@ allowedSetting W mode k size = allowedMode W mode k && knownSize size
 unfoldable pub binFor : ℕ → ℕ → ℤ → ℕ
 binFor W mode k = cond (eqb mode 1) (binOf W (fractionBits W) k) 0
 
+-- as a reader has it: the rule for halves is the writer's alone, and stays 0
 abbrev pub settingOf : ℕ → ℕ → ℤ → ℕ → Setting
-settingOf W mode k size = record { width = W; mode = mode; bin = binFor W mode k; size = size }
+settingOf W mode k size = record { width = W; mode = mode; bin = binFor W mode k; size = size; halves = 0 }
+
+-- "Writers at level 14 and later" send halves to even (1), "writers at 8 to 13 keep the old rule" (0), away from zero. It is the level told to pack that
+-- decides, and not the need.
+unfoldable pub halvesAt : ℕ → ℕ
+halvesAt level = cond (leb 14 level) 1 0
+
+-- a setting with a rule, and that of a writer at a level
+abbrev pub ruled : ℕ → Setting → Setting
+ruled halves t = record { width = t .width; mode = t .mode; bin = t .bin; size = t .size; halves = halves }
+
+abbrev pub settingAt : ℕ → ℕ → ℕ → ℤ → ℕ → Setting
+settingAt level W mode k size = ruled (halvesAt level) (settingOf W mode k size)
 
 -- ---- what a setting says
 
@@ -98,7 +111,7 @@ clipped t = min (t .bin) (lastBin (t .width) (fractionBits (t .width)))
 
 unfoldable pub codeAt : Setting → ℕ → ℕ
 codeAt t p =
-    cond (eqb (t .mode) 0) (losslessCode (t .width) (fractionBits (t .width)) p) (toleranceCode (t .width) (fractionBits (t .width)) (clipped t) p)
+    cond (eqb (t .mode) 0) (losslessCode (t .width) (fractionBits (t .width)) p) (toleranceCode (t .width) (fractionBits (t .width)) (t .halves) (clipped t) p)
 
 unfoldable pub patternAt : Setting → ℕ → ℕ
 patternAt t c =

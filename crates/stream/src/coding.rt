@@ -11,16 +11,19 @@ use crate::setting::Setting;
 use bins::bin;
 use numbers::lossless;
 
-// The code of one pattern, by mode.
-fn code32(t: Setting, p: u32) -> u32
-    requires { ⌜ t .width ≡ 32 ⌝ }
+// The code of one pattern, by mode. At width 32 each mode has a loop of its own, so that what the other does comes into none.
+fn lossless32(t: Setting, p: u32) -> u32
+    requires { ⌜ (t .width ≡ 32) × (t .mode ≡ 0) ⌝ }
     ensures { λ c. ⌜ c ≡ codeAt t p ⌝ }
 {
-    if t.mode == 0 {
-        lossless::code32(p)
-    } else {
-        bin::code_at_bin32(t.bin, p)
-    }
+    lossless::code32(p)
+}
+
+fn tolerance32(t: Setting, p: u32) -> u32
+    requires { ⌜ (t .width ≡ 32) × (t .mode ≡ 1) ⌝ }
+    ensures { λ c. ⌜ c ≡ codeAt t p ⌝ }
+{
+    bin::code_at_bin32(t.halves, t.bin, p)
 }
 
 fn code64(t: Setting, p: u64) -> u64
@@ -30,7 +33,7 @@ fn code64(t: Setting, p: u64) -> u64
     if t.mode == 0 {
         lossless::code64(p)
     } else {
-        bin::code_at_bin64(t.bin, p)
+        bin::code_at_bin64(t.halves, t.bin, p)
     }
 }
 
@@ -57,35 +60,35 @@ pub(crate) fn pattern64(t: Setting, c: u64) -> u64
     }
 }
 
-// The codes of all values, at the front of `c`.
+// The codes of all values in mode 1, at the front of `c`.
 pub(crate) fn put_codes32(t: Setting, values: &[u32], c: &mut [u32])
-    requires { ⌜ (t .width ≡ 32) × (length (now values) ≤ length (now c)) ⌝ }
+    requires { ⌜ (t .width ≡ 32) × (t .mode ≡ 1) × (length (now values) ≤ length (now c)) ⌝ }
     ensures { λ _. ⌜ now (c .exit) ≡ map (codeAt t) (now (values .entry)) ++ drop (length (now (values .entry))) (now (c .entry)) ⌝ }
 {
     let mut i: usize = 0;
     while i < values.len() {
-        c[i] = code32(t, values[i]);
+        c[i] = tolerance32(t, values[i]);
         i += 1;
     }
 }
 
-// The codes of up to 32 values.
+// The codes of up to 32 values in mode 0.
 fn codes32(t: Setting, values: &[u32]) -> [u32; 32]
-    requires { ⌜ (t .width ≡ 32) × (length (now values) ≤ 32) ⌝ }
+    requires { ⌜ (t .width ≡ 32) × (t .mode ≡ 0) × (length (now values) ≤ 32) ⌝ }
     ensures { λ r. ⌜ take (length (now (values .entry))) r ≡ map (codeAt t) (now (values .entry)) ⌝ }
 {
     let mut codes = [0u32; 32];
     let mut i: usize = 0;
     while i < values.len() {
-        codes[i] = code32(t, values[i]);
+        codes[i] = lossless32(t, values[i]);
         i += 1;
     }
     codes
 }
 
-// The codes of up to 32 values, as a group.
+// The codes of up to 32 values as a group: at width 32 in mode 0, at width 64 in modes 0 and 1.
 pub(crate) fn coded32(t: Setting, values: &[u32]) -> Narrow
-    requires { ⌜ (t .width ≡ 32) × (length (now values) ≤ 32) ⌝ }
+    requires { ⌜ (t .width ≡ 32) × (t .mode ≡ 0) × (length (now values) ≤ 32) ⌝ }
     ensures { λ g. ⌜ (g .count ≡ length (now (values .entry))) × (take (g .count) (g .codes) ≡ map (codeAt t) (now (values .entry))) ⌝ }
 {
     Narrow {

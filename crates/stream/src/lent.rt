@@ -374,10 +374,7 @@ pub(crate) fn put_group(
 {
     let end = at + 32;
     if t.width == 32 {
-        if t.mode == 2 {
-            return group_written::full32(differenced_narrow(v32, at, end), out);
-        }
-        return group_written::full32(coded_narrow(t, v32, c32, at, end), out);
+        return group_written::full32(narrow(t, v32, c32, at, end), out);
     }
     group_written::full(wide(t, v64, at, end), out)
 }

@@ -241,7 +241,7 @@ fn measured_or_refused(
     if let Step::Stop(number, detail) = refused {
         return Answer::Refused(number, detail);
     }
-    let t = setting::setting_of(width as usize, mode as usize, k, size as usize);
+    let t = setting::setting_at(level, width as usize, mode as usize, k, size as usize);
     Answer::Done(measured(t, v32, v64, c32, n))
 }
 
@@ -273,7 +273,7 @@ fn packed_or_refused(
     if let Step::Stop(number, detail) = refused {
         return Answer::Refused(number, detail);
     }
-    let t = setting::setting_of(width as usize, mode as usize, k, size as usize);
+    let t = setting::setting_at(level, width as usize, mode as usize, k, size as usize);
     let short = room_step(t, v32, v64, c32, n, out.len());
     if let Step::Stop(number, detail) = short {
         return Answer::Refused(number, detail);

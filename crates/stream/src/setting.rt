@@ -5,21 +5,22 @@ ghost use Prim.Native.Nat.{_^_, _≤_, _<_};
 ghost use lib.IntN.{subℕ};
 ghost use Rattle.bins.specs.Answers.{binAnswer};
 ghost use Rattle.numbers.specs.Signed.{bitsOf};
-ghost use Rattle.stream.specs.Setting.{knownLevel, knownWidth, fractionBits, need, streamNeed, allowedMode, allowedSetting, binFor, settingOf};
+ghost use Rattle.stream.specs.Setting.{knownLevel, knownWidth, fractionBits, need, streamNeed, allowedMode, allowedSetting, binFor, settingOf, halvesAt, settingAt};
 ghost use Rattle.stream.specs.Setting.{modeNumber, kBits, groupSize, limitOf};
 ghost use Rattle.stream.specs.Relied.{Allowed};
 use bins::bin;
 use bins::bin::BinAnswer;
 
-// What everything below the header wants of a setting: natural numbers, with the bin for k.
+// What everything below the header wants of a setting: natural numbers, with the bin for k. `halves` is the rule for them, which coding alone asks.
 pub(crate) struct Setting {
     pub width: u32,
     pub mode: u32,
     pub bin: u32,
     pub size: u32,
+    pub halves: u32,
 }
 
-pub(crate) const HIGHEST_LEVEL: u32 = 13;
+pub(crate) const HIGHEST_LEVEL: u32 = 14;
 
 pub fn known_level(level: usize) -> bool
     ensures { λ r. ⌜ r ≡ knownLevel level ⌝ }
@@ -82,7 +83,7 @@ fn bin_for(width: usize, mode: usize, k: i32) -> u32
     }
 }
 
-// The one place where a setting is made, of a call's numbers or a header's.
+// The one place where a setting is made, of a call's numbers or a header's. A reader has no use for the rule for halves.
 pub(crate) fn setting_of(width: usize, mode: usize, k: i32, size: usize) -> Setting
     requires { ⌜ (knownWidth width ≡ true) × (allowedSetting width mode k size ≡ true) ⌝ }
     ensures { λ r. ⌜ (r ≡ settingOf width mode k size) × Allowed r ⌝ }
@@ -92,6 +93,29 @@ pub(crate) fn setting_of(width: usize, mode: usize, k: i32, size: usize) -> Sett
         mode: mode as u32,
         bin: bin_for(width, mode, k),
         size: size as u32,
+        halves: 0,
+    }
+}
+
+// The rule for halves of a level: away from zero, and from 14 on to even.
+fn halves_at(level: u32) -> u32
+    ensures { λ r. ⌜ r ≡ halvesAt level ⌝ }
+{
+    if 14 <= level { 1 } else { 0 }
+}
+
+// The setting of a writer: the rule for halves is that of the level which it was told.
+pub(crate) fn setting_at(level: u32, width: usize, mode: usize, k: i32, size: usize) -> Setting
+    requires { ⌜ (knownWidth width ≡ true) × (allowedSetting width mode k size ≡ true) ⌝ }
+    ensures { λ r. ⌜ (r ≡ settingAt level width mode k size) × Allowed r ⌝ }
+{
+    let t = setting_of(width, mode, k, size);
+    Setting {
+        width: t.width,
+        mode: t.mode,
+        bin: t.bin,
+        size: t.size,
+        halves: halves_at(level),
     }
 }
 

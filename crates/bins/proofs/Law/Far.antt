@@ -1,10 +1,11 @@
--- Both sides of a threshold at once, by masks (`a` is 1 from it on and 0 below, times a word of ones) or by a test. Then what the code and the
+-- Both sides of a threshold at once, by masks (a number that is 1 from it on and 0 below, times a word of ones) or by a test. Then what the code and the
 -- way back are of it.
 use mathlib.Core.Path.{_≡_, sym, ap, _∙_, subst}
 use mathlib.Core.Logic.{_⊎_, inl, inr}
 use mathlib.Core.Bool.{cond}
-use Prim.Native.Nat.{ℕ, suc, _+_, _-_, _*_, _/_, _^_, _≤_, _<_}
-use native.Mathlib.Nat.{zero-mul, one-mul, mod-eq-of-lt, div-eq-of-lt, div-eq-of-lt-le, div-lt-iff-lt-mul, le-div-iff-mul-le, add-mul}
+use Prim.Native.Nat.{ℕ, suc, _+_, _-_, _*_, _/_, _%_, _^_, _≤_, _<_}
+use native.Mathlib.Nat.{zero-mul, one-mul, mod-eq-of-lt, div-eq-of-lt, div-eq-of-lt-le, div-lt-iff-lt-mul, le-div-iff-mul-le, add-mul, suc-mul, mul-le-mul-right}
+use native.Mathlib.Numerals.{add-one}
 use native.Mathlib.Omega.{arith}
 use borrow.Author.Tests.{lt-ltb, le-ltb}
 use lib.Bits.{bitAnd, and-zero-r, and-mask}
@@ -12,7 +13,7 @@ use lib.Dec.{ltb}
 use lib.Pow.{pow-pos}
 use lib.Ieee.{size}
 use Rattle.bins.specs.Tolerance.{lastBin, sign, ordinal, magnitude, near, ordinalOf, thresholdOrdinal, restoredOrdinal, toleranceCode, largestU}
-use Rattle.bins.proofs.Law.Number.{le-or-lt}
+use Rattle.bins.proofs.Law.Number.{le-or-lt, wraps-minus, minus-plain}
 use Rattle.bins.proofs.Law.Nearest.{nearest-none}
 use Rattle.bins.proofs.Law.Tolerance.{magnitude-plain, restored-bins, restored-above, restored-small, next-bin, threshold-room, code-under, halves}
 use Rattle.bins.proofs.Law.Working.{by-taken, by-left, code-bins, code-rest}
@@ -48,60 +49,93 @@ module _ (W m L b x : ℕ) (small : x < suc L * 2 ^ m) (bin : b ≤ L) where
       go (inl h) = inr (h, kept a x (one h) X, kept a y (one h) Y)
       go (inr h) = inl (h, gone a x (none h), gone a y (none h))
 
--- the same by a test
-pub split-by-test : (m b x y t far place : ℕ) → t ≡ (b + 1) * 2 ^ m → far ≡ cond (ltb x t) 0 x → place ≡ cond (ltb x t) 0 y → Split x (thresholdOrdinal m b) far place y
-split-by-test m b x y t far place e f g = go (le-or-lt t x)
-  where
-    go : (t ≤ x) ⊎ (x < t) → Split x (thresholdOrdinal m b) far place y
-    go (inl h) = inr (by-left m b x (omega (arith, e)), f ∙ rw (le-ltb x t h), g ∙ rw (le-ltb x t h))
-    go (inr h) = inl (by-taken m b x (omega (arith, e)), f ∙ rw (lt-ltb x t h), g ∙ rw (lt-ltb x t h))
+-- a mask by the highest bit of a sum is one word
+pub mask-fits : (W m j o : ℕ) → o < 2 ^ (W - 1) → (o + (2 ^ (W - 1) - (j + 1) * 2 ^ m)) / 2 ^ (W - 1) * (2 ^ W - 1) < 2 ^ W
+mask-fits W m j o small =
+    let over = (o + (2 ^ (W - 1) - (j + 1) * 2 ^ m)) / 2 ^ (W - 1) in
+    let two : over < 2 = div-lt-iff-lt-mul (pow-pos (W - 1)) .1 (omega (arith, small)) in
+    let most : over * (2 ^ W - 1) ≤ 1 * (2 ^ W - 1) = mul-le-mul-right (2 ^ W - 1) (omega (arith, two)) in
+    omega (arith, most, one-mul (2 ^ W - 1), pow-pos W)
+
+-- What the two parts of an ordinal o are: below t itself and nothing, and from t on nothing and how far it is past the place P.
+abbrev pub Sides : ℕ → ℕ → ℕ → ℕ → ℕ → Type 0
+Sides o t P low rest = ((o < t) × (low ≡ o) × (rest ≡ 0)) ⊎ ((t ≤ o) × (low ≡ 0) × (rest ≡ o - P))
+
+module _ (W m j o : ℕ) (room : suc j * 2 ^ m ≤ 2 ^ (W - 1)) (in-word : o < 2 ^ W) (w : ℕ) (wraps : (w + j * 2 ^ m) % 2 ^ W ≡ o) (fits : w < 2 ^ W) where
+  -- the difference that wraps around, where it does not
+  difference : thresholdOrdinal m j ≤ o → w ≡ o - j * 2 ^ m
+  unfolding thresholdOrdinal
+  difference h =
+      let past : j * 2 ^ m ≤ o = omega (arith, h, suc-mul j (2 ^ m)) in
+      wraps-minus (2 ^ W) o (j * 2 ^ m) w fits (omega (arith, past, in-word)) wraps ∙ minus-plain (2 ^ W) o (j * 2 ^ m) past in-word
+
+  -- by a test
+  pub sides-by-test : (t low rest : ℕ) → t ≡ (j + 1) * 2 ^ m → low ≡ cond (ltb o t) o 0 → rest ≡ cond (ltb o t) 0 w → Sides o (thresholdOrdinal m j) (j * 2 ^ m) low rest
+  sides-by-test t low rest e f g = go (le-or-lt t o)
+    where
+      go : (t ≤ o) ⊎ (o < t) → Sides o (thresholdOrdinal m j) (j * 2 ^ m) low rest
+      go (inl h) = let from = by-left m j o (omega (arith, e)) in inr (from, f ∙ rw (le-ltb o t h), (g ∙ rw (le-ltb o t h)) ∙ difference from)
+      go (inr h) = inl (by-taken m j o (omega (arith, e)), f ∙ rw (lt-ltb o t h), g ∙ rw (lt-ltb o t h))
+
+  -- by a mask: the highest bit of a sum is set from t on
+  module _ (small : o < 2 ^ (W - 1)) (some : 0 < W) where
+    abbrev over : ℕ
+    over = (o + (2 ^ (W - 1) - (j + 1) * 2 ^ m)) / 2 ^ (W - 1)
+
+    abbrev mask : ℕ
+    mask = over * (2 ^ W - 1)
+
+    pub sides-by-mask : Sides o (thresholdOrdinal m j) (j * 2 ^ m) (o - bitAnd o mask) (bitAnd w mask)
+    unfolding thresholdOrdinal
+    sides-by-mask = go (le-or-lt (suc j * 2 ^ m) o)
+      where
+        next : (j + 1) * 2 ^ m ≡ suc j * 2 ^ m
+        next = ap (λ (n : ℕ). n * 2 ^ m) (add-one j)
+
+        kept : (n z : ℕ) → n ≡ 1 → z < 2 ^ W → bitAnd z (n * (2 ^ W - 1)) ≡ z
+        kept n z e l = ap (bitAnd z) (ap (λ (k : ℕ). k * (2 ^ W - 1)) e ∙ one-mul (2 ^ W - 1)) ∙ and-mask z W ∙ mod-eq-of-lt l
+
+        gone : (n z : ℕ) → n ≡ 0 → bitAnd z (n * (2 ^ W - 1)) ≡ 0
+        gone n z e = ap (bitAnd z) (ap (λ (k : ℕ). k * (2 ^ W - 1)) e ∙ zero-mul (2 ^ W - 1)) ∙ and-zero-r z
+
+        go : (suc j * 2 ^ m ≤ o) ⊎ (o < suc j * 2 ^ m) → Sides o (suc j * 2 ^ m) (j * 2 ^ m) (o - bitAnd o mask) (bitAnd w mask)
+        go (inl h) =
+            let one : over ≡ 1 = div-eq-of-lt-le (2 ^ (W - 1)) (omega (arith, next, room, one-mul (2 ^ (W - 1)))) (omega (arith, next, small, add-mul 1 1 (2 ^ (W - 1)), one-mul (2 ^ (W - 1)))) in
+            inr (h, (let e : o - bitAnd o mask ≡ 0 = omega (arith, kept over o one in-word) in e), kept over w one fits ∙ difference h)
+        go (inr h) =
+            let none : over ≡ 0 = div-eq-of-lt (omega (arith, next, room)) in
+            inl (h, (let e : o - bitAnd o mask ≡ o = omega (arith, gone over o none) in e), gone over w none)
 
 module _ (W m : ℕ) (room : m + 3 ≤ W) (j : ℕ) (allowed : j ≤ lastBin W m) where
   -- the code
-  module _ (p far place : ℕ) (s : Split (ordinal W p) (thresholdOrdinal m j) far place (j * 2 ^ m)) where
-    pub near-asks : ordinal W p - far < thresholdOrdinal m j
+  module _ (p low rest : ℕ) (s : Sides (ordinal W p) (thresholdOrdinal m j) (j * 2 ^ m) low rest) where
+    pub near-asks : low < thresholdOrdinal m j
     near-asks = go s
       where
-        go : Split (ordinal W p) (thresholdOrdinal m j) far place (j * 2 ^ m) → ordinal W p - far < thresholdOrdinal m j
-        go (inl h) = omega (arith, h .0)
+        go : Sides (ordinal W p) (thresholdOrdinal m j) (j * 2 ^ m) low rest → low < thresholdOrdinal m j
+        go (inl h) = omega (arith, h .0, h .1)
         go (inr h) = omega (arith, h .1, next-bin W m room j allowed, pow-pos m)
 
-    pub far-fits : far ≤ ordinal W p
-    far-fits = go s
-      where
-        go : Split (ordinal W p) (thresholdOrdinal m j) far place (j * 2 ^ m) → far ≤ ordinal W p
-        go (inl h) = omega (arith, h .1)
-        go (inr h) = omega (arith, h .1)
-
-    pub place-fits : place ≤ far
-    place-fits = go s
-      where
-        go : Split (ordinal W p) (thresholdOrdinal m j) far place (j * 2 ^ m) → place ≤ far
-        go (inl h) = omega (arith, h .2)
-        go (inr h) = omega (arith, h .0, h .1, h .2, next-bin W m room j allowed)
-
-    module _ (rule u : ℕ) (e : u ≡ near rule j (magnitude m (ordinal W p - far))) where
+    module _ (rule u : ℕ) (e : u ≡ near rule j (magnitude m low)) where
       nothing : near rule j (magnitude m 0) ≡ 0
       unfolding near
       nothing = ap (near rule j) (magnitude-plain m 0 (pow-pos m)) ∙ nearest-none rule 0 (2 ^ j) (pow-pos j) (pow-pos j)
 
-      pub far-code : 2 * (u + (far - place)) + sign W p ≡ toleranceCode W m rule j p
+      pub far-code : 2 * (u + rest) + sign W p ≡ toleranceCode W m rule j p
       far-code = go s
         where
-          go : Split (ordinal W p) (thresholdOrdinal m j) far place (j * 2 ^ m) → 2 * (u + (far - place)) + sign W p ≡ toleranceCode W m rule j p
+          go : Sides (ordinal W p) (thresholdOrdinal m j) (j * 2 ^ m) low rest → 2 * (u + rest) + sign W p ≡ toleranceCode W m rule j p
           go (inl h) =
-              ap (λ (n : ℕ). 2 * n + sign W p) ((let q : u + (far - place) ≡ u = omega (arith, h .1, h .2) in q) ∙ e ∙ ap (λ (n : ℕ). near rule j (magnitude m n)) (let q : ordinal W p - far ≡ ordinal W p = omega (arith, h .1) in q))
+              ap (λ (n : ℕ). 2 * n + sign W p) ((let q : u + rest ≡ u = omega (arith, h .2) in q) ∙ e ∙ ap (λ (n : ℕ). near rule j (magnitude m n)) (h .1))
               ∙ code-bins W m room j allowed rule p (h .0)
           go (inr h) =
-              ap (λ (n : ℕ). 2 * n + sign W p)
-              (ap (λ (n : ℕ). n + (far - place)) (e ∙ ap (λ (n : ℕ). near rule j (magnitude m n)) (let q : ordinal W p - far ≡ 0 = omega (arith, h .1) in q) ∙ nothing)
-              ∙ (let q : 0 + (far - place) ≡ ordinal W p - j * 2 ^ m = omega (arith, h .1, h .2) in q))
+              ap (λ (n : ℕ). 2 * n + sign W p) (ap (λ (n : ℕ). n + rest) (e ∙ ap (λ (n : ℕ). near rule j (magnitude m n)) (h .1) ∙ nothing) ∙ (let q : 0 + rest ≡ ordinal W p - j * 2 ^ m = omega (arith, h .2) in q))
               ∙ code-rest W m room j allowed rule p (h .0)
 
-      pub far-code-fits : p < 2 ^ W → 2 * (u + (far - place)) + sign W p < 2 ^ W
+      pub far-code-fits : p < 2 ^ W → 2 * (u + rest) + sign W p < 2 ^ W
       far-code-fits l = subst (λ (n : ℕ). n < 2 ^ W) (sym far-code) (code-under W m room j allowed rule p l)
 
-      pub far-sum-fits : p < 2 ^ W → u + (far - place) < 2 ^ W
+      pub far-sum-fits : p < 2 ^ W → u + rest < 2 ^ W
       far-sum-fits l = omega (arith, far-code-fits l)
 
   -- and the way back

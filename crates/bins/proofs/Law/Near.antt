@@ -1,11 +1,11 @@
 -- |v| / E as a product of floats, once over the formats: exact, or so small that it rounds to no bin.
 use mathlib.Core.Path.{_≡_, refl, sym, ap, _∙_, subst}
 use mathlib.Core.Logic.{_⊎_, inl, inr}
-use mathlib.Core.Bool.{Bool, true, false, not}
+use mathlib.Core.Bool.{Bool, true, false, not, cond}
 use Prim.Native.Nat.{ℕ, suc, _+_, _-_, _*_, _/_, _%_, _^_, _≤_, _<_, compare}
 use native.Mathlib.Nat.{mul-one, mul-comm, mul-assoc, mul-pos, mod-eq-of-lt, div-eq-of-lt, div-lt-iff-lt-mul, lt-of-lt-of-le, lt-of-le-of-lt, le-trans, le-of-eq, mul-le-mul-right, mul-lt-mul-of-pos-right, two-pow-succ, mod-lt, mul-le-mul-left, le-of-lt, one-mul}
 use native.Mathlib.Omega.{arith}
-use lib.Dec.{T, leb, leb→le, not-T, lit<, lit≤}
+use lib.Dec.{T, eqb, leb, leb→le, not-T, lit<, lit≤}
 use lib.Pow.{pow-pos, pow-add, pow-mono, pow-lt, shl-lt}
 use lib.Ieee.{Float, Format, binary32, binary64, prec, emax, low, hid, ones, top, size, round, mul, add, sub, lt, ofBits, toBits, isNan, nanBits}
 use lib.Ieee.Bits.{is-false, nanBits-is}
@@ -196,16 +196,27 @@ module _ {f : Format} {j o F : ℕ} (k : Asked f j o F) where
     pub sum-from : base ≤ sum
     sum-from = omega (arith, by .pattern)
 
-    -- d is what the odd one of two has to be behind t
-    module _ (rule d : ℕ) (odd : d ≡ over rule (sum - base)) where
-      next-is : sum - base ≡ by .next
-      next-is = omega (arith, by .pattern)
+    pub sum-small : sum ≤ base + 2 ^ (prec f - 1)
+    sum-small = omega (arith, by .pattern, by .small)
 
+    next-is : sum - base ≡ by .next
+    next-is = omega (arith, by .pattern)
+
+    -- the base is odd, so that one more than the sum has the next one's parity
+    parity : (sum + 1) % 2 ≡ by .next % 2
+    parity = omega (arith, by .pattern, even-base f, pow-pos (prec f - 1))
+      where
+        even-base : (f : Format) → (low f * 2 ^ (prec f - 1) + 2 ^ (prec f - 1)) % 2 ≡ 0
+        even-base binary32 = refl
+        even-base binary64 = refl
+
+    -- d is what the pattern of t has to be more where the next one is odd and a half goes down from it
+    module _ (rule d : ℕ) (odd : d ≡ over rule (sum + 1)) where
       d-is : d ≡ over rule (by .next)
-      d-is = odd ∙ ap (over rule) next-is
+      d-is = odd ∙ ap (λ (n : ℕ). cond (eqb rule 1) n 0) parity
 
       one : d ≤ 1
-      one = rw odd (over-small rule (sum - base) .0)
+      one = rw odd (over-small rule (sum + 1) .0)
 
       pub half-fits : grown + d < suc (low f) * 2 ^ (prec f - 1) + 1
       half-fits = omega (arith, by .grown-small, one)

@@ -6,7 +6,7 @@ use native.Mathlib.Omega.{arith}
 use lib.Ieee.{Float, binary64, ofBits}
 use lib.Ieee.Exact.{HasValue}
 use Rattle.bins.specs.Tolerance.{lastBin}
-use Rattle.bins.proofs.Law.Near.{Asked, ordinal-no-nan, factor-no-nan, sum-no-nan, grown-no-nan, sum-from, half-fits, half-no-nan, some-below, near-below, near-above}
+use Rattle.bins.proofs.Law.Near.{Asked, ordinal-no-nan, factor-no-nan, sum-no-nan, grown-no-nan, sum-from, sum-small, half-fits, half-no-nan, some-below, near-below, near-above}
 use borrow.Author.Needs.{needs}
 use Rattle.bins.proofs.float.near64.Statement.{statement}
 use Rattle.bins.proofs.float.near64.Tie as tie
@@ -53,6 +53,12 @@ sub-next c = sum-from (asked c) y value
 float-to-bits-if1 : tie.Need-float-to-bits-if1
 float-to-bits-if1 c = grown-no-nan (asked c) y value
 
+float-to-bits-odd64 : tie.Need-float-to-bits-odd64
+float-to-bits-odd64 c = sum-no-nan (asked c) y value
+
+add-odd64 : tie.Need-add-odd64
+add-odd64 c = omega (arith, sum-small (asked c) y value)
+
 odd64-requires : tie.Need-odd64-requires
 odd64-requires c κs = search needs
 
@@ -82,6 +88,8 @@ near64-spec =
     float-to-bits-next
     sub-next
     float-to-bits-if1
+    float-to-bits-odd64
+    add-odd64
     odd64-requires
     add-if1
     float-from-bits-if1

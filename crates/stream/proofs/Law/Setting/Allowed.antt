@@ -253,6 +253,32 @@ module _ (W mode : ℕ) (k : ℤ) (size : ℕ) (known : knownWidth W ≡ true) (
           (k-allowed W mode k (mode-allowed W mode k size allowed) (eqb-true mode 1 e)))
       go false e = rw e zero-le
 
+-- ---- the rule for halves: nothing but coding asks it
+
+module _ (rule : ℕ) (t : Setting) where
+  pub ruled-allowed : Allowed t → Allowed (ruled rule t)
+  ruled-allowed a = record { known = a .known; mode = a .mode; bin = a .bin; none = a .none; size = a .size }
+
+  pub ruled-need : need (ruled rule t) ≡ need t
+  unfolding need
+  ruled-need = refl
+
+  pub ruled-stream-need : (high : Bool) → streamNeed (ruled rule t) high ≡ streamNeed t high
+  unfolding need streamNeed
+  ruled-stream-need high = refl
+
+  pub ruled-size : groupSize (ruled rule t) ≡ groupSize t
+  unfolding groupSize
+  ruled-size = refl
+
+  pub ruled-limit : limitOf (ruled rule t) ≡ limitOf t
+  unfolding limitOf clipped
+  ruled-limit = refl
+
+  pub ruled-patterns : (before : ℕ) (cs : List ℕ) → patternsAfter (ruled rule t) before cs ≡ patternsAfter t before cs
+  unfolding patternsAfter patternAt clipped
+  ruled-patterns before cs = refl
+
 -- A list that a stream of a setting may hold, with its written minor.
 pub record Storable (level : ℕ) (t : Setting) (vs : List ℕ) : Type 0 where
   pub setting : Allowed t
@@ -261,5 +287,13 @@ pub record Storable (level : ℕ) (t : Setting) (vs : List ℕ) : Type 0 where
   pub few : length vs ≤ 1048576
   pub patterns : Below (2 ^ t .width) vs
 
-pub storable : (W level mode : ℕ) (k : ℤ) (size : ℕ) (vs : List ℕ) → Packable W level mode k size vs → Storable level (settingOf W mode k size) vs
-storable W level mode k size vs p = record { setting = made-allowed W mode k size (p .width) (p .allowed); minor = p .minor; needs = p .needs; few = p .few; patterns = p .patterns }
+pub storable : (rule W level mode : ℕ) (k : ℤ) (size : ℕ) (vs : List ℕ) → Packable W level mode k size vs → Storable level (ruled rule (settingOf W mode k size)) vs
+storable rule W level mode k size vs p =
+    let t = settingOf W mode k size in
+    record {
+      setting = ruled-allowed rule t (made-allowed W mode k size (p .width) (p .allowed));
+      minor = p .minor;
+      needs = rw (ruled-need rule t) (p .needs);
+      few = p .few;
+      patterns = p .patterns;
+    }

@@ -123,8 +123,9 @@ module _ (t : Setting) (allowed : Allowed t) where
       go (inl e) = rw (e, lt-ltb (t .mode) 256 (omega (arith, allowed .mode))) (refl, refl)
       go (inr e) = rw (e, le-ltb (t .mode + 256) 256 (omega arith)) (let back : t .mode + 256 - 256 ≡ t .mode = omega arith in back, refl)
 
-  pub setting-back : settingOf W (saidMode (modeNumber t)) (signedView 32 (kBits t)) (saidSize (modeNumber t)) ≡ t
-  setting-back = rw (said-back .0, said-back .1) (ap (λ (b : ℕ). record { width = W; mode = t .mode; bin = b; size = t .size }) bin-back)
+  -- the setting is read as it was written, but for the rule for halves, which no header has
+  pub setting-back : settingOf W (saidMode (modeNumber t)) (signedView 32 (kBits t)) (saidSize (modeNumber t)) ≡ ruled 0 t
+  setting-back = rw (said-back .0, said-back .1) (ap (λ (b : ℕ). record { width = W; mode = t .mode; bin = b; size = t .size; halves = 0 }) bin-back)
 
   mode-back : allowedMode W (t .mode) (signedView 32 (kBits t)) ≡ true
   unfolding allowedMode isZero
