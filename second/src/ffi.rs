@@ -190,7 +190,13 @@ chunks_from!(u64, gwz_chunks_from64);
 pub trait NumberRules: Sized {
     fn lossless_code(pattern: Self) -> Self;
     fn lossless_restored(code: Self) -> Self;
-    fn tolerance_code(k: i32, pattern: Self, buffer: &mut [Self], room: Range<usize>) -> u64;
+    fn tolerance_code(
+        halves: u32,
+        k: i32,
+        pattern: Self,
+        buffer: &mut [Self],
+        room: Range<usize>,
+    ) -> u64;
     fn tolerance_restored(k: i32, code: Self, buffer: &mut [Self], room: Range<usize>) -> u64;
 }
 
@@ -200,7 +206,7 @@ macro_rules! number_rules {
         extern "C" {
             fn $lossless_code(pattern: $word) -> $word;
             fn $lossless_restored(code: $word) -> $word;
-            fn $tolerance_code(k: i32, pattern: $word, code: *mut $word) -> u64;
+            fn $tolerance_code(halves: u32, k: i32, pattern: $word, code: *mut $word) -> u64;
             fn $tolerance_restored(k: i32, code: $word, pattern: *mut $word) -> u64;
         }
 
@@ -216,13 +222,14 @@ macro_rules! number_rules {
             }
 
             fn tolerance_code(
+                halves: u32,
                 k: i32,
                 pattern: $word,
                 buffer: &mut [$word],
                 room: Range<usize>,
             ) -> u64 {
                 let code = start_of_one(buffer, &room);
-                unsafe { $tolerance_code(k, pattern, code) }
+                unsafe { $tolerance_code(halves, k, pattern, code) }
             }
 
             fn tolerance_restored(

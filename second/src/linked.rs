@@ -56,8 +56,8 @@ fn by_number_rules_of<P: NumberRules + Element + Into<u64>>(call: &Call) -> Outc
         Call::LosslessRestored { code, .. } => {
             Outcome::bare(P::lossless_restored(P::cut(code)).into())
         }
-        Call::ToleranceCode { k, pattern, .. } => {
-            lend(1, |buffer, room| P::tolerance_code(k, P::cut(pattern), buffer, room))
+        Call::ToleranceCode { halves, k, pattern, .. } => {
+            lend(1, |buffer, room| P::tolerance_code(halves, k, P::cut(pattern), buffer, room))
         }
         Call::ToleranceRestored { k, code, .. } => {
             lend(1, |buffer, room| P::tolerance_restored(k, P::cut(code), buffer, room))

@@ -5,6 +5,7 @@
 //! "modulo 2^W" is written as a remainder.
 
 use crate::Refusal;
+use std::cmp::Ordering;
 
 /// What the rules need to know of a width. The fields are private so that
 /// only the two widths of the document exist.
@@ -159,6 +160,31 @@ fn unfolded(code: u128) -> i128 {
 
 // ---------------------------------------------------------------- mode 1
 
+/// Where a half goes: a magnitude in the middle between two whole numbers of
+/// bins.
+#[derive(Clone, Copy, Debug, PartialEq, Eq)]
+pub enum Halves {
+    AwayFromZero,
+    /// IEEE 754's ties to even.
+    ToEven,
+}
+
+impl Halves {
+    pub const BOTH: [Halves; 2] = [Halves::AwayFromZero, Halves::ToEven];
+
+    /// The rule with this number in a call of the number rules, if it is 0 or 1.
+    pub fn numbered(number: u32) -> Option<Halves> {
+        Halves::BOTH.into_iter().find(|halves| halves.number() == number)
+    }
+
+    pub fn number(self) -> u32 {
+        match self {
+            Halves::AwayFromZero => 0,
+            Halves::ToEven => 1,
+        }
+    }
+}
+
 /// A tolerance 2^k with an allowed k.
 ///
 /// Magnitudes are counted in the document's unit, 2^-149 or 2^-1074. In it,
@@ -203,12 +229,12 @@ impl Tolerance {
     }
 
     /// The tolerance code of a pattern.
-    pub fn code(self, pattern: u64) -> u64 {
+    pub fn code(self, halves: Halves, pattern: u64) -> u64 {
         let ordinal = self.width.ordinal(pattern);
         // Ordinals are in the order of magnitudes, with infinities and
         // not-a-numbers above all finite ones, T included.
         let u = if ordinal < self.threshold_ordinal() {
-            self.bins_nearest(ordinal)
+            self.bins_nearest(halves, ordinal)
         } else {
             ordinal - self.threshold_ordinal() + (1 << self.width.fraction_bits)
         };
@@ -229,8 +255,7 @@ impl Tolerance {
         Some(self.width.with_sign(ordinal, sign))
     }
 
-    /// |v|/E for a magnitude below T, rounded to the nearest whole number, a
-    /// half going away from zero.
+    /// |v|/E for a magnitude below T, rounded to the nearest whole number.
     ///
     /// |v| is significand·2^scale units. Below T the field is at most d, and
     /// the scale is field-1 (0 for field 0), so scale <= d always, and
@@ -239,7 +264,7 @@ impl Tolerance {
     /// u128 is exact here: significand < 2^(m+1), so once shift exceeds m+2
     /// the quotient is below a half and rounds to 0; otherwise all numbers
     /// below are under 2^56.
-    fn bins_nearest(self, ordinal: u64) -> u64 {
+    fn bins_nearest(self, halves: Halves, ordinal: u64) -> u64 {
         let m = self.width.fraction_bits;
         let field = ordinal >> m;
         let fraction = ordinal as u128 % (1 << m);
@@ -249,9 +274,17 @@ impl Tolerance {
         if shift > m + 2 {
             return 0;
         }
-        // Nearest, half up, of a/b is the floor of (2a + b) / 2b.
         let bin = 1u128 << shift;
-        ((2 * significand + bin) / (2 * bin)) as u64
+        let (whole, rest) = (significand / bin, significand % bin);
+        let added = match (2 * rest).cmp(&bin) {
+            Ordering::Less => 0,
+            Ordering::Greater => 1,
+            Ordering::Equal => match halves {
+                Halves::AwayFromZero => 1,
+                Halves::ToEven => whole % 2,
+            },
+        };
+        (whole + added) as u64
     }
 
     /// The ordinal of u·E for u < 2^m: exact, u has at most m bits.

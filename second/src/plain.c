@@ -182,7 +182,18 @@ struct setting {
     int32_t k;
 };
 
-static int level_known(uint32_t level) { return 8 <= level && level <= 13; }
+/*
+ * The coding of a writer: the number of its mode or, for mode 1 from level 14 on, where halves go to even, one of its own.
+ * Nothing needs that level to be read.
+ */
+enum { FIRST_LEVEL_TO_EVEN = 14, TO_EVEN = 3 };
+
+static uint32_t coding_of(struct setting s, uint32_t level)
+{
+    return s.mode == 1 && level >= FIRST_LEVEL_TO_EVEN ? TO_EVEN : s.mode;
+}
+
+static int level_known(uint32_t level) { return 8 <= level && level <= 14; }
 
 /* In a header, 256 is added to the mode for groups of 128. A number that is no mode stays none. */
 static struct setting setting_of(const struct header *h)
@@ -387,13 +398,31 @@ static BIN NAME(bin_of)(int32_t k)
     return bin;
 }
 
-INLINED WORD NAME(tolerance_code)(WORD pattern, BIN bin)
+/* The code of a pattern, told the magnitude code that it has if it is below T. */
+INLINED WORD NAME(code_of_near)(WORD pattern, WORD near, BIN bin)
 {
     WORD ordinal = pattern & ~HIGHEST;
-    /* Exact, but for magnitudes so far below E/2 that no rounding lifts them there. From T on it is not used. */
-    WORD near = NAME(half_up)((double)NAME(float_of)(ordinal) * bin.per_e[0] * bin.per_e[1]);
     WORD u = NAME(pick)(NAME(below)(ordinal, bin.threshold), near, ordinal - bin.lift);
     return (u << 1) | (pattern >> (WIDTH - 1));
+}
+
+/* Halves go away from zero. */
+INLINED WORD NAME(tolerance_code)(WORD pattern, BIN bin)
+{
+    /* Exact, but for magnitudes so far below E/2 that no rounding lifts them there. From T on it is not used. */
+    double bins = (double)NAME(float_of)(pattern & ~HIGHEST) * bin.per_e[0] * bin.per_e[1];
+    return NAME(code_of_near)(pattern, NAME(half_up)(bins), bin);
+}
+
+/*
+ * Halves go to even: from 2^m to 2^(m+1) a float counts ones, and adding 2^m rounds to a whole number as IEEE 754 does.
+ * Singles hold the powers too, and their products are as exact.
+ */
+INLINED WORD NAME(tolerance_code_to_even)(WORD pattern, BIN bin)
+{
+    const FLOAT two_to_m = (FLOAT)((WORD)1 << M);
+    FLOAT bins = NAME(float_of)(pattern & ~HIGHEST) * (FLOAT)bin.per_e[0] * (FLOAT)bin.per_e[1];
+    return NAME(code_of_near)(pattern, NAME(pattern_of)(bins + two_to_m) - NAME(pattern_of)(two_to_m), bin);
 }
 
 INLINED WORD NAME(tolerance_pattern)(WORD code, BIN bin)
@@ -409,11 +438,14 @@ INLINED WORD NAME(difference_code)(WORD x) { return (x << 1) ^ (0 - (x >> (WIDTH
 INLINED WORD NAME(difference)(WORD code) { return (code >> 1) ^ (0 - (code & 1)); }
 
 /* The code of a value; in mode 2 the one before it is looked at too. */
-INLINED WORD NAME(code_of)(const WORD *value, uint32_t mode, BIN bin)
+INLINED WORD NAME(code_of)(const WORD *value, uint32_t coding, BIN bin)
 {
-    if (mode == 2)
-        return NAME(difference_code)(value[0] - value[-1]);
-    return mode == 0 ? NAME(lossless_code)(*value) : NAME(tolerance_code)(*value, bin);
+    switch (coding) {
+    case 0: return NAME(lossless_code)(*value);
+    case 1: return NAME(tolerance_code)(*value, bin);
+    case 2: return NAME(difference_code)(value[0] - value[-1]);
+    default: return NAME(tolerance_code_to_even)(*value, bin);
+    }
 }
 
 /* The pattern of a code in modes 0 and 1. */
@@ -488,17 +520,17 @@ static WORD NAME(take_sums)(const struct stream *stream, size_t place, WORD befo
  * follows pattern 0. A short one is filled up with what has code 0, which changes neither width nor bytes: pattern 0 or,
  * in mode 2, the last one again.
  */
-INLINED WORD NAME(code_block)(const WORD *values, size_t count, int first, uint32_t mode, BIN bin, WORD *codes)
+INLINED WORD NAME(code_block)(const WORD *values, size_t count, int first, uint32_t coding, BIN bin, WORD *codes)
 {
     WORD laid[1 + BLOCK], all = 0;
-    if (count < BLOCK || (first && mode == 2)) {
+    if (count < BLOCK || (first && coding == 2)) {
         laid[0] = first ? 0 : values[-1];
         for (size_t i = 0; i < BLOCK; i++)
-            laid[1 + i] = i < count ? values[i] : mode == 2 ? values[count - 1] : 0;
+            laid[1 + i] = i < count ? values[i] : coding == 2 ? values[count - 1] : 0;
         values = laid + 1;
     }
     for (size_t i = 0; i < BLOCK; i++) {
-        codes[i] = NAME(code_of)(values + i, mode, bin);
+        codes[i] = NAME(code_of)(values + i, coding, bin);
         all |= codes[i];
     }
     return all;
@@ -508,11 +540,11 @@ INLINED WORD NAME(code_block)(const WORD *values, size_t count, int first, uint3
  * The codes of a group, block by block, and its width byte: the bit length of the largest is that of all or-ed together.
  * Its first value is the chunk's, or not.
  */
-INLINED unsigned NAME(code_group)(const WORD *values, size_t count, int first, uint32_t mode, BIN bin, WORD *codes)
+INLINED unsigned NAME(code_group)(const WORD *values, size_t count, int first, uint32_t coding, BIN bin, WORD *codes)
 {
-    WORD all = NAME(code_block)(values, least(BLOCK, count), first, mode, bin, codes);
+    WORD all = NAME(code_block)(values, least(BLOCK, count), first, coding, bin, codes);
     for (size_t at = BLOCK; at < count; at += BLOCK)
-        all |= NAME(code_block)(values + at, least(BLOCK, count - at), 0, mode, bin, codes + at);
+        all |= NAME(code_block)(values + at, least(BLOCK, count - at), 0, coding, bin, codes + at);
     return bit_length(all);
 }
 
@@ -536,13 +568,13 @@ INLINED void NAME(put_group)(const WORD *codes, size_t count, uint8_t *bytes, un
 }
 
 /* Writes chunk table and data, where there is an output, and answers where the data ends. */
-INLINED size_t NAME(pack_data)(const WORD *values, size_t n, uint32_t mode, size_t group, BIN bin, uint8_t *out)
+INLINED size_t NAME(pack_data)(const WORD *values, size_t n, uint32_t coding, size_t group, BIN bin, uint8_t *out)
 {
     size_t data = HEADER + 4 * chunks_of(n), at = data;
     for (size_t first = 0; first < n; first += group) {
         WORD codes[LARGEST_GROUP];
         size_t count = least(group, n - first);
-        unsigned w = NAME(code_group)(values + first, count, first % CHUNK == 0, mode, bin, codes);
+        unsigned w = NAME(code_group)(values + first, count, first % CHUNK == 0, coding, bin, codes);
         if (out != NULL) {
             uint32_t start = (uint32_t)(at - data);
             if (first % CHUNK == 0)
@@ -555,23 +587,25 @@ INLINED size_t NAME(pack_data)(const WORD *values, size_t n, uint32_t mode, size
     return at;
 }
 
-/* The same, in a mode and with a group size that are constants from here on. */
-INLINED size_t NAME(pack_in_mode)(struct setting s, const WORD *values, size_t n, uint8_t *out)
+/* The same, by a coding and with a group size that are constants from here on. */
+INLINED size_t NAME(pack_by_coding)(struct setting s, uint32_t level, const WORD *values, size_t n, uint8_t *out)
 {
     BIN bin = NAME(bin_of)(s.k);
-    switch (mode_number(s)) {
+    switch (coding_of(s, level) + (s.group == 128 ? ADDED_FOR_128 : 0)) {
     case 0: return NAME(pack_data)(values, n, 0, 32, bin, out);
     case 1: return NAME(pack_data)(values, n, 1, 32, bin, out);
     case 2: return NAME(pack_data)(values, n, 2, 32, bin, out);
+    case TO_EVEN: return NAME(pack_data)(values, n, TO_EVEN, 32, bin, out);
     case ADDED_FOR_128: return NAME(pack_data)(values, n, 0, 128, bin, out);
     case ADDED_FOR_128 + 1: return NAME(pack_data)(values, n, 1, 128, bin, out);
-    default: return NAME(pack_data)(values, n, 2, 128, bin, out);
+    case ADDED_FOR_128 + 2: return NAME(pack_data)(values, n, 2, 128, bin, out);
+    default: return NAME(pack_data)(values, n, TO_EVEN, 128, bin, out);
     }
 }
 
-static size_t NAME(measured)(struct setting s, const WORD *values, size_t n)
+static size_t NAME(measured)(struct setting s, uint32_t level, const WORD *values, size_t n)
 {
-    return NAME(pack_in_mode)(s, values, n, NULL);
+    return NAME(pack_by_coding)(s, level, values, n, NULL);
 }
 
 /* Refusals 1 2 3, or the bytes pack would use. */
@@ -579,7 +613,7 @@ uint64_t NAME(plain_length)(uint32_t level, uint32_t mode, int32_t k, uint32_t g
 {
     struct setting s = {WIDTH, mode, group, k};
     TRY(admit(level, s, n));
-    return NAME(measured)(s, values, n);
+    return NAME(measured)(s, level, values, n);
 }
 
 /* Refusals 1 2 3 4, or the bytes written. */
@@ -591,11 +625,11 @@ uint64_t NAME(plain_pack)(uint32_t level, uint32_t mode, int32_t k, uint32_t gro
     /* Room for anything needs no measuring. */
     uint32_t c = (uint32_t)chunks_of(n);
     if (room < HEADER + 4 * c + (n + group - 1) / group + n * sizeof *values) {
-        size_t length = NAME(measured)(s, values, n);
+        size_t length = NAME(measured)(s, level, values, n);
         if (room < length)
             return refused(4, length);
     }
-    size_t end = NAME(pack_in_mode)(s, values, n, out);
+    size_t end = NAME(pack_by_coding)(s, level, values, n, out);
     struct header header = {1, level, need(s), WIDTH, mode_number(s), k, (uint32_t)n, c, HEADER, HEADER + 4 * c, 0,
                             (uint32_t)end};
     memcpy(out, &header, HEADER);

@@ -5,7 +5,7 @@
 //! blocks of 32, which fill whole bytes, by a function for each width byte, in which
 //! every shift is known; that of the difference mode takes and sums up at once. A
 //! group is one block, or four of them under one width byte. The tolerance code divides by exact
-//! products of floats. Nothing is allocated.
+//! products of floats, and has a function for each rule of halves. Nothing is allocated.
 //! The rules, constants and checks are written here again rather than borrowed
 //! from the reference, so that comparing the two says something about both.
 //! `plain.c` is the same in C.
@@ -71,8 +71,10 @@ pub trait Lane: Copy + Default + Ord + BitOr<Output = Self> + 'static {
     /// the sign.
     fn largest_code(mode: u32, k: i32) -> Self;
     fn bin(k: i32) -> Self::Bin;
-    /// By exact products of floats.
+    /// By exact products of floats. Halves go away from zero.
     fn tolerance_code(self, bin: Self::Bin) -> Self;
+    /// The same, but that halves go to even.
+    fn tolerance_code_to_even(self, bin: Self::Bin) -> Self;
     fn tolerance_pattern(self, bin: Self::Bin) -> Self;
 }
 
@@ -96,6 +98,18 @@ pub struct Bin<Word, Float> {
 macro_rules! lane {
     ($word:tt, $signed:ident, $float:ident, $m:literal, $least_k:literal, $greatest_k:literal,
      $half_up:ident, $whole_as_float:ident) => {
+        impl Bin<$word, $float> {
+            /// The code of a pattern, told the magnitude code that it has if it is
+            /// below T.
+            #[inline(always)]
+            fn code(self, pattern: $word, near: $word) -> $word {
+                let ordinal = pattern << 1 >> 1;
+                let far = ordinal.wrapping_sub(self.lift);
+                let u = if ordinal < self.threshold { near } else { far };
+                (u << 1) | (pattern >> ($word::BITS - 1))
+            }
+        }
+
         impl Lane for $word {
             const W: u32 = $word::BITS;
             const LEAST_K: i32 = $least_k;
@@ -179,15 +193,21 @@ macro_rules! lane {
 
             #[inline(always)]
             fn tolerance_code(self, bin: Self::Bin) -> Self {
-                let ordinal = self << 1 >> 1;
-                let sign = self >> ($word::BITS - 1);
                 // Exact, but for magnitudes so far below E/2 that no rounding
                 // lifts them there. From T on it is not used.
-                let bins = $float::from_bits(ordinal) as f64 * bin.per_e[0] * bin.per_e[1];
-                let near = $half_up(bins);
-                let far = ordinal.wrapping_sub(bin.lift);
-                let u = if ordinal < bin.threshold { near } else { far };
-                (u << 1) | sign
+                let magnitude = $float::from_bits(self << 1 >> 1) as f64;
+                bin.code(self, $half_up(magnitude * bin.per_e[0] * bin.per_e[1]))
+            }
+
+            #[inline(always)]
+            fn tolerance_code_to_even(self, bin: Self::Bin) -> Self {
+                // From 2^m to 2^(m+1) a float counts ones: adding 2^m rounds to
+                // a whole number, halves to even, as IEEE 754 does. Singles hold
+                // the powers too, and their products are as exact.
+                const TWO_TO_M: $float = ((1 as $word) << $m) as $float;
+                let [first, second] = bin.per_e.map(|power| power as $float);
+                let bins = $float::from_bits(self << 1 >> 1) * first * second;
+                bin.code(self, (bins + TWO_TO_M).to_bits().wrapping_sub(TWO_TO_M.to_bits()))
             }
 
             #[inline(always)]
@@ -249,13 +269,16 @@ lane!(u64, i64, f64, 52, -1075, 970, half_up_53, whole_as_f64);
 
 // -------------------------------------------------------------- the modes
 
-/// How a mode makes codes of patterns, and restores them.
-trait Rule<P: Lane>: Copy {
+/// How a writer makes codes of patterns.
+trait Coding<P: Lane>: Copy {
     /// Hands on each group of a chunk by its codes and how many are its own. G is
     /// the group size. Codes past a short group's count are 0, which changes
     /// neither the width nor the bytes, as padding bits are zero too.
     fn for_each_group<const G: usize>(self, chunk: &[P], hand_on: impl FnMut(&[P; G], usize));
+}
 
+/// How a mode restores patterns.
+trait Restoring<P: Lane>: Copy {
     /// Restores a block from the codes of w bits that begin the bytes. What code
     /// 0 restores is told, and answered for the next block.
     fn restore(self, packed: &[u8], w: u32, still: P, block: &mut [P]) -> P;
@@ -264,35 +287,33 @@ trait Rule<P: Lane>: Copy {
     fn pattern_at<const G: usize>(self, chunk: &[u8], index: usize) -> P;
 }
 
-/// Modes 0 and 1: each pattern has its own code, and code 0 is pattern 0.
+/// Modes 0 and 1: each pattern has its own code, and code 0 is pattern 0. The
+/// function makes the one of the other.
 #[derive(Clone, Copy)]
-struct Each<Code, Restored> {
-    code: Code,
-    restored: Restored,
-}
+struct Each<Function>(Function);
 
-impl<P: Lane, Code: Fn(P) -> P + Copy, Restored: Fn(P) -> P + Copy> Rule<P>
-    for Each<Code, Restored>
-{
+impl<P: Lane, Code: Fn(P) -> P + Copy> Coding<P> for Each<Code> {
     #[inline(always)]
     fn for_each_group<const G: usize>(self, chunk: &[P], mut hand_on: impl FnMut(&[P; G], usize)) {
         for group in chunk.chunks(G) {
-            hand_on(&codes_of(group, self.code), group.len());
+            hand_on(&codes_of(group, self.0), group.len());
         }
     }
+}
 
+impl<P: Lane, Restored: Fn(P) -> P + Copy> Restoring<P> for Each<Restored> {
     #[inline(always)]
     fn restore(self, packed: &[u8], w: u32, _: P, block: &mut [P]) -> P {
         let codes = taken(packed, w);
         match <&mut [P; BLOCK]>::try_from(&mut *block) {
-            Ok(full) => restore_into(full, &codes, self.restored),
-            Err(_) => restore_into(block, &codes, self.restored),
+            Ok(full) => restore_into(full, &codes, self.0),
+            Err(_) => restore_into(block, &codes, self.0),
         }
         P::default()
     }
 
     fn pattern_at<const G: usize>(self, chunk: &[u8], index: usize) -> P {
-        (self.restored)(code_at::<P, G>(chunk, index))
+        (self.0)(code_at::<P, G>(chunk, index))
     }
 }
 
@@ -337,7 +358,7 @@ fn restore_into<P: Lane>(block: &mut [P], codes: &[P; BLOCK], restored: impl Fn(
 #[derive(Clone, Copy)]
 struct Differences;
 
-impl<P: Lane> Rule<P> for Differences {
+impl<P: Lane> Coding<P> for Differences {
     /// The whole chunk is coded by one long loop, of which the compiler makes
     /// better steps than of a group at a time.
     #[inline(always)]
@@ -351,7 +372,9 @@ impl<P: Lane> Rule<P> for Differences {
             hand_on(codes, group.len());
         }
     }
+}
 
+impl<P: Lane> Restoring<P> for Differences {
     #[inline(always)]
     fn restore(self, packed: &[u8], w: u32, still: P, block: &mut [P]) -> P {
         opened(packed, |window| match <&mut [P; BLOCK]>::try_from(&mut *block) {
@@ -399,24 +422,49 @@ macro_rules! by_size {
     };
 }
 
-/// Does something by the rule of an allowed mode and k, which is known to the
-/// compiler there.
-macro_rules! by_rule {
-    ($mode:expr, $k:expr, $rule:ident => $done:expr) => {
+/// Does something by the coding of a writer's level and an allowed mode and k,
+/// which is known to the compiler there.
+macro_rules! by_coding {
+    ($level:expr, $mode:expr, $k:expr, $coding:ident => $done:expr) => {
         match $mode {
             0 => {
-                let $rule = Each { code: P::lossless_code, restored: P::lossless_pattern };
+                let $coding = Each(P::lossless_code);
+                $done
+            }
+            1 if $level < FIRST_LEVEL_TO_EVEN => {
+                let bin = P::bin($k);
+                let $coding = Each(move |pattern: P| pattern.tolerance_code(bin));
                 $done
             }
             1 => {
                 let bin = P::bin($k);
-                let code = move |pattern: P| pattern.tolerance_code(bin);
-                let restored = move |code: P| code.tolerance_pattern(bin);
-                let $rule = Each { code, restored };
+                let $coding = Each(move |pattern: P| pattern.tolerance_code_to_even(bin));
                 $done
             }
             _ => {
-                let $rule = Differences;
+                let $coding = Differences;
+                $done
+            }
+        }
+    };
+}
+
+/// Does something by the restoring of an allowed mode and k, which is known to the
+/// compiler there.
+macro_rules! by_restoring {
+    ($mode:expr, $k:expr, $restoring:ident => $done:expr) => {
+        match $mode {
+            0 => {
+                let $restoring = Each(P::lossless_pattern);
+                $done
+            }
+            1 => {
+                let bin = P::bin($k);
+                let $restoring = Each(move |code: P| code.tolerance_pattern(bin));
+                $done
+            }
+            _ => {
+                let $restoring = Differences;
                 $done
             }
         }
@@ -425,7 +473,9 @@ macro_rules! by_rule {
 
 // ------------------------------------------------------- pack and length
 
-const LEVELS: RangeInclusive<u32> = 8..=13;
+const LEVELS: RangeInclusive<u32> = 8..=14;
+/// Writers from this level on send halves to even.
+const FIRST_LEVEL_TO_EVEN: u32 = 14;
 
 /// What pack and length are told besides the level and the list, and what a header
 /// tells.
@@ -501,8 +551,8 @@ pub fn pack<P: Lane>(
 ) -> Answer {
     let setting = Setting { mode, k, group };
     admit::<P>(level, setting, values.len())?;
-    let end = by_rule!(mode, k, rule => by_size!(group, G => {
-        pack_data::<P, G>(values, output, rule)
+    let end = by_coding!(level, mode, k, coding => by_size!(group, G => {
+        pack_data::<P, G>(values, output, coding)
     }))?;
     let n = values.len() as u32;
     let c = n.div_ceil(CHUNK as u32);
@@ -517,7 +567,9 @@ pub fn pack<P: Lane>(
 /// The bytes pack would use.
 pub fn length<P: Lane>(level: u32, mode: u32, k: i32, group: u32, values: &[P]) -> Answer {
     admit::<P>(level, Setting { mode, k, group }, values.len())?;
-    let length = by_rule!(mode, k, rule => by_size!(group, G => measured::<P, G>(values, rule)));
+    let length = by_coding!(level, mode, k, coding => by_size!(group, G => {
+        measured::<P, G>(values, coding)
+    }));
     Ok(length as u64)
 }
 
@@ -535,10 +587,10 @@ fn bytes_of(count: usize, w: u32) -> usize {
     (count * w as usize).div_ceil(8)
 }
 
-fn measured<P: Lane, const G: usize>(values: &[P], rule: impl Rule<P>) -> usize {
+fn measured<P: Lane, const G: usize>(values: &[P], coding: impl Coding<P>) -> usize {
     let mut length = HEADER + 4 * values.len().div_ceil(CHUNK);
     for chunk in values.chunks(CHUNK) {
-        rule.for_each_group::<G>(chunk, |codes, count| {
+        coding.for_each_group::<G>(chunk, |codes, count| {
             length += 1 + bytes_of(count, width_of(codes));
         });
     }
@@ -555,10 +607,10 @@ fn most_bytes<P: Lane, const G: usize>(n: usize) -> usize {
 fn pack_data<P: Lane, const G: usize>(
     values: &[P],
     output: &mut [u8],
-    rule: impl Rule<P>,
+    coding: impl Coding<P>,
 ) -> Result<usize, Refusal> {
     if output.len() < most_bytes::<P, G>(values.len()) {
-        let length = measured::<P, G>(values, rule);
+        let length = measured::<P, G>(values, coding);
         if output.len() < length {
             return Err(Refusal::with_detail(4, length as u64));
         }
@@ -569,7 +621,7 @@ fn pack_data<P: Lane, const G: usize>(
     let mut at = 0;
     for (chunk, entry) in values.chunks(CHUNK).zip(table) {
         entry.copy_from_slice(&(at as u32).to_le_bytes());
-        rule.for_each_group::<G>(chunk, |codes, count| {
+        coding.for_each_group::<G>(chunk, |codes, count| {
             let w = width_of(codes);
             let length = bytes_of(count, w);
             data[at] = w as u8;
@@ -878,7 +930,9 @@ pub fn unpack<P: Lane>(level: u32, stream: &[u8], output: &mut [P]) -> Answer {
     let data = &stream[header.data_place..header.data_end];
     let output = &mut output[..header.n];
     let Setting { mode, k, group } = header.setting;
-    by_rule!(mode, k, rule => by_size!(group, G => unpack_data::<P, G>(data, output, rule)));
+    by_restoring!(mode, k, restoring => by_size!(group, G => {
+        unpack_data::<P, G>(data, output, restoring)
+    }));
     Ok(header.n as u64)
 }
 
@@ -897,7 +951,9 @@ pub fn probe<P: Lane>(level: u32, stream: &[u8], index: u64) -> Result<P, Refusa
     let most = P::largest_code(mode, k);
     by_size!(group, G => check_chunk::<P, G>(stream, &header, chunk, most))?;
     let bytes = &stream[header.data_place + chunk_start(stream, chunk)..];
-    Ok(by_rule!(mode, k, rule => by_size!(group, G => rule.pattern_at::<G>(bytes, index))))
+    Ok(by_restoring!(mode, k, restoring => by_size!(group, G => {
+        restoring.pattern_at::<G>(bytes, index)
+    })))
 }
 
 /// The code at an index of the checked chunk that begins the bytes: the groups
@@ -924,7 +980,11 @@ fn block_of(group: &[u8], block: usize) -> (u32, &[u8]) {
 
 /// Restores all groups of checked data, block by block: chunks hold whole groups
 /// and follow each other without a gap.
-fn unpack_data<P: Lane, const G: usize>(mut data: &[u8], output: &mut [P], rule: impl Rule<P>) {
+fn unpack_data<P: Lane, const G: usize>(
+    mut data: &[u8],
+    output: &mut [P],
+    restoring: impl Restoring<P>,
+) {
     for chunk in output.chunks_mut(CHUNK) {
         let mut still = P::default();
         for group in chunk.chunks_mut(G) {
@@ -935,11 +995,11 @@ fn unpack_data<P: Lane, const G: usize>(mut data: &[u8], output: &mut [P], rule:
                 continue;
             }
             if G == BLOCK {
-                still = rule.restore(packed, w, still, group);
+                still = restoring.restore(packed, w, still, group);
                 continue;
             }
             for (number, block) in group.chunks_mut(BLOCK).enumerate() {
-                still = rule.restore(&packed[number * bytes_of(BLOCK, w)..], w, still, block);
+                still = restoring.restore(&packed[number * bytes_of(BLOCK, w)..], w, still, block);
             }
         }
     }

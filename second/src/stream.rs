@@ -4,12 +4,14 @@
 //! places and lengths are added as `u64`: the largest sum, the 64 lengths of a
 //! side table, stays far below 2^64.
 
-use crate::numbers::{self, bit_length, Tolerance, Width, WIDTH_32, WIDTH_64};
+use crate::numbers::{self, bit_length, Halves, Tolerance, Width, WIDTH_32, WIDTH_64};
 use crate::{Answer, Refusal};
 use std::ops::Range;
 
 pub const MOST_VALUES: u64 = 1_048_576;
-pub const HIGHEST_LEVEL: u32 = 13;
+pub const HIGHEST_LEVEL: u32 = 14;
+/// Writers from this level on send halves to even; nothing needs it to be read.
+const FIRST_LEVEL_TO_EVEN: u32 = 14;
 
 const HEADER_BYTES: u64 = 48;
 const TABLE_ENTRY_BYTES: u64 = 4;
@@ -107,12 +109,12 @@ impl Coding {
         }
     }
 
-    /// The code of a pattern, where `before` is the one before it in its chunk,
-    /// 0 for the first.
-    fn code(self, before: u64, pattern: u64) -> u64 {
+    /// The code of a pattern by a writer's rule for halves, where `before` is the
+    /// pattern before it in its chunk, 0 for the first.
+    fn code(self, halves: Halves, before: u64, pattern: u64) -> u64 {
         match self {
             Coding::Lossless(width) => numbers::lossless_code(width, pattern),
-            Coding::Tolerance(tolerance) => tolerance.code(pattern),
+            Coding::Tolerance(tolerance) => tolerance.code(halves, pattern),
             Coding::Difference(width) => numbers::difference_code(width, before, pattern),
         }
     }
@@ -195,6 +197,15 @@ pub(crate) fn level_known(level: u32) -> Result<(), Refusal> {
 
 // ------------------------------------------------------- pack and length
 
+/// Where a writer of this level sends halves. The need has no say.
+pub fn halves_of_writer(level: u32) -> Halves {
+    if level >= FIRST_LEVEL_TO_EVEN {
+        Halves::ToEven
+    } else {
+        Halves::AwayFromZero
+    }
+}
+
 /// Writes the packed stream to the front of the output. Order 1 2 3 4.
 pub fn pack<P: Pattern>(
     level: u32,
@@ -234,12 +245,14 @@ fn packed<P: Pattern>(
         return Err(Refusal::bare(3));
     }
 
+    let halves = halves_of_writer(level);
     let mut starts: Vec<u32> = Vec::new();
     let mut data: Vec<u8> = Vec::new();
     for chunk in values.chunks(VALUES_IN_CHUNK as usize) {
         starts.push(data.len() as u32);
-        for codes in codes_of_chunk(chunk, setting.coding).chunks(setting.group as usize) {
-            append_group(&mut data, codes);
+        let codes = codes_of_chunk(chunk, setting.coding, halves);
+        for group in codes.chunks(setting.group as usize) {
+            append_group(&mut data, group);
         }
     }
 
@@ -270,11 +283,11 @@ fn packed<P: Pattern>(
 }
 
 /// The codes of a chunk's values. No chunk knows of the one before it.
-fn codes_of_chunk<P: Pattern>(chunk: &[P], coding: Coding) -> Vec<u64> {
+fn codes_of_chunk<P: Pattern>(chunk: &[P], coding: Coding, halves: Halves) -> Vec<u64> {
     let mut before = 0;
     let mut codes = Vec::with_capacity(chunk.len());
     for value in chunk {
-        codes.push(coding.code(before, value.number()));
+        codes.push(coding.code(halves, before, value.number()));
         before = value.number();
     }
     codes

@@ -6,14 +6,14 @@ use mathlib.Core.List.{List, [], _∷_, _++_, map}
 use lib.IntN.{pos, negsuc}
 use lib.ListN.{length, replicate}
 use lib.Ieee.{size}
-use Rattle.bins.specs.Tolerance.{kOffset, lastBin, allowedK, binOf, sign, ordinal, significand, magnitude, threshold, thresholdOrdinal, near, magnitudeCode, toleranceCode, largestU}
+use Rattle.bins.specs.Tolerance.{kOffset, lastBin, allowedK, binOf, sign, ordinal, significand, magnitude, threshold, thresholdOrdinal, upper, halfway, nearest, near, magnitudeCode, toleranceCode, largestU}
 use Rattle.numbers.specs.Signed.{signedView, folded, bitsOf}
 use Rattle.numbers.specs.Lossless.{rotated, field, minus, lowered, stepped, losslessCode}
 use Rattle.numbers.specs.Difference.{differenceCode, differenceCodes}
 use Rattle.numbers.specs.Bound.{exponentOf}
 use Rattle.blocks.specs.Bytes.{number, digits}
 use Rattle.stream.specs.Group.{bytesFor, largest, widthOf, packed, groupBytes, givenWidth, groupLength, groupNumber, groupCodes, within, goodGroup}
-use Rattle.stream.specs.Setting.{highestLevel, knownLevel, knownWidth, knownSize, fractionBits, losslessMode, isZero, allowedMode, allowedSetting, binFor, settingOf, widthNeed, modeNeed, sizeNeed, need, streamNeed}
+use Rattle.stream.specs.Setting.{highestLevel, knownLevel, knownWidth, knownSize, fractionBits, losslessMode, isZero, allowedMode, allowedSetting, binFor, settingOf, halvesAt, settingAt, widthNeed, modeNeed, sizeNeed, need, streamNeed}
 use Rattle.stream.specs.Setting.{modeNumber, kBits, groupSize, clipped, codeAt, codesAfter, limitOf}
 use Rattle.stream.specs.Chunk.{groupsIn, groupsBytes, chunkBytes, firstFault, chunkAnswer}
 use Rattle.stream.specs.Rows.{rowsFrom, first, answer}
@@ -58,20 +58,27 @@ pub differences-in-128 : stream 13 (settingOf 32 2 (pos 0) 128) (5 ∷ 7 ∷ 7 �
 unfolding size signedView folded bitsOf rotated field minus lowered stepped losslessCode number digits bytesFor largest widthOf packed groupBytes fractionBits widthNeed modeNeed sizeNeed need kBits binFor groupSize codeAt codesAfter groupsIn groupsBytes chunkBytes chunksIn joined spell piece pieceBytes dataOf startsOf headerNumbers modeNumber endOf body stream differenceCode differenceCodes oneChunk
 differences-in-128 = refl
 
--- Within 2^-2, where the bin is 1/2 and the threshold 2^22: 1/4 has the code 2, as a half goes away from zero, -3/4 the code 5, and 2^22 - 2^-2, the last number
--- below the threshold, 2^24. They take 25 bits each.
-pub within-a-quarter : (size : ℕ) → (written mode : ℕ) → Type 0
-within-a-quarter size written mode =
-    stream written (settingOf 32 1 (negsuc 1) size) (0x3E80_0000 ∷ 0xBF40_0000 ∷ 0x4A7F_FFFF ∷ [])
-    ≡ oneChunk written written 32 mode 0xFFFF_FFFE 3 (0x19 ∷ 0x02 ∷ 0x00 ∷ 0x00 ∷ 0x0A ∷ 0x00 ∷ 0x00 ∷ 0x00 ∷ 0x00 ∷ 0x00 ∷ 0x04 ∷ [])
+-- Within 2^-2, where the bin is 1/2 and the threshold 2^22: 1/4 has the code 2, as a half goes away from zero, or by a writer at level 14 the code 0, as it goes to
+-- even; -3/4 has the code 5, and 2^22 - 2^-2, the last number below the threshold, 2^24, by both. They take 25 bits each.
+pub quarters : List ℕ
+quarters = 0x3E80_0000 ∷ 0xBF40_0000 ∷ 0x4A7F_FFFF ∷ []
 
-pub tolerance-packed : within-a-quarter 32 9 1 × within-a-quarter 128 13 257
-unfolding size signedView folded bitsOf rotated field minus lowered stepped losslessCode number digits bytesFor largest widthOf packed groupBytes fractionBits widthNeed modeNeed sizeNeed need kBits binFor groupSize codeAt codesAfter groupsIn groupsBytes chunkBytes chunksIn joined spell piece pieceBytes dataOf startsOf headerNumbers modeNumber endOf body stream clipped kOffset lastBin binOf exponentOf sign ordinal significand magnitude threshold thresholdOrdinal near magnitudeCode toleranceCode oneChunk within-a-quarter
-tolerance-packed = (refl, refl)
+pub theirCodes : ℕ → List ℕ
+theirCodes code = 0x19 ∷ code ∷ 0x00 ∷ 0x00 ∷ 0x0A ∷ 0x00 ∷ 0x00 ∷ 0x00 ∷ 0x00 ∷ 0x00 ∷ 0x04 ∷ []
+
+pub within-a-quarter : (size written needed mode code : ℕ) → Type 0
+within-a-quarter size written needed mode code =
+    stream written (settingAt written 32 1 (negsuc 1) size) quarters ≡ oneChunk written needed 32 mode 0xFFFF_FFFE 3 (theirCodes code)
+
+pub tolerance-packed :
+    within-a-quarter 32 9 9 1 2 × within-a-quarter 32 13 9 1 2 × within-a-quarter 32 14 9 1 0
+    × within-a-quarter 128 13 13 257 2 × within-a-quarter 128 14 13 257 0
+unfolding size signedView folded bitsOf rotated field minus lowered stepped losslessCode number digits bytesFor largest widthOf packed groupBytes fractionBits widthNeed modeNeed sizeNeed need kBits binFor halvesAt groupSize codeAt codesAfter groupsIn groupsBytes chunkBytes chunksIn joined spell piece pieceBytes dataOf startsOf headerNumbers modeNumber endOf body stream clipped kOffset lastBin binOf exponentOf sign ordinal significand magnitude threshold thresholdOrdinal upper halfway nearest near magnitudeCode toleranceCode oneChunk within-a-quarter quarters theirCodes
+tolerance-packed = (refl, refl, refl, refl, refl)
 
 -- In groups of 128, 1,024 zeros are 60 bytes, of either width and in each mode.
 pub zeros-measured : map (λ (t : ℕ × ℕ). length (stream 13 (settingOf (t .0) (t .1) (pos 0) 128) (replicate 1024 0))) ((32, 0) ∷ (32, 1) ∷ (32, 2) ∷ (64, 0) ∷ (64, 1) ∷ (64, 2) ∷ []) ≡ replicate 6 60
-unfolding size signedView folded bitsOf rotated field minus lowered stepped losslessCode number digits bytesFor largest widthOf packed groupBytes fractionBits widthNeed modeNeed sizeNeed need kBits binFor groupSize codeAt codesAfter groupsIn groupsBytes chunkBytes chunksIn joined spell piece pieceBytes dataOf startsOf headerNumbers modeNumber endOf body stream differenceCode differenceCodes clipped kOffset lastBin binOf exponentOf sign ordinal significand magnitude threshold thresholdOrdinal near magnitudeCode toleranceCode
+unfolding size signedView folded bitsOf rotated field minus lowered stepped losslessCode number digits bytesFor largest widthOf packed groupBytes fractionBits widthNeed modeNeed sizeNeed need kBits binFor groupSize codeAt codesAfter groupsIn groupsBytes chunkBytes chunksIn joined spell piece pieceBytes dataOf startsOf headerNumbers modeNumber endOf body stream differenceCode differenceCodes clipped kOffset lastBin binOf exponentOf sign ordinal significand magnitude threshold thresholdOrdinal upper halfway nearest near magnitudeCode toleranceCode
 zeros-measured = refl
 
 -- ---- which settings there are

@@ -153,7 +153,7 @@ unfolding size signedView folded bitsOf number digits bytesFor largest widthOf g
 written-eight-read = refl
 
 -- levels that are not known
-levels-known : map (λ (level : ℕ). checkAnswer level theirBytes) (0 ∷ 7 ∷ 14 ∷ []) ≡ replicate 3 (Refused 1 0)
+levels-known : map (λ (level : ℕ). checkAnswer level theirBytes) (0 ∷ 7 ∷ 15 ∷ []) ≡ replicate 3 (Refused 1 0)
 unfolding size signedView folded bitsOf number digits bytesFor largest widthOf givenWidth groupLength groupNumber groupCodes within goodGroup highestLevel knownLevel knownWidth fractionBits widthNeed modeNeed sizeNeed need highId someHigh streamNeed losslessMode isZero allowedSetting allowedMode knownSize binFor groupSize limitOf groupsIn firstFault chunkAnswer first answer word headerOf kOf chunksIn tooMany needRight settingRight saidMode saidSize layoutRight every startAt startRight chunkTableRight sideId sidePlace sideLength idFloor partAt entryRight sideTableRight idsFrom idsIn countOf chunkOf chunkState spell headerRows openingRows needRow idRow sideRows tableRows faultDetail faultRow rowsFrom chunkRow chunkRows contentRows checkRows checkAnswer widthRow roomRow unpackRows unpackAnswer theirBytes
 levels-known = refl
 

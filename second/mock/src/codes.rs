@@ -1,7 +1,8 @@
 //! The lower library, with the faults of the codes and of bound.
 
 use crate::faults::{planted, Fault};
-use second::numbers::{self, Tolerance, Width, WIDTH_64};
+use crate::halves;
+use second::numbers::{self, Halves, Tolerance, Width, WIDTH_64};
 use second::Refusal;
 
 pub fn lossless_code(width: Width, pattern: u64) -> u64 {
@@ -62,15 +63,12 @@ fn has_middle_exponent(width: Width, pattern: u64) -> bool {
     exponent(width, pattern) == middle_exponent(width)
 }
 
-pub fn tolerance_code(t: Tolerance, pattern: u64) -> u64 {
-    let code = t.code(pattern);
+pub fn tolerance_code(t: Tolerance, halves: Halves, pattern: u64) -> u64 {
+    let code = halves::code(t, halves, pattern);
     if planted(Fault::nan_quantized) && is_nan(t.width(), pattern) {
         return code % 2;
     }
-    if planted(Fault::half_to_even) && is_half(t, pattern) && code / 2 % 2 == 1 {
-        return code - 2;
-    }
-    if planted(Fault::half_added_in_floats) && just_below_first_half(t, pattern) {
+    if planted(Fault::half_added_in_floats) && halves::just_below_first(t, pattern) {
         return code + 2;
     }
     code
@@ -106,20 +104,6 @@ pub fn restored_pattern(width: Width, pattern: u64) -> u64 {
 
 pub fn is_nan(width: Width, pattern: u64) -> bool {
     width.ordinal(pattern) > width.greatest_field() << width.fraction_bits()
-}
-
-/// Whether the value lies in the middle between two bins: it is the first
-/// pattern of its bin, and below the bin's own value.
-fn is_half(t: Tolerance, pattern: u64) -> bool {
-    let code = t.code(pattern);
-    t.width().ordinal(pattern) < t.threshold_ordinal()
-        && code >= 2
-        && t.code(pattern - 1) == code - 2
-        && t.restored(code) != Some(pattern)
-}
-
-fn just_below_first_half(t: Tolerance, pattern: u64) -> bool {
-    t.code(pattern) < 2 && t.code(pattern + 1) == t.code(pattern) + 2
 }
 
 pub fn bound(width: u32, tolerance: u64) -> Result<i32, Refusal> {

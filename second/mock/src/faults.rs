@@ -16,7 +16,7 @@ macro_rules! faults {
 
 faults! {
     // The codes.
-    /// A half goes to the even bin.
+    /// A half that goes away from zero goes to the even bin.
     half_to_even,
     /// 0.5 is added to v/E as floats, and the sum cut.
     half_added_in_floats,
@@ -78,6 +78,58 @@ faults! {
     any_k_packed,
     /// Any k is read in mode 2.
     any_k_read,
+
+    // Halves to even.
+    /// Level 14 is not known.
+    level_14_unknown,
+    /// Writers at level 13 send halves to even, too.
+    even_at_13,
+    /// Writers at level 14 send halves away from zero.
+    away_at_14,
+    /// The need decides the rule, and not the level.
+    rule_of_need,
+    /// The need of groups of 128 is enough for halves to even.
+    even_at_need_of_128,
+    /// Halves go to even in groups of 32 only.
+    even_only_in_32,
+    /// Halves go to even at width 32 only.
+    even_only_at_32,
+    /// Halves go to the odd bin.
+    halves_to_odd,
+    /// Halves go down.
+    halves_down,
+    /// A half is sent by the lowest bit of its code, which is the sign, in place of that of u.
+    even_by_code,
+    /// The half of one bin goes away from zero.
+    first_half_away,
+    /// The last half below T goes down.
+    last_half_down,
+    /// The nearest above a half goes to even, too.
+    above_half_to_even,
+    /// The nearest below a half goes to even, too.
+    below_half_to_even,
+    /// Length measures with halves away from zero.
+    length_by_away,
+    /// Pack at level 14 states a need of 14 in mode 1.
+    even_needs_14,
+    /// A need of 14 is read.
+    need_14_read,
+    /// A written minor of 14 is refused 8 below level 14.
+    written_14_refused,
+    /// The rule 2 is taken as that to even.
+    halves_2_taken,
+    /// Any rule but 0 is taken as that to even.
+    halves_by_truth,
+    /// The rule is looked at by its lowest byte.
+    halves_by_lowest_byte,
+    /// The two rules are taken for each other.
+    halves_exchanged,
+    /// A rule that there is not is refused with its number as the detail.
+    halves_told,
+    /// A rule that there is not is refused, but a code is written.
+    halves_written,
+    /// The listing checks at level 13.
+    listing_at_level_13,
 
     // Groups of 128.
     /// Level 13 is not known.
@@ -306,9 +358,9 @@ faults! {
     order_4_before_3,
 
     // Reading.
-    /// Level 14 is known.
-    level_14_known,
-    /// A need of 10 to 13 counts as its last digit.
+    /// Level 15 is known.
+    level_15_known,
+    /// A need of 10 to 14 counts as its last digit.
     minor_by_last_digit,
     /// A written minor above the highest level is refused 8.
     written_limited,

@@ -5,6 +5,7 @@
 mod codes;
 mod differences;
 mod faults;
+mod halves;
 mod naming;
 mod needs;
 mod packing;
@@ -187,8 +188,17 @@ macro_rules! operations {
         /// # Safety
         /// The code must be writable.
         #[no_mangle]
-        pub unsafe extern "C" fn $tolerance_code(k: i32, pattern: $word, code: *mut $word) -> u64 {
-            let made = tolerance($width, k).map(|t| codes::tolerance_code(t, pattern as u64));
+        pub unsafe extern "C" fn $tolerance_code(
+            halves: u32,
+            k: i32,
+            pattern: $word,
+            code: *mut $word,
+        ) -> u64 {
+            if planted(Fault::halves_written) && halves > 1 {
+                *code = 0;
+            }
+            let (rule, t) = (halves::numbered(halves), tolerance($width, k));
+            let made = rule.and_then(|rule| Ok(codes::tolerance_code(t?, rule, pattern as u64)));
             write_one(made.map(|code| (0, code)), code)
         }
 

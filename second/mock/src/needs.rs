@@ -15,7 +15,8 @@ pub fn faced_level(level: u32) -> u32 {
     match level {
         12 if planted(Fault::level_12_unknown) => HIGHEST_LEVEL + 1,
         13 if planted(Fault::level_13_unknown) => HIGHEST_LEVEL + 1,
-        14 if planted(Fault::level_14_known) => HIGHEST_LEVEL,
+        14 if planted(Fault::level_14_unknown) => HIGHEST_LEVEL + 1,
+        15 if planted(Fault::level_15_known) => HIGHEST_LEVEL,
         _ => level,
     }
 }
@@ -56,6 +57,7 @@ impl Need {
         match (self.stated, self.high_ids.is_empty()) {
             _ if planted(Fault::late_need_ignored) => self.exact(),
             (12, true) if planted(Fault::need_12_without_high_id) => self.exact(),
+            (14, true) if planted(Fault::need_14_read) => self.exact(),
             (11, false) if planted(Fault::high_id_needs_11) => 12,
             (12, false) if planted(Fault::high_id_needs_11) => 11,
             _ => self.stated,
@@ -97,6 +99,7 @@ pub fn faced(level: u32, stream: Vec<u8>) -> (u32, Vec<u8>) {
     let faults = [
         Fault::late_need_ignored,
         Fault::need_12_without_high_id,
+        Fault::need_14_read,
         Fault::high_id_needs_11,
         Fault::id_2_31_skipped,
         Fault::high_ids_skipped,

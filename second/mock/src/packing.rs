@@ -2,8 +2,8 @@
 
 use crate::faults::{planted, Fault};
 use crate::reading::numbers_of;
-use crate::{codes, differences, needs, sizes, tolerance, Word};
-use second::numbers::{self, Tolerance};
+use crate::{codes, differences, halves, needs, sizes, tolerance, Word};
+use second::numbers::{self, Halves, Tolerance};
 use second::stream::{self, HIGHEST_LEVEL};
 use second::{Answer, Refusal};
 
@@ -53,8 +53,8 @@ fn refused_early<P: Word>(asked: Asked, values: &[P]) -> Answer {
     Ok(0)
 }
 
-/// Values whose codes are those a planted fault gives to these.
-fn as_coded<P: Word>(asked: Asked, values: &[P]) -> Vec<P> {
+/// Values whose codes are those a planted fault gives to these by a rule for halves.
+fn as_coded<P: Word>(asked: Asked, rule: Halves, values: &[P]) -> Vec<P> {
     if asked.mode == 2 {
         let coded = differences::as_packed(P::WIDTH, asked.group as usize, &numbers_of(values));
         return coded.into_iter().map(P::of_number).collect();
@@ -66,7 +66,7 @@ fn as_coded<P: Word>(asked: Asked, values: &[P]) -> Vec<P> {
             P::of_number(numbers::lossless_pattern(P::WIDTH, code))
         }
         Some(t) => {
-            let code = codes::tolerance_code(t, value.number());
+            let code = codes::tolerance_code(t, rule, value.number());
             t.restored(code).map_or(*value, P::of_number)
         }
     };
@@ -88,7 +88,7 @@ fn faced<P: Word>(asked: Asked) -> Asked {
 pub fn length<P: Word>(asked: Asked, values: &[P]) -> Answer {
     let asked = faced::<P>(asked);
     refused_early(asked, values)?;
-    let coded = as_coded(asked, values);
+    let coded = as_coded(asked, halves::rule_of_length::<P>(asked), values);
     asked.length(&coded)?;
     Ok(sizes::length(asked.group, &asked.packed(&coded)?))
 }
@@ -96,7 +96,8 @@ pub fn length<P: Word>(asked: Asked, values: &[P]) -> Answer {
 pub fn pack<P: Word>(asked: Asked, values: &[P], out: &mut [u8]) -> Answer {
     let faced = faced::<P>(asked);
     refused_early(faced, values)?;
-    let stream = match faced.packed(&as_coded(faced, values)) {
+    let coded = as_coded(faced, halves::rule_of_writer::<P>(faced), values);
+    let stream = match faced.packed(&coded) {
         Err(Refusal { number: 3, .. }) if planted(Fault::order_4_before_3) && out.len() < 48 => {
             return Err(Refusal::with_detail(4, 48));
         }
@@ -109,7 +110,7 @@ pub fn pack<P: Word>(asked: Asked, values: &[P], out: &mut [u8]) -> Answer {
     out[..length].copy_from_slice(&stream);
     let of_32 = faced.mode == 2 && faced.group == 32;
     let need = if of_32 { differences::need(P::WIDTH) } else { out[8] as u32 };
-    touch_packed(asked.level, need, out, length);
+    touch_packed(asked.level, halves::stated_need(asked, need), out, length);
     Ok(length as u64)
 }
 

@@ -6,7 +6,7 @@
 use crate::faults::{planted, Fault};
 use crate::sizes::{self, group, mode};
 use crate::{codes, differences, naming, needs, Word};
-use second::numbers::{self, bit_length, Tolerance, Width};
+use second::numbers::{self, bit_length, Halves, Tolerance, Width};
 use second::stream::{self, Probed, HIGHEST_LEVEL};
 use second::{Answer, Refusal};
 use std::ops::Range;
@@ -154,7 +154,9 @@ fn refused_tables(level: u32, stream: &[u8]) -> bool {
 /// What a planted fault makes of a reader's answer.
 fn changed(level: u32, stream: &[u8], answer: Answer) -> Answer {
     let Err(refusal) = answer else {
-        let limited = planted(Fault::written_limited) && number(stream, 1) > HIGHEST_LEVEL;
+        let written = number(stream, 1);
+        let limited = planted(Fault::written_limited) && written > HIGHEST_LEVEL
+            || planted(Fault::written_14_refused) && written == 14 && level < 14;
         return if limited { Err(Refusal::bare(8)) } else { answer };
     };
     let changed = match refusal.number {
@@ -260,7 +262,9 @@ fn codes_allowed<P: Word>(stream: &[u8], values: &[P]) -> Result<(), Refusal> {
 /// The first value in mode 1 whose code is refused.
 fn first_refused<P: Word>(k: i32, values: &[P]) -> Option<usize> {
     let t = Tolerance::allowed(P::WIDTH, k)?;
-    values.iter().position(|value| codes::is_refused_code(t, t.code(value.number())))
+    // A restored value is no half.
+    let code = |value: &P| t.code(Halves::AwayFromZero, value.number());
+    values.iter().position(|value| codes::is_refused_code(t, code(value)))
 }
 
 /// The same for a stream whose values nobody has asked for.

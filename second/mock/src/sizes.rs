@@ -44,7 +44,7 @@ pub fn faced(asked: Asked) -> Asked {
         _ => (mode, group),
     };
     let early = planted(Fault::size_needs_12) || planted(Fault::size_packed_at_12);
-    let level = if early && level == 12 && group == 128 { HIGHEST_LEVEL } else { level };
+    let level = if early && level == 12 && group == 128 { 13 } else { level };
     Asked { level, mode, k, group }
 }
 

@@ -5,32 +5,64 @@ use super::fields::Cell;
 use super::timing::Who;
 use crate::compare::operations::Operations;
 use crate::compare::outcome::answered;
+use crate::numbers::Halves;
 use crate::plain;
-use crate::stream::HIGHEST_LEVEL;
+use crate::stream::{halves_of_writer, HIGHEST_LEVEL};
 use std::ops::Range;
 use std::slice::from_mut;
 
-/// All settings are allowed at the highest level.
-pub const LEVEL: u32 = HIGHEST_LEVEL;
+/// The level of the readers. It reads every setting.
+const READER: u32 = HIGHEST_LEVEL;
+/// The last writers that send halves away from zero, and the first that send them to
+/// even.
+const AWAY: u32 = 13;
+const TO_EVEN: u32 = 14;
 /// The tolerance of mode 1 is 2^K: about a millimetre per second.
 pub const K: i32 = -10;
 
 #[derive(Clone, Copy, Debug, PartialEq, Eq)]
 pub struct Setting {
+    /// That of the writer.
+    pub level: u32,
     pub mode: u32,
     pub k: i32,
     pub group: u32,
 }
 
-/// Every mode with groups of 32, and then with groups of 128.
-pub const SETTINGS: [Setting; 6] = [
-    Setting { mode: 0, k: 0, group: 32 },
-    Setting { mode: 1, k: K, group: 32 },
-    Setting { mode: 2, k: 0, group: 32 },
-    Setting { mode: 0, k: 0, group: 128 },
-    Setting { mode: 1, k: K, group: 128 },
-    Setting { mode: 2, k: 0, group: 128 },
+/// Every mode with groups of 32, mode 1 by both rules for halves, and then the same with
+/// groups of 128.
+pub const SETTINGS: [Setting; 8] = [
+    Setting { level: HIGHEST_LEVEL, mode: 0, k: 0, group: 32 },
+    Setting { level: AWAY, mode: 1, k: K, group: 32 },
+    Setting { level: TO_EVEN, mode: 1, k: K, group: 32 },
+    Setting { level: HIGHEST_LEVEL, mode: 2, k: 0, group: 32 },
+    Setting { level: HIGHEST_LEVEL, mode: 0, k: 0, group: 128 },
+    Setting { level: AWAY, mode: 1, k: K, group: 128 },
+    Setting { level: TO_EVEN, mode: 1, k: K, group: 128 },
+    Setting { level: HIGHEST_LEVEL, mode: 2, k: 0, group: 128 },
 ];
+
+/// What the tables call the rules for halves, and modes without halves.
+pub const HALVES_AWAY: &str = "away";
+pub const HALVES_TO_EVEN: &str = "even";
+pub const NO_HALVES: &str = "-";
+
+impl Setting {
+    /// What the tables call the rule for halves.
+    pub fn halves(self) -> &'static str {
+        match (self.mode, halves_of_writer(self.level)) {
+            (1, Halves::AwayFromZero) => HALVES_AWAY,
+            (1, Halves::ToEven) => HALVES_TO_EVEN,
+            _ => NO_HALVES,
+        }
+    }
+
+    /// Streams of both rules are read alike: with halves to even the writers alone are
+    /// measured.
+    pub fn is_read(self) -> bool {
+        self.halves() != HALVES_TO_EVEN
+    }
+}
 
 pub struct Codec<P> {
     pub who: Who,
@@ -51,17 +83,19 @@ impl Value for u64 {}
 pub fn codec_of<L: Operations<P>, P>(who: Who) -> Codec<P> {
     Codec {
         who,
-        pack: |setting, values, output| {
+        pack: |Setting { level, mode, k, group }, values, output| {
             let room = 0..output.len();
-            L::pack(LEVEL, setting.mode, setting.k, setting.group, values, output, room)
+            L::pack(level, mode, k, group, values, output, room)
         },
-        length: |setting, values| L::length(LEVEL, setting.mode, setting.k, setting.group, values),
-        check: |stream| L::check(LEVEL, stream),
+        length: |Setting { level, mode, k, group }, values| {
+            L::length(level, mode, k, group, values)
+        },
+        check: |stream| L::check(READER, stream),
         unpack: |stream, output| {
             let room = 0..output.len();
-            L::unpack(LEVEL, stream, output, room)
+            L::unpack(READER, stream, output, room)
         },
-        probe: |stream, index, pattern| L::probe(LEVEL, stream, index, from_mut(pattern), 0..1),
+        probe: |stream, index, pattern| L::probe(READER, stream, index, from_mut(pattern), 0..1),
     }
 }
 

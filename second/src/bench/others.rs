@@ -17,10 +17,10 @@ pub type PackOther<P> = Box<dyn Fn(Setting, &[P], &mut [u8]) -> usize>;
 pub type UnpackOther<P> = Box<dyn Fn(Setting, &[u8], &mut [P]) -> usize>;
 
 impl<P: Value> Other<P> {
-    /// It knows no group size, so it runs once for each mode it has: beside groups
-    /// of 32.
+    /// It knows no group size and no rule for halves, so it runs once for each mode it
+    /// has: beside groups of 32, and halves away from zero.
     pub fn runs_beside(&self, setting: Setting) -> bool {
-        setting.group == 32 && self.modes.contains(&setting.mode)
+        setting.group == 32 && setting.is_read() && self.modes.contains(&setting.mode)
     }
 
     pub fn packed(&self, setting: Setting, values: &[P]) -> Vec<u8> {

@@ -1,5 +1,6 @@
 //! Speed against size as a picture, from the lines of results.csv.
 
+use super::codec::HALVES_TO_EVEN;
 use super::fields::FIELDS;
 use super::report::CSV_HEADER;
 use super::timing::{Operation, Who};
@@ -12,6 +13,7 @@ struct Point {
     width: u32,
     mode: u32,
     group: u32,
+    to_even: bool,
     field: String,
     /// Packed bytes by raw bytes.
     share: f64,
@@ -21,8 +23,8 @@ struct Point {
 }
 
 /// The other versions of our own format are not drawn: they have our sizes, and
-/// the tables have their speeds. Nor are groups of 128, whose marks lie on those of
-/// 32 or beside them: a table has both.
+/// the tables have their speeds. Nor are groups of 128, or halves to even, whose marks
+/// lie on those of 32, or of halves away from zero, or beside them: tables have both.
 const DRAWN: [Who; 5] = [Who::Ours, Who::Lz4, Who::Zstd, Who::Zfp, Who::Blosc];
 
 /// The picture as SVG, or nothing if the text is not a results.csv.
@@ -41,7 +43,8 @@ pub fn picture(csv: &str) -> Option<String> {
 
 fn point(line: &str) -> Option<Point> {
     let columns: Vec<&str> = line.split(',').collect();
-    let [width, mode, group, field, who, operation, raw, packed, median, _, lost] = columns[..]
+    let [width, mode, group, halves, field, who, operation, raw, packed, median, _, lost] =
+        columns[..]
     else {
         return None;
     };
@@ -53,6 +56,7 @@ fn point(line: &str) -> Option<Point> {
         width: width.parse().ok()?,
         mode: mode.parse().ok()?,
         group: group.parse().ok()?,
+        to_even: halves == HALVES_TO_EVEN,
         field: field.to_string(),
         share: packed / raw,
         megabytes_a_second: raw / 1e6 / median,
@@ -140,6 +144,7 @@ impl Panel {
         let here = |point: &&Point| {
             DRAWN.contains(&point.who)
                 && point.group == 32
+                && !point.to_even
                 && (point.mode, point.operation) == (self.mode, self.operation)
         };
         let drawn: Vec<&Point> = points.iter().filter(here).collect();

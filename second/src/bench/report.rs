@@ -1,6 +1,6 @@
 //! The results as CSV and as tables in Markdown.
 
-use super::codec::{Setting, Value};
+use super::codec::{Setting, Value, HALVES_TO_EVEN};
 use super::fields::VALUES;
 use super::growth::{Growth, LENGTHS};
 use super::others::{lost_by, Lost, Other};
@@ -43,7 +43,7 @@ pub fn load_line() -> String {
 // --------------------------------------------------------------------- CSV
 
 pub const CSV_HEADER: &str =
-    "width,mode,group,field,who,operation,raw bytes,packed bytes,median seconds,minimum seconds,lost values";
+    "width,mode,group,halves,field,who,operation,raw bytes,packed bytes,median seconds,minimum seconds,lost values";
 
 pub fn csv(rows: &[Row]) -> String {
     let mut text = format!("{CSV_HEADER}\n");
@@ -55,9 +55,9 @@ pub fn csv(rows: &[Row]) -> String {
             let runs = if timing.operation == Operation::Probe { PROBES as f64 } else { 1.0 };
             let (median, minimum) = (timing.median / runs, timing.minimum / runs);
             let (who, operation) = (timing.who.name(), timing.operation.name());
-            let Row { width, mode, group, field, .. } = row;
+            let Row { width, mode, group, halves, field, .. } = row;
             let lost = lost_of(row, timing.who);
-            let _ = write!(text, "{width},{mode},{group},{field},{who},{operation},");
+            let _ = write!(text, "{width},{mode},{group},{halves},{field},{who},{operation},");
             add(&mut text, format_args!("{raw},{packed},{median:e},{minimum:e},{lost}"));
         }
     }
@@ -116,9 +116,9 @@ fn megabytes_a_second(row: &Row, seconds: f64) -> f64 {
 pub fn beside(baseline: Who, title: &str, rows: &[Row]) -> String {
     let mut text = format!(
         "Beside {title}. MB (10^6 raw bytes) a second, or ns a probe; in brackets the share of the \
-         speed of {}, by medians and by minima.\n\n\
-         | width | mode | group | field | size | pack | pack, exact room | length | check | unpack \
-         | probe | memcpy |\n|---|---|---|---|---|---|---|---|---|---|---|---|\n",
+         speed of {}, by medians and by minima. Streams of both rules for halves are read alike.\n\n\
+         | width | mode | group | halves | field | size | pack | pack, exact room | length | check \
+         | unpack | probe | memcpy |\n|---|---|---|---|---|---|---|---|---|---|---|---|---|\n",
         baseline.name()
     );
     for row in rows {
@@ -127,8 +127,8 @@ pub fn beside(baseline: Who, title: &str, rows: &[Row]) -> String {
         let copy = timing_of(&row.timings, Who::Memcpy, Operation::Copy);
         let copy = copy.map_or(0.0, |copy| megabytes_a_second(row, copy.median));
         let size = share(row, Who::Ours);
-        let (Row { width, mode, group, field, .. }, cells) = (row, cells.join(" | "));
-        let _ = write!(text, "| {width} | {mode} | {group} | {field} | {size} | ");
+        let (Row { width, mode, group, halves, field, .. }, cells) = (row, cells.join(" | "));
+        let _ = write!(text, "| {width} | {mode} | {group} | {halves} | {field} | {size} | ");
         add(&mut text, format_args!("{cells} | {copy:.0} |"));
     }
     text + "\n"
@@ -189,8 +189,8 @@ pub fn group_sizes(rows: &[Row]) -> String {
         "Groups of 128 beside groups of 32, Gwizdorad alone: both sizes; in brackets the share of \
          the stream that is width bytes; and the speed of 128 as a share of that of 32, by medians \
          and by minima.\n\n\
-         | width | mode | field | size at 32 | size at 128 | pack | length | check | unpack | probe |\n\
-         |---|---|---|---|---|---|---|---|---|---|\n",
+         | width | mode | halves | field | size at 32 | size at 128 | pack | length | check | unpack \
+         | probe |\n|---|---|---|---|---|---|---|---|---|---|---|\n",
     );
     const COMPARED: [Operation; 5] =
         [Operation::Pack, Operation::Length, Operation::Check, Operation::Unpack, Operation::Probe];
@@ -199,8 +199,9 @@ pub fn group_sizes(rows: &[Row]) -> String {
     for (small, row) in of_size(32).zip(of_size(128)) {
         let sizes = [small, row].map(size_and_width_bytes).join(" | ");
         let speeds = COMPARED.map(|operation| share_of_speed(row, small, operation)).join(" | ");
-        let Row { width, mode, field, .. } = row;
-        add(&mut text, format_args!("| {width} | {mode} | {field} | {sizes} | {speeds} |"));
+        let Row { width, mode, halves, field, .. } = row;
+        let _ = write!(text, "| {width} | {mode} | {halves} | {field} | ");
+        add(&mut text, format_args!("{sizes} | {speeds} |"));
     }
     text + "\n"
 }
@@ -224,8 +225,9 @@ pub fn beside_others(rows: &[Row]) -> String {
     );
     add(&mut text, format_args!("| width | mode | field | {} |", names.join(" | ")));
     add(&mut text, format_args!("|---|---|---|{}", "---|".repeat(names.len())));
-    // The others know no group size, and stand beside groups of 32.
-    for row in rows.iter().filter(|row| row.group == 32) {
+    // The others know no group size and no halves, and stand beside groups of 32 and the
+    // first rule.
+    for row in rows.iter().filter(|row| row.group == 32 && row.halves != HALVES_TO_EVEN) {
         let cells: Vec<String> = columns.iter().map(|&who| size_and_speeds(row, who)).collect();
         let (Row { width, mode, field, .. }, cells) = (row, cells.join(" | "));
         add(&mut text, format_args!("| {width} | {mode} | {field} | {cells} |"));

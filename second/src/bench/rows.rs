@@ -1,6 +1,6 @@
-//! One row of the benchmark: a field at one width, mode and group size, every
-//! operation of each version, memcpy and the other compressors. Results are verified before
-//! anything is timed.
+//! One row of the benchmark: a field at one width, mode, group size and rule for halves,
+//! every operation of each version, memcpy and the other compressors. Results are verified
+//! before anything is timed.
 
 use super::codec::{most_bytes, tuned_codec, Codec, Setting, Value};
 use super::fields::Sample;
@@ -18,6 +18,8 @@ pub struct Row {
     pub width: u32,
     pub mode: u32,
     pub group: u32,
+    /// The rule for halves, as the tables call it.
+    pub halves: &'static str,
     pub field: String,
     /// How many values the field has.
     pub n: usize,
@@ -69,6 +71,7 @@ pub fn measure<P: Value>(
         width: P::W,
         mode: setting.mode,
         group: setting.group,
+        halves: setting.halves(),
         field: sample.name.clone(),
         n,
         sizes: own.chain(foreign).collect(),
@@ -127,9 +130,17 @@ fn count_lost<P: Value>(case: &Case<P>, rival: &Rival<P>) -> usize {
 }
 
 fn contenders_of<'a, P: Value>(case: &'a Case<P>, codec: &Codec<P>) -> Vec<Contender<'a, P>> {
-    let Case { setting, values, stream, places, .. } = case;
-    let Codec { who, pack, length, check, unpack, probe } = *codec;
-    vec![
+    let mut contenders = Vec::from(writers_of(case, codec));
+    if case.setting.is_read() {
+        contenders.extend(readers_of(case, codec));
+    }
+    contenders
+}
+
+fn writers_of<'a, P: Value>(case: &'a Case<P>, codec: &Codec<P>) -> [Contender<'a, P>; 3] {
+    let Case { setting, values, stream, .. } = case;
+    let Codec { who, pack, length, .. } = *codec;
+    [
         Contender::new(who, Operation::Pack, move |space: &mut Space<P>| {
             pack(*setting, values, &mut space.bytes)
         }),
@@ -137,6 +148,13 @@ fn contenders_of<'a, P: Value>(case: &'a Case<P>, codec: &Codec<P>) -> Vec<Conte
             pack(*setting, values, &mut space.bytes[..stream.len()])
         }),
         Contender::new(who, Operation::Length, move |_: &mut Space<P>| length(*setting, values)),
+    ]
+}
+
+fn readers_of<'a, P: Value>(case: &'a Case<P>, codec: &Codec<P>) -> [Contender<'a, P>; 3] {
+    let Case { stream, places, .. } = case;
+    let Codec { who, check, unpack, probe, .. } = *codec;
+    [
         Contender::new(who, Operation::Check, move |_: &mut Space<P>| check(stream)),
         Contender::new(who, Operation::Unpack, move |space: &mut Space<P>| {
             unpack(stream, &mut space.values)

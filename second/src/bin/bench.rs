@@ -105,14 +105,17 @@ impl Results {
         let others: Vec<_> = installable::<P>().into_iter().filter_map(|one| one.found).collect();
         for setting in SETTINGS {
             let (width, mode, group) = (P::W, setting.mode, setting.group);
+            let name = format!("width {width} mode {mode} group {group} {}", setting.halves());
             let mut add_row = |sample: &Sample<P>| {
-                eprintln!("width {width} mode {mode} group {group} {}", sample.name);
+                eprintln!("{name} {}", sample.name);
                 self.rows.push(rows::measure(sample, setting, &codecs, &others, watch));
             };
             FIELDS.iter().for_each(|field| add_row(&field.sample()));
             files.iter().for_each(add_row);
-            eprintln!("width {width} mode {mode} group {group} growth");
-            self.growths.push(growth::measure(setting, &codecs[0], watch));
+            if setting.is_read() {
+                eprintln!("{name} growth");
+                self.growths.push(growth::measure(setting, &codecs[0], watch));
+            }
             let others = others.iter().filter(|other| other.runs_beside(setting));
             self.keeping.extend(others.map(|other| report::kept_by(other, setting)));
         }

@@ -44,7 +44,7 @@ fn field_of(rng: &mut XorShift, setting: Setting, patterns: Vec<u64>) -> Field {
     let level = need + rng.below((HIGHEST_LEVEL - need + 1) as u64) as u32;
     let mut field = Field::packed(setting, level, patterns);
     if rng.chance(8) {
-        put(&mut field.plain, WRITTEN, rng.one_of(&[14, 20, 4_000_000_000]));
+        put(&mut field.plain, WRITTEN, rng.one_of(&[15, 20, 4_000_000_000]));
     }
     field
 }
@@ -63,7 +63,7 @@ fn compare_whole(judge: &mut Judge, rng: &mut XorShift, setting: Setting, patter
     let field = &field_of(rng, setting, patterns);
     let summarized = Summarized { field, copy: field.with_summary() };
     summarized.compare_rooms(judge);
-    for level in 7..=14 {
+    for level in 7..=15 {
         summarized.compare_at(judge, rng, level);
     }
     for x in patterns_asked(rng, field) {

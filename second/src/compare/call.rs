@@ -116,8 +116,10 @@ pub enum Call<'a> {
         width: Width,
         code: u64,
     },
+    /// The rule for halves is told by its number, which may be none.
     ToleranceCode {
         width: Width,
+        halves: u32,
         k: i32,
         pattern: u64,
     },
@@ -246,7 +248,9 @@ impl fmt::Display for Call<'_> {
             Call::Bound { width, tolerance } => write!(f, "width {width} tolerance {tolerance:x}"),
             Call::LosslessCode { pattern, .. } => write!(f, "pattern {pattern:x}"),
             Call::LosslessRestored { code, .. } => write!(f, "code {code:x}"),
-            Call::ToleranceCode { k, pattern, .. } => write!(f, "k {k} pattern {pattern:x}"),
+            Call::ToleranceCode { halves, k, pattern, .. } => {
+                write!(f, "halves {halves} k {k} pattern {pattern:x}")
+            }
             Call::ToleranceRestored { k, code, .. } => write!(f, "k {k} code {code:x}"),
         }
     }

@@ -159,11 +159,11 @@ impl<W: Write, R: Read> Wire<W, R> {
     }
 
     fn add_head(&mut self, call: &Call, count: usize, buffer: usize, room: Range<usize>) {
-        let Numbers { level, mode, k, group, width, number } = Numbers::of(call);
+        let Numbers { level, mode, k, group, width, halves, number } = Numbers::of(call);
         let mut name = [0; NAME];
         name[..call.operation().len()].copy_from_slice(call.operation().as_bytes());
         self.bytes.extend(name);
-        u32::add(&mut self.bytes, &[level, mode, k as u32, group, width, 0]);
+        u32::add(&mut self.bytes, &[level, mode, k as u32, group, width, halves]);
         let sizes = [count, room.start, room.len(), buffer - room.end].map(|size| size as u64);
         u64::add(&mut self.bytes, &[number]);
         u64::add(&mut self.bytes, &sizes);
@@ -198,6 +198,7 @@ struct Numbers {
     k: i32,
     group: u32,
     width: u32,
+    halves: u32,
     number: u64,
 }
 
@@ -218,7 +219,9 @@ impl Numbers {
             Call::Bound { width, tolerance } => Numbers { width, number: tolerance, ..none },
             Call::LosslessCode { pattern, .. } => Numbers { number: pattern, ..none },
             Call::LosslessRestored { code, .. } => Numbers { number: code, ..none },
-            Call::ToleranceCode { k, pattern, .. } => Numbers { k, number: pattern, ..none },
+            Call::ToleranceCode { halves, k, pattern, .. } => {
+                Numbers { halves, k, number: pattern, ..none }
+            }
             Call::ToleranceRestored { k, code, .. } => Numbers { k, number: code, ..none },
         }
     }

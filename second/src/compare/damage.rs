@@ -244,7 +244,7 @@ pub fn other_numbers(stream: &[u8], order: usize) -> Vec<u32> {
     let length = stream.len() as u32;
     #[rustfmt::skip]
     let mut numbers = vec![
-        0, 1, 2, 3, 7, 8, 9, 10, 11, 12, 13, 14, 31, 32, 33, 47, 48, 49, 63, 64, 65, 100, 108,
+        0, 1, 2, 3, 7, 8, 9, 10, 11, 12, 13, 14, 15, 31, 32, 33, 47, 48, 49, 63, 64, 65, 100, 108,
         1023, 1024, 1025, 1 << 20, (1 << 20) + 1, 1 << 30, 1 << 31, u32::MAX - 1023, u32::MAX,
         length - 1, length, length + 1,
     ];
@@ -288,7 +288,7 @@ pub fn several_header_numbers(judge: &mut Judge, rng: &mut XorShift, extent: Ext
             let number = some_number(rng, &stream, order);
             put(&mut stream, order, number);
         }
-        let level = rng.one_of(&[8, 9, 10, 11, 12, 13, 13, 13]);
+        let level = rng.one_of(&[8, 9, 10, 11, 12, 13, 14, 14, 14]);
         read(judge, level, &stream);
     }
 }
@@ -297,7 +297,7 @@ pub fn several_header_numbers(judge: &mut Judge, rng: &mut XorShift, extent: Ext
 fn some_number(rng: &mut XorShift, stream: &[u8], order: usize) -> u32 {
     let likely: &[u32] = match order {
         MAJOR => &[1],
-        WRITTEN | NEEDED => &[7, 8, 9, 10, 11, 12, 13, 14],
+        WRITTEN | NEEDED => &[7, 8, 9, 10, 11, 12, 13, 14, 15],
         WIDTH => &[32, 64],
         MODE => &[0, 1, 2, 3, 256, 257, 258, 259],
         K => &[0, -2i32 as u32, -150i32 as u32, 103, 970, -1075i32 as u32],
@@ -318,7 +318,7 @@ fn some_number(rng: &mut XorShift, stream: &[u8], order: usize) -> u32 {
 pub fn random_damage(judge: &mut Judge, rng: &mut XorShift, extent: Extent) {
     for _ in 0..extent.rounds(12_000) {
         let stream = damaged_stream(rng);
-        let level = rng.one_of(&[13, 13, 13, 13, 13, 13, 12, 11, 10, 9, 8, 7, 14]);
+        let level = rng.one_of(&[14, 14, 14, 14, 14, 14, 13, 12, 11, 10, 9, 8, 7, 15]);
         read(judge, level, &stream);
     }
 }

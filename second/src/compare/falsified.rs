@@ -362,7 +362,7 @@ fn random_damage(judge: &mut Judge, rng: &mut XorShift) {
     if !rng.chance(4) {
         damage(rng, &mut stream);
     }
-    let level = rng.one_of(&[13, 13, 13, 13, 13, 12, 11, 10, 9, 8, 7, 14]);
+    let level = rng.one_of(&[14, 14, 14, 14, 14, 13, 12, 11, 10, 9, 8, 7, 15]);
     add(judge, level, &stream);
     judge.compare(Call::TestSummary { level, stream: &stream });
     for width in WIDTHS {

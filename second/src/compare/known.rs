@@ -27,7 +27,8 @@ pub const LOSSLESS_32: [(u64, u64); 10] = [
     (0x7FC0_0000, 0xFF00_0000),
 ];
 
-/// Mode 1, width 32, k = -2: pattern, code and restored pattern.
+/// Mode 1, width 32, k = -2: pattern, code and restored pattern, with halves away
+/// from zero.
 const TOLERANCE_32: [(u64, u64, u64); 7] = [
     (0x3E80_0000, 2, 0x3F00_0000),             // 0.25, restored 0.5
     (0x3E60_0000, 0, 0),                       // 0.21875
@@ -36,6 +37,20 @@ const TOLERANCE_32: [(u64, u64, u64); 7] = [
     (0x4A80_0000, 16_777_216, 0x4A80_0000),    // 4194304
     (0x7F80_0000, 1_795_162_112, 0x7F80_0000), // infinity
     (0x3E7F_FFFF, 0, 0),                       // the last below 0.25
+];
+
+/// The same with halves to even.
+const TOLERANCE_TO_EVEN_32: [(u64, u64, u64); 10] = [
+    (0x3E80_0000, 0, 0),                       // 0.25
+    (0xBE80_0000, 1, 0x8000_0000),             // -0.25, restored -0
+    (0x3E60_0000, 0, 0),                       // 0.21875
+    (0x3E80_0001, 2, 0x3F00_0000),             // the first above 0.25
+    (0xBF40_0000, 5, 0xBF80_0000),             // -0.75, restored -1.0
+    (0x3FA0_0000, 4, 0x3F80_0000),             // 1.25, restored 1.0
+    (0x4A7F_FFFD, 16_777_212, 0x4A7F_FFFC),    // 4194303.25, restored 4194303
+    (0x4A7F_FFFF, 16_777_216, 0x4A80_0000),    // 4194303.75, restored 4194304
+    (0x4A80_0000, 16_777_216, 0x4A80_0000),    // 4194304
+    (0x7F80_0000, 1_795_162_112, 0x7F80_0000), // infinity
 ];
 
 /// Mode 2: the patterns of a list, and their codes.
@@ -78,6 +93,7 @@ const fn power_of_two(exponent: i64) -> f64 {
 pub fn known_values(judge: &mut Judge, _: &mut XorShift, _: Extent) {
     lossless_codes(judge);
     tolerance_codes(judge);
+    examples_of_halves(judge);
     for (tolerance, k) in BOUNDS_32 {
         let answer = match k {
             Ok(k) => k as u32 as u64,
@@ -110,14 +126,65 @@ fn lossless_codes(judge: &mut Judge) {
 
 fn tolerance_codes(judge: &mut Judge) {
     let (width, k) = (WIDTH_32, -2);
-    for (pattern, code, restored) in TOLERANCE_32 {
-        judge.compare_known(Call::ToleranceCode { width, k, pattern }, 0, &[code]);
+    let away = TOLERANCE_32.map(|known| (0, known));
+    let to_even = TOLERANCE_TO_EVEN_32.map(|known| (1, known));
+    for (halves, (pattern, code, restored)) in away.into_iter().chain(to_even) {
+        judge.compare_known(Call::ToleranceCode { width, halves, k, pattern }, 0, &[code]);
         judge.compare_known(Call::ToleranceRestored { width, k, code }, 0, &[restored]);
+    }
+    for halves in [2, 3, 1 << 31, u32::MAX] {
+        let other = Call::ToleranceCode { width, halves, k, pattern: 0 };
+        judge.compare_known(other, refused(Refusal::bare(2)), &[]);
     }
     let largest = Call::ToleranceRestored { width, k, code: 2 * 905_969_663 };
     judge.compare_known(largest, 0, &[0x7FFF_FFFF]);
     let above = Call::ToleranceRestored { width, k, code: 2 * 905_969_664 };
     judge.compare_known(above, refused(Refusal::bare(10)), &[]);
+}
+
+/// The list 0.25, -0.75 within 2^-2, by every writer that can. Its codes, of 3 bits, are
+/// 2 and 5 up to level 13, and 0 and 5 from level 14 on; every reader from the need on
+/// restores the same of them.
+fn examples_of_halves(judge: &mut Judge) {
+    for setting in every_setting().into_iter().filter(|setting| setting.mode == 1) {
+        for level in setting.need()..=HIGHEST_LEVEL {
+            let (restored, codes) = if level < 14 { (0.5, 0x2A) } else { (0.0, 0x28) };
+            example_of_halves(judge, setting, level, codes, [restored, -1.0]);
+        }
+    }
+}
+
+fn example_of_halves(
+    judge: &mut Judge,
+    setting: Setting,
+    level: u32,
+    codes: u8,
+    restored: [f64; 2],
+) {
+    let Setting { width, mode, k, group } = setting;
+    let (need, number) = (setting.need(), setting.mode_number());
+    let header = [1, level, need, width.bits(), number, k as u32, 2, 1, 48, 52, 0, 54, 0];
+    let stream = &[&bytes_of(&header)[..], &[3, codes]].concat();
+    let bytes: Vec<u64> = stream.iter().map(|&byte| byte as u64).collect();
+    let list = List::of(width, [0.25, -0.75].map(|value| pattern_of(width, value)));
+    let (values, room) = (list.values(), stream.len());
+    judge.compare_known(Call::Length { level, mode, k, group, values }, room as u64, &[]);
+    let pack = Call::Pack { level, mode, k, group, values, room };
+    judge.compare_known(pack, room as u64, &bytes);
+    for level in need..=HIGHEST_LEVEL {
+        judge.compare_known(Call::Check { level, stream }, 2, &[]);
+        let unpack = Call::Unpack { width, level, stream, room: 2 };
+        judge.compare_known(unpack, 2, &restored.map(|value| pattern_of(width, value)));
+    }
+}
+
+/// The pattern of a value, which a single holds too.
+fn pattern_of(width: Width, value: f64) -> u64 {
+    if width == WIDTH_32 {
+        (value as f32).to_bits() as u64
+    } else {
+        value.to_bits()
+    }
 }
 
 /// Mode 0: no values, 1,024 zeros, and 1,025, which have two chunks. A group of
@@ -241,7 +308,7 @@ fn difference_levels(judge: &mut Judge, width: Width) {
     let list = List::of(width, [5, 7]);
     let values = list.values();
     for (level, k, number) in
-        [(7, 0, 1), (8, 0, 2), (9, 0, 2), (10, 0, 2), (11, 1, 2), (13, -2, 2), (14, 0, 1)]
+        [(7, 0, 1), (8, 0, 2), (9, 0, 2), (10, 0, 2), (11, 1, 2), (14, -2, 2), (15, 0, 1)]
     {
         let (mode, group, refusal) = (2, 32, refused(Refusal::bare(number)));
         judge.compare_known(Call::Length { level, mode, k, group, values }, refusal, &[]);
@@ -261,7 +328,7 @@ fn difference_levels(judge: &mut Judge, width: Width) {
 /// may be skipped, at each level with each need.
 fn example_of_high_ids(judge: &mut Judge) {
     for needed in LEVELS {
-        let mut stream = bytes_of(&[1, 13, needed, 32, 0, 0, 3, 1, 48, 52, 3, 55, 0]);
+        let mut stream = bytes_of(&[1, 14, needed, 32, 0, 0, 3, 1, 48, 52, 3, 55, 0]);
         stream.extend([0x03, 0x10, 0x01]);
         stream.extend(bytes_of(&[0x7FFF_FFFF, 91, 0, 0x8000_0000, 91, 0, 0x8000_0001, 91, 0]));
         for level in LEVELS {

@@ -1,9 +1,11 @@
 //! Inputs for the listing program: sound streams, their cuts, damaged ones,
 //! one for each bad group, some with right and with wrong needs, some with a
-//! summary, some with groups of 128, and some about as long as a listing takes.
+//! summary, some with groups of 128, some of halves, and some about as long as a
+//! listing takes.
 
 use super::damage::{damaged_stream, small_streams, some_stream};
 use super::falsified::streams_with_summary;
+use super::halves::streams_of_halves;
 use super::needs::streams_with_needs;
 use super::places::streams_with_bad_group;
 use super::random::XorShift;
@@ -31,6 +33,7 @@ pub fn inputs(seed: u64, extent: Extent) -> Vec<Vec<u8>> {
     inputs.extend(streams_with_needs());
     inputs.extend(streams_with_summary(&mut rng));
     inputs.extend(streams_of_128(&mut rng));
+    inputs.extend(streams_of_halves(&mut rng));
     inputs
 }
 

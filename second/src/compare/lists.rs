@@ -122,7 +122,7 @@ fn needs(judge: &mut Judge, rng: &mut XorShift) {
 fn other_sizes(judge: &mut Judge, rng: &mut XorShift) {
     for setting in every_setting() {
         for group in OTHER_SIZES {
-            for (level, number) in [(7, 1), (8, 2), (10, 2), (12, 2), (13, 2), (14, 1)] {
+            for (level, number) in [(7, 1), (8, 2), (10, 2), (12, 2), (13, 2), (14, 2), (15, 1)] {
                 let packing = Packing { level, setting: Setting { group, ..setting } };
                 let list = packing.some_list(rng, 3);
                 judge.compare_meant(packing.length(&list), number);
@@ -176,9 +176,9 @@ fn there_and_back(judge: &mut Judge, rng: &mut XorShift, packing: Packing, list:
         return;
     };
     if list.values().count() <= 70 && rng.chance(3) {
-        read_at_levels(judge, &[7, 8, 9, 10, 11, 12, 13, 14], &stream);
+        read_at_levels(judge, &[7, 8, 9, 10, 11, 12, 13, 14, 15], &stream);
     } else {
-        let other = rng.one_of(&[7, 8, 9, 10, 11, 12, 14, 20, 1 << 31, u32::MAX]);
+        let other = rng.one_of(&[7, 8, 9, 10, 11, 12, 13, 15, 20, 1 << 31, u32::MAX]);
         read_at_levels(judge, &[HIGHEST_LEVEL, other], &stream);
     }
     let n = list.values().count() as u64;
@@ -197,7 +197,8 @@ pub fn random_lists(judge: &mut Judge, rng: &mut XorShift, extent: Extent) {
 }
 
 /// For every allowed k a list of the patterns at the edges of its rules with the
-/// one group size, and a few of them with the other.
+/// one group size, and a few of them with the other, by the first writer that can and
+/// by the last.
 pub fn every_k(judge: &mut Judge, rng: &mut XorShift, extent: Extent) {
     let step = if extent == Extent::Quick { 15 } else { 1 };
     for width in WIDTHS {
@@ -207,10 +208,12 @@ pub fn every_k(judge: &mut Judge, rng: &mut XorShift, extent: Extent) {
             let sizes = if k % 2 == 0 { [32, 128] } else { [128, 32] };
             for (patterns, group) in [edges, few].into_iter().zip(sizes) {
                 let setting = Setting { width, mode: 1, k, group };
-                let packing = Packing { level: setting.need(), setting };
                 let list = List::of(width, patterns);
-                if let Some(stream) = measure_and_pack(judge, packing, &list) {
-                    read(judge, HIGHEST_LEVEL, &stream);
+                for level in [setting.need(), HIGHEST_LEVEL] {
+                    let packing = Packing { level, setting };
+                    if let Some(stream) = measure_and_pack(judge, packing, &list) {
+                        read(judge, HIGHEST_LEVEL, &stream);
+                    }
                 }
             }
         }

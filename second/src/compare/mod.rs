@@ -9,8 +9,8 @@
 //!   that suit mode 2.
 //! * `summaries`: streams and their summaries.
 //! * `known`, `rules`, `lists`, `orders`, `damage`, `tables`, `groups`,
-//!   `places`, `differences`, `needs`, `adding`, `falsified`, `sizes`: the sections,
-//!   each a source of calls.
+//!   `places`, `differences`, `needs`, `adding`, `falsified`, `sizes`, `halves`: the
+//!   sections, each a source of calls.
 //! * [`listings`]: the inputs for the listing program, which is run apart.
 
 pub mod call;
@@ -29,6 +29,7 @@ mod damage;
 mod differences;
 mod falsified;
 mod groups;
+mod halves;
 mod lists;
 mod needs;
 mod orders;
@@ -75,7 +76,7 @@ pub struct Options {
 
 type Section = (&'static str, fn(&mut Judge, &mut XorShift, Extent));
 
-const SECTIONS: [Section; 28] = [
+const SECTIONS: [Section; 30] = [
     ("known values", known::known_values),
     ("lossless codes", rules::lossless_codes),
     ("tolerance codes", rules::tolerance_codes),
@@ -104,9 +105,11 @@ const SECTIONS: [Section; 28] = [
     ("false summaries", falsified::falsified),
     ("summaries in damaged streams", falsified::damaged),
     ("groups of 128", sizes::sizes),
+    ("codes of halves", halves::codes),
+    ("lists of halves", halves::lists),
 ];
 
-const BRIEF_SECTIONS: [Section; 7] = [
+const BRIEF_SECTIONS: [Section; 8] = [
     ("lists for every k", lists::every_k),
     ("random lists", lists::random_lists),
     ("random damage", damage::random_damage),
@@ -114,6 +117,7 @@ const BRIEF_SECTIONS: [Section; 7] = [
     ("differences", differences::differences),
     ("needs and high ids", needs::needs),
     ("groups of 128", sizes::sizes),
+    ("lists of halves", halves::lists),
 ];
 
 /// Runs every section and writes what was compared; answers whether nothing

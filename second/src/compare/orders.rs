@@ -29,7 +29,7 @@ type PackingBreak = (u32, fn(&mut Packing));
 /// Each breaks the rule of the refusal with its number, in the order of pack.
 const PACKING_BREAKS: [PackingBreak; 34] = [
     (1, |packing| packing.level = 7),
-    (1, |packing| packing.level = 14),
+    (1, |packing| packing.level = 15),
     (1, |packing| packing.level = 0),
     (1, |packing| packing.level = u32::MAX),
     (2, |packing| packing.mode = 3),
@@ -152,9 +152,9 @@ type ReadingBreak = (Rule, fn(&mut Reading));
 
 /// Each breaks one rule in a sound reading, or in one whose later rules are
 /// broken.
-const READING_BREAKS: [ReadingBreak; 81] = [
+const READING_BREAKS: [ReadingBreak; 84] = [
     (1, |r| r.level = 7),
-    (1, |r| r.level = 14),
+    (1, |r| r.level = 15),
     (1, |r| r.level = 0),
     (1, |r| r.level = u32::MAX),
     (2, |r| r.x = not_numbers(r.width)[0]),
@@ -167,7 +167,7 @@ const READING_BREAKS: [ReadingBreak; 81] = [
     (6, |r| put(&mut r.stream, MAJOR, 2)),
     (6, |r| put(&mut r.stream, MAJOR, 257)),
     (6, |r| put(&mut r.stream, MAJOR, (1 << 31) + 1)),
-    (7, |r| put(&mut r.stream, NEEDED, 14)),
+    (7, |r| put(&mut r.stream, NEEDED, 15)),
     (7, |r| put(&mut r.stream, NEEDED, 100)),
     (7, |r| put(&mut r.stream, NEEDED, u32::MAX)),
     (7, |r| {
@@ -181,6 +181,10 @@ const READING_BREAKS: [ReadingBreak; 81] = [
     (7, |r| {
         r.level = 12;
         put(&mut r.stream, NEEDED, 13);
+    }),
+    (7, |r| {
+        r.level = 13;
+        put(&mut r.stream, NEEDED, 14);
     }),
     (8, |r| {
         let need = need_of_setting(&r.stream);
@@ -230,8 +234,13 @@ const READING_BREAKS: [ReadingBreak; 81] = [
     (9, |r| put(&mut r.stream, STARTS, u32::MAX)),
     (9, |r| r.stream.push(0)),
     (9, |r| add(&mut r.stream, DATA_END, u32::MAX)), // one byte earlier
-    // A need above the setting's without a high id, or below 12 with one.
+    // A need above the stream's, without a high id and with one, or below 12 with one.
+    (LATE_8, |r| put(&mut r.stream, NEEDED, 14)),
     (LATE_8, |r| put_wrong_need(&mut r.stream, 13)),
+    (LATE_8, |r| {
+        put_high_id(&mut r.stream, FIRST_HIGH_ID);
+        put(&mut r.stream, NEEDED, 14);
+    }),
     (LATE_8, |r| {
         put_high_id(&mut r.stream, FIRST_HIGH_ID);
         put_wrong_need(&mut r.stream, 11);
@@ -287,13 +296,10 @@ fn need_of_setting(stream: &[u8]) -> u32 {
 }
 
 /// Makes the need another than the stream's, and not below the setting's: puts this
-/// one, or, as no level is above the need of groups of 128, keeps that and makes them
-/// groups of 32.
+/// one, or in groups of 128 the only one above theirs.
 fn put_wrong_need(stream: &mut [u8], needed: u32) {
-    match mode_of(stream) {
-        (mode, 128) => put(stream, MODE, mode),
-        _ => put(stream, NEEDED, needed),
-    }
+    let (_, group) = mode_of(stream);
+    put(stream, NEEDED, if group == 128 { 14 } else { needed });
 }
 
 /// Makes the last side part, or a new one, one that must be understood, and

@@ -2,7 +2,7 @@
 
 use super::call::{Call, List, Values};
 use super::outcome::{answered, lend, lend_one, refused, Outcome};
-use crate::numbers::{self, Tolerance, Width, WIDTH_32};
+use crate::numbers::{self, Halves, Tolerance, Width, WIDTH_32};
 use crate::stream::{self, Pattern, Probed};
 use crate::summary;
 use crate::{Answer, Refusal};
@@ -40,8 +40,8 @@ pub fn by_reference(call: &Call) -> Outcome {
         Call::LosslessRestored { width, code } => {
             Outcome::bare(numbers::lossless_pattern(width, code))
         }
-        Call::ToleranceCode { width, k, pattern } => {
-            lend_one(width, tolerance(width, k).map(|t| (0, t.code(pattern))))
+        Call::ToleranceCode { width, halves, k, pattern } => {
+            lend_one(width, tolerance_code(width, halves, k, pattern))
         }
         Call::ToleranceRestored { width, k, code } => {
             lend_one(width, tolerance_restored(width, k, code))
@@ -109,6 +109,11 @@ fn bound(width: u32, tolerance: u64) -> u64 {
 
 fn tolerance(width: Width, k: i32) -> Result<Tolerance, Refusal> {
     Tolerance::allowed(width, k).ok_or(Refusal::bare(2))
+}
+
+fn tolerance_code(width: Width, halves: u32, k: i32, pattern: u64) -> Result<(u64, u64), Refusal> {
+    let halves = Halves::numbered(halves).ok_or(Refusal::bare(2))?;
+    Ok((0, tolerance(width, k)?.code(halves, pattern)))
 }
 
 fn tolerance_restored(width: Width, k: i32, code: u64) -> Result<(u64, u64), Refusal> {

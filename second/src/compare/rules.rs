@@ -4,7 +4,7 @@ use super::call::Call;
 use super::judge::Judge;
 use super::random::{allowed_k, bin_exponent, half_bins, some_k, some_pattern, XorShift, WIDTHS};
 use super::Extent;
-use crate::numbers::{Tolerance, Width, WIDTH_64};
+use crate::numbers::{Halves, Tolerance, Width, WIDTH_64};
 
 // ------------------------------------------------------ the lossless code
 
@@ -43,10 +43,17 @@ fn some_code(rng: &mut XorShift, width: Width) -> u64 {
 
 // ----------------------------------------------------- the tolerance code
 
+/// By both rules for halves.
 fn quantize_and_back(judge: &mut Judge, width: Width, k: i32, pattern: u64) {
-    judge.compare(Call::ToleranceCode { width, k, pattern });
+    for halves in Halves::BOTH.map(Halves::number) {
+        judge.compare(Call::ToleranceCode { width, halves, k, pattern });
+    }
     if let Some(tolerance) = Tolerance::allowed(width, k) {
-        restore(judge, width, k, tolerance.code(pattern));
+        let [away, even] = Halves::BOTH.map(|halves| tolerance.code(halves, pattern));
+        restore(judge, width, k, away);
+        if even != away {
+            restore(judge, width, k, even);
+        }
     }
 }
 

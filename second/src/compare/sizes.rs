@@ -65,10 +65,10 @@ fn mode_numbers(judge: &mut Judge, rng: &mut XorShift, extent: Extent) {
     let one_in = one_in(extent);
     for width in WIDTHS {
         for number in MODE_NUMBERS {
-            for needed in 7..=14 {
-                for written in [needed - 1, needed, 13, 20] {
+            for needed in 7..=15 {
+                for written in [needed - 1, needed, 14, 20] {
                     let header = [1, written, needed, width.bits(), number, 0, 3, 1, 48, 52, 0, 53];
-                    for level in 7..=14 {
+                    for level in 7..=15 {
                         if rng.chance(one_in) {
                             mode_number(judge, rng, width, level, &header);
                         }
@@ -334,7 +334,7 @@ pub fn streams_of_128(rng: &mut XorShift) -> Vec<Vec<u8>> {
         let sound = stream_of_codes(setting, &[3; 200]);
         let others = MODE_NUMBERS.into_iter().filter(|&number| number != setting.mode_number());
         streams.extend(others.map(|number| with(&sound, &[(MODE, number)])));
-        let needs = 7..=14;
+        let needs = 7..=15;
         streams.extend(needs.map(|needed| with(&sound, &[(NEEDED, needed)])));
     }
     streams

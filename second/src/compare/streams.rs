@@ -65,7 +65,7 @@ pub const MODES: [(u32, i32); 3] = [(0, 0), (1, -2), (2, 0)];
 const ADDED_FOR_128: u32 = 256;
 
 /// Every level that is known.
-pub const LEVELS: [u32; 6] = [8, 9, 10, 11, 12, 13];
+pub const LEVELS: [u32; 7] = [8, 9, 10, 11, 12, 13, 14];
 
 /// The first id that must be understood, and what such ids need.
 pub const FIRST_HIGH_ID: u32 = 1 << 31;

@@ -1,10 +1,10 @@
 //! The benchmark's parts that need no linked library.
 
-use second::bench::codec::{Setting, SETTINGS};
+use second::bench::codec::{Setting, HALVES_AWAY, HALVES_TO_EVEN, NO_HALVES, SETTINGS};
 use second::bench::fields::{special_values, Cell, Field, Sample, FIELDS, SIDE, VALUES};
 use second::bench::others::{lost, Lost};
 use second::bench::picture::{letter_places, overlap, picture};
-use second::bench::report::{csv, differences, group_sizes, CSV_HEADER};
+use second::bench::report::{beside, csv, differences, group_sizes, CSV_HEADER};
 use second::bench::rows::Row;
 use second::bench::timing::{timed, Contender, Operation, Space, Timing, Watch, Who};
 use std::cell::Cell as Counter;
@@ -82,7 +82,7 @@ fn lost_values_are_counted_by_kind() {
 
 #[test]
 fn a_finite_value_may_be_off_by_the_tolerance_and_no_more() {
-    let setting = Setting { mode: 1, k: -2, group: 32 };
+    let setting = Setting { level: 14, mode: 1, k: -2, group: 32 };
     let lost_of = |back: f64| lost(setting, &[1f64.to_bits()], &[back.to_bits()]).finite;
     assert_eq!([lost_of(1.25), lost_of(0.75), lost_of(1.26), lost_of(f64::NAN)], [0, 0, 1, 1]);
 }
@@ -106,12 +106,14 @@ fn every_contender_runs_once_a_round() {
 
 #[test]
 fn the_picture_is_drawn_from_results_alone() {
-    let line = "32,0,32,smooth,Gwizdorad,pack,4194304,3600000,0.004,0.003,0";
-    let large = "32,0,128,smooth,Gwizdorad,pack,4194304,3500000,0.004,0.003,0";
-    let copy = "32,0,32,smooth,memcpy,copy,4194304,4194304,0.0005,0.0004,0";
-    let file = "32,0,32,sea.f32,Gwizdorad,pack,400,300,0.004,0.003,0";
-    let svg = picture(&format!("{CSV_HEADER}\n{line}\n{large}\n{copy}\n{file}\n")).unwrap();
-    // Two marks in a panel, those with groups of 32, and two in the legend.
+    let line = "32,0,32,-,smooth,Gwizdorad,pack,4194304,3600000,0.004,0.003,0";
+    let large = "32,0,128,-,smooth,Gwizdorad,pack,4194304,3500000,0.004,0.003,0";
+    let even = "32,1,32,even,smooth,Gwizdorad,pack,4194304,3600000,0.004,0.003,0";
+    let copy = "32,0,32,-,smooth,memcpy,copy,4194304,4194304,0.0005,0.0004,0";
+    let file = "32,0,32,-,sea.f32,Gwizdorad,pack,400,300,0.004,0.003,0";
+    let csv = format!("{CSV_HEADER}\n{line}\n{large}\n{even}\n{copy}\n{file}\n");
+    let svg = picture(&csv).unwrap();
+    // Two marks in a panel, those with groups of 32 and not to even, and two in the legend.
     assert_eq!(svg.matches("<circle").count(), 4);
     assert!(svg.contains("s smooth, c calm, n noisy, h half-dry, t tide, 1 sea.f32."), "{svg}");
     assert!(svg.contains(">s</text>") && svg.contains(">1</text>"), "{svg}");
@@ -127,8 +129,8 @@ fn a_mark_whose_compressor_lost_values_is_crossed() {
         let pack = Timing { who, operation: Operation::Pack, median: 0.004, minimum: 0.003 };
         let (sizes, losses) = (vec![(who, 4000)], vec![(who, lost)]);
         let (field, timings) = (String::from("noisy"), vec![pack]);
-        let (width, mode, group, n) = (32, 1, 32, 1024);
-        let results = csv(&[Row { width, mode, group, field, n, sizes, losses, timings }]);
+        let (width, mode, group, halves, n) = (32, 1, 32, HALVES_AWAY, 1024);
+        let results = csv(&[Row { width, mode, group, halves, field, n, sizes, losses, timings }]);
         assert!(results.ends_with(&format!(",{lost}\n")), "{results}");
         picture(&results).unwrap().matches("stroke=\"#111\"").count()
     };
@@ -142,7 +144,25 @@ fn row_of(width: u32, mode: u32, group: u32, size: usize, seconds: f64) -> Row {
     let timing = |operation, median| Timing { who, operation, median, minimum: median / 2.0 };
     let timings = vec![timing(Operation::Pack, seconds), timing(Operation::Unpack, 1.0)];
     let (field, sizes) = (String::from("tide"), vec![(who, size)]);
-    Row { width, mode, group, field, n: 1000, sizes, losses: vec![], timings }
+    let halves = if mode == 1 { HALVES_AWAY } else { NO_HALVES };
+    Row { width, mode, group, halves, field, n: 1000, sizes, losses: vec![], timings }
+}
+
+#[test]
+fn mode_1_stands_by_both_rules_for_halves_at_each_group_size() {
+    let rules = |group: u32| {
+        let settings = SETTINGS.into_iter().filter(move |setting| setting.group == group);
+        settings.map(|setting| (setting.mode, setting.halves())).collect::<Vec<_>>()
+    };
+    let expected = [(0, NO_HALVES), (1, HALVES_AWAY), (1, HALVES_TO_EVEN), (2, NO_HALVES)];
+    assert_eq!(rules(32), expected);
+    assert_eq!(rules(128), expected);
+    let even = Row { halves: HALVES_TO_EVEN, ..row_of(32, 1, 32, 1000, 1.0) };
+    let text = beside(Who::Ours, "itself", &[row_of(32, 1, 32, 1000, 1.0), even]);
+    for halves in ["away", "even"] {
+        let line = format!("| 32 | 1 | 32 | {halves} | tide | 25.0 % | 0 (1.00, 1.00) |");
+        assert!(text.contains(&line), "{text}");
+    }
 }
 
 #[test]
@@ -175,7 +195,7 @@ fn groups_of_128_stand_beside_groups_of_32() {
     // 1,000 values have 32 groups of 32, and 8 groups of 128.
     assert_eq!(
         lines,
-        ["| 32 | 0 | tide | 8.0 % (10.0 %) | 2.0 % (10.0 %) | 0.50, 0.50 |  |  | 1.00, 1.00 |  |"]
+        ["| 32 | 0 | - | tide | 8.0 % (10.0 %) | 2.0 % (10.0 %) | 0.50, 0.50 |  |  | 1.00, 1.00 |  |"]
     );
 }
 

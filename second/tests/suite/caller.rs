@@ -38,6 +38,18 @@ fn a_call_is_sent_as_it_is_written_down() {
 }
 
 #[test]
+fn the_rule_for_halves_is_sent_behind_the_width() {
+    let call = Call::ToleranceCode { width: WIDTH_64, halves: 258, k: -3, pattern: 5 };
+    let (sent, _) = exchanged(&call, &head_of_answer(2 << 32, 0));
+    assert_eq!(sent[..24], [&b"tolerance_code64"[..], &[0; 8]].concat());
+    assert_eq!(
+        sent[24..48],
+        [0u32, 0, 3u32.wrapping_neg(), 0, 0, 258].map(u32::to_le_bytes).concat()
+    );
+    assert_eq!(sent[48..88], [5u64, 0, 64, 1, 64].map(u64::to_le_bytes).concat());
+}
+
+#[test]
 fn a_buffer_is_sent_whole_and_taken_whole() {
     let mut after: Vec<u32> = (0..LENT as u32).collect();
     let bytes: Vec<u8> = after.iter().flat_map(|element| element.to_le_bytes()).collect();

@@ -101,7 +101,7 @@ fn judge_width<P: Bits>(rng: &mut XorShift, level: u32, stream: &[u8], seen: &mu
 
 /// Everything both implementations can say of a stream.
 fn judge(rng: &mut XorShift, stream: &[u8], seen: &mut Seen) {
-    let level = rng.one_of(&[13, 13, 13, 13, 13, 12, 11, 10, 9, 8, 7, 14]);
+    let level = rng.one_of(&[14, 14, 14, 14, 14, 13, 12, 11, 10, 9, 8, 7, 15]);
     let answer = stream::check(level, stream);
     assert_eq!(plain::check(level, stream), answer);
     note(seen, answer);
@@ -125,7 +125,7 @@ fn some_stream(rng: &mut XorShift) -> Vec<u8> {
         let values: Vec<P> = some_list(rng, k, n);
         let mut stream = vec![0; 30_000];
         let group = rng.one_of(&SIZES);
-        let length = plain::pack(13, mode, k, group, &values, &mut stream).unwrap();
+        let length = plain::pack(14, mode, k, group, &values, &mut stream).unwrap();
         stream.truncate(length as usize);
         stream
     }
@@ -246,10 +246,10 @@ fn every_bit_of_small_streams_flipped() {
         let mut stream = vec![0; 200];
         let length = if round % 6 < 3 {
             let values: Vec<u32> = some_list(rng, -2, n);
-            stream::pack(13, mode, k, group, &values, &mut stream)
+            stream::pack(14, mode, k, group, &values, &mut stream)
         } else {
             let values: Vec<u64> = some_list(rng, -2, n);
-            stream::pack(13, mode, k, group, &values, &mut stream)
+            stream::pack(14, mode, k, group, &values, &mut stream)
         };
         stream.truncate(length.unwrap() as usize);
         for bit in 0..8 * stream.len() {
@@ -323,7 +323,7 @@ fn made_up_data() {
         }
         let end = 52 + data.len() as u32;
         let mode = mode + if group == 128 { 256 } else { 0 };
-        let header = [1, 13, need, width, mode, k as u32, n, 1, 48, 52, 0, end, 0];
+        let header = [1, 14, need, width, mode, k as u32, n, 1, 48, 52, 0, end, 0];
         let mut stream: Vec<u8> = header.iter().flat_map(|n| n.to_le_bytes()).collect();
         stream.extend(data);
         judge(rng, &stream, &mut seen);

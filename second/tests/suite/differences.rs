@@ -175,7 +175,7 @@ fn mode_2_needs_level_11_and_k_0() {
     fn refuse<P: Bits>() {
         let values = [P::of_number(5), P::of_number(7)];
         for (level, k, number) in
-            [(7, 0, 1), (8, 0, 2), (9, 0, 2), (10, 0, 2), (11, 1, 2), (13, -2, 2), (14, 0, 1)]
+            [(7, 0, 1), (8, 0, 2), (9, 0, 2), (10, 0, 2), (11, 1, 2), (14, -2, 2), (15, 0, 1)]
         {
             assert_eq!(stream::length(level, 2, k, 32, &values), Err(Refusal::bare(number)));
         }

@@ -77,8 +77,10 @@ fn lists() {
 fn lists_a_later_minor_and_refuses_a_later_need() {
     let later = with_number(example(), 4, 4_000_000_000);
     assert!(listing(&later).starts_with("format 1.4000000000 needs 1.8\n"));
-    let needing = with_number(example(), 8, 14);
-    assert_eq!(listing(&needing), "refused 7 detail 14\n");
+    let needing = with_number(later, 8, 15);
+    assert_eq!(listing(&needing), "refused 7 detail 15\n");
+    // The listing's level reaches 14, which nothing needs.
+    assert_eq!(listing(&with_number(needing, 8, 14)), "refused 8 detail 0\n");
 }
 
 #[test]

@@ -14,6 +14,16 @@ fn quarter() -> Tolerance {
     Tolerance::allowed(WIDTH_32, -2).unwrap()
 }
 
+/// The code within 2^-2, with halves away from zero.
+fn code(pattern: u64) -> u64 {
+    quarter().code(Halves::AwayFromZero, pattern)
+}
+
+/// The code within 2^-2, with halves to even.
+fn code_to_even(pattern: u64) -> u64 {
+    quarter().code(Halves::ToEven, pattern)
+}
+
 #[test]
 fn lossless_codes() {
     for (pattern, code) in LOSSLESS_32 {
@@ -58,17 +68,30 @@ fn lossless_fields() {
 fn tolerance_codes() {
     let t = quarter();
     assert_eq!(t.threshold_ordinal(), pattern(4_194_304.0));
-    assert_eq!(t.code(pattern(0.25)), 2);
+    assert_eq!(code(pattern(0.25)), 2);
     assert_eq!(t.restored(2), Some(pattern(0.5)));
-    assert_eq!(t.code(pattern(0.21875)), 0);
-    assert_eq!(t.code(pattern(-0.75)), 5);
+    assert_eq!(code(pattern(0.21875)), 0);
+    assert_eq!(code(pattern(-0.75)), 5);
     assert_eq!(t.restored(5), Some(pattern(-1.0)));
-    assert_eq!(t.code(pattern(4_194_303.75)), 16_777_216);
+    assert_eq!(code(pattern(4_194_303.75)), 16_777_216);
     assert_eq!(t.restored(16_777_216), Some(pattern(4_194_304.0)));
-    assert_eq!(t.code(pattern(4_194_304.0)), 16_777_216);
-    assert_eq!(t.code(pattern(f32::INFINITY)), 1_795_162_112);
+    assert_eq!(code(pattern(4_194_304.0)), 16_777_216);
+    assert_eq!(code(pattern(f32::INFINITY)), 1_795_162_112);
     assert_eq!(t.largest_magnitude_code(), 905_969_663);
     assert_eq!(t.restored(1), Some(pattern(-0.0)));
+}
+
+#[test]
+fn tolerance_codes_to_even() {
+    assert_eq!(code_to_even(pattern(0.25)), 0);
+    assert_eq!(code_to_even(pattern(-0.25)), 1);
+    assert_eq!(code_to_even(pattern(-0.75)), 5);
+    assert_eq!(code_to_even(pattern(4_194_303.75)), 16_777_216);
+    for value in [0.21875, 0.26, -0.5, 4_194_304.0, f32::INFINITY, f32::NAN] {
+        assert_eq!(code_to_even(pattern(value)), code(pattern(value)));
+    }
+    let rules = [Some(Halves::AwayFromZero), Some(Halves::ToEven), None, None, None];
+    assert_eq!([0, 1, 2, 256, u32::MAX].map(Halves::numbered), rules);
 }
 
 /// A stream of one value of width 32, mode 1, k = -2, around a given code.
@@ -187,7 +210,7 @@ fn slip_two_and_zero_do_not_share_a_code() {
 
 #[test]
 fn slip_no_half_added_in_floats() {
-    assert_eq!(quarter().code(0x3E7F_FFFF), 0);
+    assert_eq!(code(0x3E7F_FFFF), 0);
     let bin = <u32 as plain::Lane>::bin(-2);
     assert_eq!(plain::Lane::tolerance_code(0x3E7F_FFFFu32, bin), 0);
 }
@@ -197,8 +220,8 @@ fn slip_halves_go_away_from_zero() {
     // (j + 1/2)·0.5 for even and odd j, both signs.
     for j in 0..40u64 {
         let half = (j as f32 + 0.5) * 0.5;
-        assert_eq!(quarter().code(pattern(half)), 2 * (j + 1));
-        assert_eq!(quarter().code(pattern(-half)), 2 * (j + 1) + 1);
+        assert_eq!(code(pattern(half)), 2 * (j + 1));
+        assert_eq!(code(pattern(-half)), 2 * (j + 1) + 1);
     }
 }
 
@@ -207,15 +230,19 @@ fn slip_not_a_numbers_are_not_quantized() {
     for k in -150..=103 {
         let t = Tolerance::allowed(WIDTH_32, k).unwrap();
         for nan in [0x7F80_0001, 0x7FC0_0000, 0xFFC1_2345, 0xFFFF_FFFF] {
-            assert!(t.code(nan) / 2 > 1 << 23);
-            assert_eq!(t.restored(t.code(nan)), Some(nan));
+            for code in Halves::BOTH.map(|halves| t.code(halves, nan)) {
+                assert!(code / 2 > 1 << 23);
+                assert_eq!(t.restored(code), Some(nan));
+            }
         }
     }
     for k in -1075..=970 {
         let t = Tolerance::allowed(WIDTH_64, k).unwrap();
         for nan in [0x7FF0_0000_0000_0001, 0xFFF8_0000_0000_0000, u64::MAX] {
-            assert!(t.code(nan) / 2 > 1 << 52);
-            assert_eq!(t.restored(t.code(nan)), Some(nan));
+            for code in Halves::BOTH.map(|halves| t.code(halves, nan)) {
+                assert!(code / 2 > 1 << 52);
+                assert_eq!(t.restored(code), Some(nan));
+            }
         }
     }
 }

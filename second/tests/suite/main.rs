@@ -6,6 +6,7 @@ mod caller;
 mod damage;
 mod differences;
 mod example;
+mod halves;
 mod harness;
 mod known;
 mod needs;

@@ -36,7 +36,7 @@ impl Sided {
     /// What check, unpack and probe answer at the highest level, all alike.
     fn told<P: Bits>(&self) -> Told {
         let stream = self.stream::<P>();
-        let [checked, unpacked, probed, ..] = read::<P>(13, &stream, 3, 0);
+        let [checked, unpacked, probed, ..] = read::<P>(14, &stream, 3, 0);
         assert_eq!((unpacked, probed.0), (checked, checked.0));
         if checked.0 != 0 {
             let (number, detail) = checked;
@@ -93,7 +93,7 @@ fn needs<P: Bits>() -> [(u32, u32); 6] {
 fn the_need_is_exact() {
     fn exact<P: Bits>() {
         for (mode, need) in needs::<P>() {
-            for needed in 0..=13 {
+            for needed in 0..=14 {
                 let sided = |ids| Sided { mode, written: 20, needed, ids }.told::<P>();
                 let skipped = if needed == need { (0, 3) } else { (8, 0) };
                 assert_eq!(sided(&[]), skipped);
@@ -112,7 +112,7 @@ fn the_need_is_exact() {
 #[test]
 fn older_levels_refuse_a_high_id_by_7() {
     let stream = Sided { mode: 0, written: 12, needed: 12, ids: &[HIGH] }.stream::<u32>();
-    for (level, answer) in [(7, (1, 0)), (8, (7, 12)), (11, (7, 12)), (14, (1, 0))] {
+    for (level, answer) in [(7, (1, 0)), (8, (7, 12)), (11, (7, 12)), (15, (1, 0))] {
         assert_eq!(read::<u32>(level, &stream, 3, 0), [answer; 5]);
     }
 }
@@ -128,6 +128,23 @@ fn the_late_use_of_8_stands_after_the_tables() {
     assert_eq!(read::<u32>(10, &longer, 3, 0), [(9, 0), (9, 0), (9, 0), (14, 0), (14, 0)]);
     // A need below the setting's is 8 before all of them.
     assert_eq!(read::<u32>(10, &stream(7), 2, 3), [(8, 0); 5]);
+}
+
+/// Level 14 is above every need, so groups of 128 can state too much, too.
+#[test]
+fn a_need_of_14_is_refused_by_7_below_and_late_by_8() {
+    for mode in [0, 257] {
+        let sided = Sided { mode, written: 14, needed: 14, ids: &[] };
+        let stream = sided.stream::<u32>();
+        assert_eq!(read::<u32>(13, &stream, 3, 0), [(7, 14); 5]);
+        assert_eq!(read::<u32>(14, &stream, 3, 0), [(8, 0), (8, 0), (8, 0), (14, 0), (14, 0)]);
+        assert_eq!(read::<u32>(14, &stream, 2, 3), [(8, 0), (4, 3), (11, 0), (14, 0), (14, 0)]);
+        let longer = [stream, vec![0]].concat();
+        assert_eq!(read::<u32>(14, &longer, 3, 0), [(9, 0), (9, 0), (9, 0), (14, 0), (14, 0)]);
+    }
+    let later = Sided { mode: 0, written: 15, needed: 15, ids: &[] }.stream::<u32>();
+    assert_eq!(read::<u32>(14, &later, 3, 0), [(7, 15); 5]);
+    assert_eq!(read::<u32>(15, &later, 3, 0), [(1, 0); 5]);
 }
 
 #[test]
@@ -149,17 +166,17 @@ fn an_id_stands_after_the_tables_and_before_the_chunks() {
 }
 
 #[test]
-fn level_13_packs_with_the_need_of_the_setting() {
+fn level_14_packs_with_the_need_of_the_setting() {
     fn packs<P: Bits>() {
         for (mode, need) in needs::<P>() {
-            let sided = Sided { mode, written: 13, needed: need, ids: &[] };
+            let sided = Sided { mode, written: 14, needed: need, ids: &[] };
             let (mode, group) = if mode < 256 { (mode, 32) } else { (mode - 256, 128) };
             let k = if mode == 1 { -2 } else { 0 };
             let mut packed = [0; 60];
             let values = [P::of_number(0); 3];
-            assert_eq!(stream::pack(13, mode, k, group, &values, &mut packed), Ok(53));
+            assert_eq!(stream::pack(14, mode, k, group, &values, &mut packed), Ok(53));
             assert_eq!(packed[..53], sided.stream::<P>());
-            assert_eq!(stream::length(14, mode, k, group, &values), Err(Refusal::bare(1)));
+            assert_eq!(stream::length(15, mode, k, group, &values), Err(Refusal::bare(1)));
         }
     }
     packs::<u32>();

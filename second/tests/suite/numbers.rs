@@ -6,7 +6,6 @@ use crate::random::*;
 use second::numbers::*;
 use second::plain::Lane;
 use second::Refusal;
-use std::cmp::Ordering;
 
 const WIDTHS: [Width; 2] = [WIDTH_32, WIDTH_64];
 
@@ -57,15 +56,18 @@ fn difference_codes_return_and_agree_with_plain() {
 
 /// The whole of mode 1 stated without its formulas: from T on, the pattern
 /// itself returns; below, the value restored is the multiple of E nearest to
-/// v, a half going away from zero, with v's sign.
-fn restored_as_stated(t: Tolerance, pattern: u64) {
+/// v, with v's sign. Of two as near it is the greater or, with halves to even,
+/// that of an even number of bins.
+fn restored_as_stated(t: Tolerance, halves: Halves, pattern: u64) {
     let width = t.width();
     let d = (t.k() - allowed_k(width).start()) as u64;
-    let code = t.code(pattern);
+    let code = t.code(halves, pattern);
     let restored = t.restored(code).expect("a code of a pattern is allowed");
     let (before, after) = (width.ordinal(pattern), width.ordinal(restored));
     assert_eq!(width.sign(pattern), width.sign(restored));
-    assert_eq!(t.code(restored), code);
+    for halves in Halves::BOTH {
+        assert_eq!(t.code(halves, restored), code);
+    }
 
     let bin = Big::shifted(1, d);
     let threshold = Big::shifted(1, d + width.fraction_bits() as u64);
@@ -75,12 +77,17 @@ fn restored_as_stated(t: Tolerance, pattern: u64) {
         return;
     }
     let (twice_v, twice_r) = (units(width, before).twice(), units(width, after).twice());
-    // With halves up, 2r <= 2v + E < 2r + 2E; and r is a multiple of E.
-    assert_ne!(twice_v.plus(&bin).cmp(&twice_r), Ordering::Less);
-    assert_eq!(twice_v.plus(&bin).cmp(&twice_r.plus(&bin.twice())), Ordering::Less);
+    // Twice the distance is at most E; and r is a multiple of E.
+    let up = twice_r.cmp(&twice_v.plus(&bin));
+    let down = twice_v.cmp(&twice_r.plus(&bin));
+    assert!(up.is_le() && down.is_le());
+    match halves {
+        Halves::AwayFromZero => assert!(down.is_lt()),
+        Halves::ToEven => assert!(up.is_lt() && down.is_lt() || code / 2 % 2 == 0),
+    }
     assert!(units(width, after).multiple_of_power(d));
     // u counts bins: u·E is r.
-    assert_eq!(units(width, after).cmp(&Big::shifted(code / 2, d)), Ordering::Equal);
+    assert!(units(width, after).cmp(&Big::shifted(code / 2, d)).is_eq());
 }
 
 #[test]
@@ -92,7 +99,10 @@ fn tolerance_codes_are_as_stated_for_every_k() {
             let t = Tolerance::allowed(width, k).unwrap();
             for kind in 0..KINDS {
                 for _ in 0..each {
-                    restored_as_stated(t, pattern_of_kind(rng, width, k, kind));
+                    let pattern = pattern_of_kind(rng, width, k, kind);
+                    for halves in Halves::BOTH {
+                        restored_as_stated(t, halves, pattern);
+                    }
                 }
             }
         }
@@ -107,23 +117,27 @@ fn tolerance_codes_agree_with_plain() {
         let (t, bin) = (Tolerance::allowed(WIDTH_32, k).unwrap(), u32::bin(k));
         for _ in 0..50 {
             let p = some_pattern(rng, WIDTH_32, k);
-            assert_eq!((p as u32).tolerance_code(bin) as u64, t.code(p));
+            let [away, even] = Halves::BOTH.map(|halves| t.code(halves, p));
+            assert_eq!((p as u32).tolerance_code(bin) as u64, away);
+            assert_eq!((p as u32).tolerance_code_to_even(bin) as u64, even);
             let u = rng.below(t.largest_magnitude_code() + 1) >> rng.below(32);
             let code = 2 * u + rng.below(2);
             let pattern = t.restored(code).unwrap();
             assert_eq!((code as u32).tolerance_pattern(bin) as u64, pattern);
-            assert_eq!(t.code(pattern), code);
+            assert_eq!(Halves::BOTH.map(|halves| t.code(halves, pattern)), [code; 2]);
         }
         let k = some_k(rng, WIDTH_64);
         let (t, bin) = (Tolerance::allowed(WIDTH_64, k).unwrap(), u64::bin(k));
         for _ in 0..50 {
             let p = some_pattern(rng, WIDTH_64, k);
-            assert_eq!(p.tolerance_code(bin), t.code(p));
+            let [away, even] = Halves::BOTH.map(|halves| t.code(halves, p));
+            assert_eq!(p.tolerance_code(bin), away);
+            assert_eq!(p.tolerance_code_to_even(bin), even);
             let u = (rng.next() % (t.largest_magnitude_code() + 1)) >> rng.below(64);
             let code = 2 * u + rng.below(2);
             let pattern = t.restored(code).unwrap();
             assert_eq!(code.tolerance_pattern(bin), pattern);
-            assert_eq!(t.code(pattern), code);
+            assert_eq!(Halves::BOTH.map(|halves| t.code(halves, pattern)), [code; 2]);
         }
     }
 }
@@ -136,7 +150,7 @@ fn largest_magnitude_codes() {
         let t = Tolerance::allowed(WIDTH_32, k).unwrap();
         let largest = (1i64 << 31) - 1 - (k as i64 + 150) * (1 << 23);
         assert_eq!(t.largest_magnitude_code(), largest as u64);
-        assert_eq!(t.code(0x7FFF_FFFF), 2 * largest as u64);
+        assert_eq!(Halves::BOTH.map(|h| t.code(h, 0x7FFF_FFFF)), [2 * largest as u64; 2]);
         assert_eq!(t.restored(2 * largest as u64 + 1), Some(0xFFFF_FFFF));
         for code in [2 * largest as u64 + 2, u32::MAX as u64 + 1, u64::MAX] {
             assert_eq!(t.restored(code), None);

@@ -1,10 +1,11 @@
 //! Whole streams: round trips, levels, orders of refusals, untouched outputs.
 
 use crate::random::*;
+use second::numbers::{self, Halves};
 use second::stream::{self, Probed};
-use second::{numbers, plain, Answer, Refusal};
+use second::{plain, Answer, Refusal};
 
-const LEVELS: [u32; 10] = [0, 7, 8, 9, 10, 11, 12, 13, 14, u32::MAX];
+const LEVELS: [u32; 11] = [0, 7, 8, 9, 10, 11, 12, 13, 14, 15, u32::MAX];
 const MARK: u8 = 0xA5;
 
 /// The need, stated again.
@@ -47,12 +48,13 @@ fn packed_by_both<P: Bits>(level: u32, mode: u32, k: i32, group: u32, values: &[
 }
 
 /// What each value must return as.
-fn expected<P: Bits>(mode: u32, k: i32, values: &[P]) -> Vec<P> {
+fn expected<P: Bits>(level: u32, mode: u32, k: i32, values: &[P]) -> Vec<P> {
     if mode != 1 {
         return values.to_vec();
     }
+    let halves = if level < 14 { Halves::AwayFromZero } else { Halves::ToEven };
     let t = numbers::Tolerance::allowed(P::WIDTH, k).unwrap();
-    let restored = |v: &P| P::of_number(t.restored(t.code(v.number())).unwrap());
+    let restored = |v: &P| P::of_number(t.restored(t.code(halves, v.number())).unwrap());
     values.iter().map(restored).collect()
 }
 
@@ -115,9 +117,9 @@ fn round_trips<P: Bits>(seed: u64, rounds: u32) {
         let (n, mode, group) = (some_length(rng), rng.below(3) as u32, rng.one_of(&SIZES));
         let k = if mode == 1 { some_k(rng, P::WIDTH) } else { 0 };
         let values: Vec<P> = some_list(rng, k, n);
-        let restored = expected(mode, k, &values);
         let need = need::<P>(mode, group);
         for level in need..=stream::HIGHEST_LEVEL {
+            let restored = expected(level, mode, k, &values);
             let stream = packed_by_both(level, mode, k, group, &values);
             assert_eq!(stream[4..8], level.to_le_bytes());
             assert_eq!(stream[8..12], need.to_le_bytes());
@@ -145,18 +147,24 @@ fn the_largest_lists() {
     fn one<P: Bits>(rng: &mut XorShift, mode: u32, k: i32, group: u32) {
         let values: Vec<P> =
             (0..1_048_576).map(|_| P::of_number(some_pattern(rng, P::WIDTH, k))).collect();
-        let level = need::<P>(mode, group);
-        let length = stream::length(level, mode, k, group, &values).unwrap() as usize;
+        // The first writer and the last: in mode 1 they have different rules.
+        for level in [need::<P>(mode, group), stream::HIGHEST_LEVEL] {
+            packs(level, mode, k, group, &values);
+        }
+    }
+    fn packs<P: Bits>(level: u32, mode: u32, k: i32, group: u32, values: &[P]) {
+        let length = stream::length(level, mode, k, group, values).unwrap() as usize;
         let (mut first, mut second) = (vec![MARK; length], vec![MARK; length]);
-        assert_eq!(stream::pack(level, mode, k, group, &values, &mut first), Ok(length as u64));
-        assert_eq!(plain::pack(level, mode, k, group, &values, &mut second), Ok(length as u64));
+        assert_eq!(stream::pack(level, mode, k, group, values, &mut first), Ok(length as u64));
+        assert_eq!(plain::pack(level, mode, k, group, values, &mut second), Ok(length as u64));
         assert!(first == second);
+        let restored = expected(level, mode, k, values);
         let mut output = vec![P::of_number(1); values.len()];
         assert_eq!(plain::unpack(level, &first, &mut output), Ok(1_048_576));
-        assert!(output == expected(mode, k, &values));
+        assert!(output == restored);
         output.fill(P::of_number(1));
         assert_eq!(stream::unpack(level, &first, &mut output), Ok(1_048_576));
-        assert!(output == expected(mode, k, &values));
+        assert!(output == restored);
     }
     let rng = &mut XorShift(0xFEED_FACE_8BAD_F00D);
     for (mode, k) in [(0, 0), (1, -10), (2, 0)] {
@@ -170,7 +178,7 @@ fn the_largest_lists() {
 #[test]
 fn pack_and_length_refuse_by_the_table() {
     fn expect<P: Bits>(level: u32, mode: u32, k: i32, group: u32, n: usize) -> Option<u32> {
-        if ![8, 9, 10, 11, 12, 13].contains(&level) {
+        if ![8, 9, 10, 11, 12, 13, 14].contains(&level) {
             return Some(1);
         }
         let allowed = match mode {
@@ -262,7 +270,7 @@ fn readers_refuse_in_their_orders() {
             },
         ]
     };
-    assert_eq!(try_all(14, &bad[..47], 1100, 0), [1; 5]);
+    assert_eq!(try_all(15, &bad[..47], 1100, 0), [1; 5]);
     assert_eq!(try_all(10, &bad[..47], 1100, 0), [5; 5]);
     assert_eq!(try_all(10, &bad, 1100, 0), [6; 5]);
     set(&mut bad, 0, 1);

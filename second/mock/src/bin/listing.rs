@@ -23,6 +23,10 @@ fn number(stream: &[u8], order: usize) -> u32 {
 
 /// The text that a planted fault makes of the right one.
 fn with_fault(stream: &[u8], text: String) -> String {
+    let needs_14 = stream.len() >= 48 && number(stream, 0) == 1 && number(stream, 2) == 14;
+    if planted(Fault::listing_at_level_13) && needs_14 && text.starts_with("refused") {
+        return "refused 7 detail 14\n".to_string();
+    }
     if !text.starts_with("format") || number(stream, 4) < 256 {
         return text;
     }

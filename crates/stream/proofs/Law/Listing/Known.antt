@@ -63,12 +63,12 @@ pub long-listed : listing (spell (1 ∷ 13 ∷ 13 ∷ 32 ∷ 256 ∷ 0 ∷ 1024 
 unfolding size signedView number digits bytesFor largest widthOf givenWidth groupLength groupNumber groupCodes within goodGroup highestLevel knownLevel knownWidth fractionBits widthNeed modeNeed sizeNeed need someHigh streamNeed losslessMode isZero allowedSetting allowedMode knownSize binFor groupSize limitOf groupsIn firstFault chunkAnswer first answer word headerOf kOf chunksIn tooMany needRight settingRight saidMode saidSize layoutRight every startAt startRight chunkTableRight partAt sideTableRight idsFrom idsIn joined countOf chunkOf chunkState spell headerRows openingRows needRow sideRows tableRows faultDetail faultRow rowsFrom chunkRow chunkRows contentRows checkRows checkAnswer mostInput digit decimalIn decimal minus signedDecimal newline point formatWord needsWord widthWord modeWord boundWord valuesWord chunksWord sidesWord chunkWord atWord bytesWord groupsWord refusedWord detailWord labelled formatLine settingLine countLine chunkLine streamLines refusedLine answerLines listing kOffset lastBin allowedK binOf largestU longText
 long-listed = refl
 
--- `refused 7 detail 14`
+-- `refused 7 detail 15`
 pub refusedText : List ℕ
 refusedText =
-    (114 ∷ 101 ∷ 102 ∷ 117 ∷ 115 ∷ 101 ∷ 100 ∷ 32 ∷ 55 ∷ 32 ∷ 100 ∷ 101 ∷ 116 ∷ 97 ∷ 105 ∷ 108 ∷ 32 ∷ 49 ∷ 52 ∷ 10 ∷ [])
+    (114 ∷ 101 ∷ 102 ∷ 117 ∷ 115 ∷ 101 ∷ 100 ∷ 32 ∷ 55 ∷ 32 ∷ 100 ∷ 101 ∷ 116 ∷ 97 ∷ 105 ∷ 108 ∷ 32 ∷ 49 ∷ 53 ∷ 10 ∷ [])
 
--- a stream that needs 1.14
-pub refused-listed : listing (spell (1 ∷ 14 ∷ 14 ∷ 32 ∷ 0 ∷ 0 ∷ 0 ∷ 0 ∷ 48 ∷ 48 ∷ 0 ∷ 48 ∷ [])) ≡ refusedText
+-- a stream that needs 1.15
+pub refused-listed : listing (spell (1 ∷ 15 ∷ 15 ∷ 32 ∷ 0 ∷ 0 ∷ 0 ∷ 0 ∷ 48 ∷ 48 ∷ 0 ∷ 48 ∷ [])) ≡ refusedText
 unfolding size signedView number digits bytesFor largest widthOf givenWidth groupLength groupNumber groupCodes within goodGroup highestLevel knownLevel knownWidth fractionBits widthNeed modeNeed sizeNeed need someHigh streamNeed losslessMode isZero allowedSetting allowedMode knownSize binFor groupSize limitOf groupsIn firstFault chunkAnswer first answer word headerOf kOf chunksIn tooMany needRight settingRight saidMode saidSize layoutRight every startAt startRight chunkTableRight partAt sideTableRight idsFrom idsIn joined countOf chunkOf chunkState spell headerRows openingRows needRow sideRows tableRows faultDetail faultRow rowsFrom chunkRow chunkRows contentRows checkRows checkAnswer mostInput digit decimalIn decimal minus signedDecimal newline point formatWord needsWord widthWord modeWord boundWord valuesWord chunksWord sidesWord chunkWord atWord bytesWord groupsWord refusedWord detailWord labelled formatLine settingLine countLine chunkLine streamLines refusedLine answerLines listing refusedText
 refused-listed = refl

@@ -15,7 +15,7 @@ use Rattle.numbers.specs.Theorem.{Format}
 use Rattle.numbers.proofs.Theorems.{no-u-is-larger}
 use Rattle.blocks.specs.Bytes.{Below}
 use Rattle.stream.specs.Group.{groupBytes}
-use Rattle.stream.specs.Setting.{knownWidth, fractionBits, groupSize, clipped, codeAt, codesOf, patternsOf, limitOf}
+use Rattle.stream.specs.Setting.{knownWidth, fractionBits, ruled, groupSize, clipped, codeAt, codesOf, patternsOf, limitOf}
 use Rattle.stream.specs.Chunk.{chunkBytes}
 use Rattle.stream.specs.Header.{word, kOf, settingIn, chunksIn}
 use Rattle.stream.specs.Tables.{every, startAt, startRight, chunkTableRight}
@@ -29,7 +29,7 @@ use Rattle.blocks.proofs.Law.Truth.{le-or-lt}
 use Rattle.stream.proofs.Law.Group.RoundTrip.{length-group}
 use Rattle.stream.proofs.Law.Chunk.Groups.{chunk-step, written-is-good, written-is-read}
 use Rattle.stream.proofs.Law.Setting.Codes.{bin-in, codes-each, codes-under, length-codes-after}
-use Rattle.stream.proofs.Law.Setting.Allowed.{Storable, size-some}
+use Rattle.stream.proofs.Law.Setting.Allowed.{Storable, size-some, ruled-size, ruled-limit, ruled-patterns}
 use Rattle.stream.proofs.Law.Setting.Widths.{width-bytes}
 use Rattle.stream.proofs.Law.Setting.Exponent.{setting-back}
 use Rattle.stream.proofs.Law.Plain.Joined.{joined-part, joined-same, singles-at}
@@ -65,7 +65,7 @@ module _ (t : Setting) (known : knownWidth (t .width) ≡ true) where
 
   tolerance-limited : t .mode ≡ 1 → (p : ℕ) → p < 2 ^ W → codeAt t p / 2 ≤ largestU W (fractionBits W) (clipped t)
   unfolding codeAt
-  tolerance-limited e p h = rw (ne-eqb (t .mode) 0 (λ z. omega arith)) (no-u-is-larger W (fractionBits W) format (clipped t) (bin-in t format) p h)
+  tolerance-limited e p h = rw (ne-eqb (t .mode) 0 (λ z. omega arith)) (no-u-is-larger W (fractionBits W) format (clipped t) (bin-in t format) (t .halves) p h)
 
   codes-limited : (vs : List ℕ) → Below (2 ^ W) vs → Limited (limitOf t) (codesOf t vs)
   unfolding limitOf
@@ -141,7 +141,7 @@ module _ (level needed : ℕ) (t : Setting) (vs : List ℕ) (sides : ℕ) (f : F
       ∙ ap (drop (length (dataOf t vs j))) (drop-at (spell (frontNumbers level needed t vs sides)) (dataOf t vs chunks ++ rest) (48 + 4 * chunks) long))
       ∙ joined-part (pieceBytes t vs) j chunks rest h)
 
-  setting-is : settingIn header ≡ t
+  setting-is : settingIn header ≡ ruled 0 t
   unfolding kOf
   setting-is = setting-back t (p .setting)
 
@@ -153,13 +153,13 @@ module _ (level needed : ℕ) (t : Setting) (vs : List ℕ) (sides : ℕ) (f : F
   unfolding chunkState pieceBytes
   chunk-good j h =
       let below = piece-below (2 ^ t .width) vs j (p .patterns) in
-      rw (setting-is, count-is j, chunk-is j h)
+      rw (setting-is, ruled-size 0 t, ruled-limit 0 t, count-is j, chunk-is j h)
       (written-is-good (groupSize t) (size-some t) (t .width) (limitOf t) (codesOf t (piece vs j))
       (codes-under t (width-bytes (t .width) (p .setting .known) .format) 0 (piece vs j) below) (codes-limited t (p .setting .known) (piece vs j) below))
 
   chunk-back : (j : ℕ) → j < chunks → chunkValues header bytes j ≡ patternsOf t (codesOf t (piece vs j))
   unfolding chunkValues pieceBytes
-  chunk-back j h = rw (setting-is, count-is j, chunk-is j h) (ap (patternsOf t) (written-is-read (groupSize t) (size-some t) (codesOf t (piece vs j))))
+  chunk-back j h = rw (setting-is, ruled-size 0 t, count-is j, chunk-is j h) (ruled-patterns 0 t 0 _ ∙ ap (patternsOf t) (written-is-read (groupSize t) (size-some t) (codesOf t (piece vs j))))
 
   pub values-back : valuesIn header bytes ≡ comingBack t vs
   unfolding valuesIn comingBack

@@ -17,7 +17,7 @@ use Rattle.stream.specs.Writing.{spell, dataOf, startsOf, headerNumbers,
 use Rattle.stream.specs.declared.header.Header.{Header}
 use Rattle.stream.specs.declared.setting.Setting.{Setting}
 use Rattle.blocks.proofs.Law.Digits.{everywhere}
-use Rattle.stream.proofs.Law.Setting.Allowed.{Storable, width-most}
+use Rattle.stream.proofs.Law.Setting.Allowed.{Storable, width-most, ruled-need}
 use Rattle.stream.proofs.Law.Setting.Widths.{need-least}
 use Rattle.stream.proofs.Law.Setting.Exponent.{bits-small, number-small, setting-back, allowed-back}
 use Rattle.stream.proofs.Law.Plain.Joined.{length-singles, singles-at}
@@ -159,6 +159,7 @@ module _ (level needed : ℕ) (t : Setting) (vs : List ℕ) where
         rw (
           p .setting .known,
           setting-back t (p .setting),
+          ruled-need 0 t,
           le-leb 8 needed (le-trans (need-least t) least),
           le-leb (need t) needed least,
           le-leb needed level reached,
@@ -167,9 +168,9 @@ module _ (level needed : ℕ) (t : Setting) (vs : List ℕ) where
 
     pub setting-wrong : (needed < need t) ⊎ (level < needed) → settingRight (headerFor level needed t vs sides) ≡ false
     unfolding settingRight needRight kOf
-    setting-wrong (inl short) = rw (p .setting .known, setting-back t (p .setting), lt-leb (need t) needed short, and-false (leb 8 needed))
+    setting-wrong (inl short) = rw (p .setting .known, setting-back t (p .setting), ruled-need 0 t, lt-leb (need t) needed short, and-false (leb 8 needed))
     setting-wrong (inr exceeds) =
-        rw (p .setting .known, setting-back t (p .setting), lt-leb needed level exceeds, and-false (leb 8 needed && leb (need t) needed))
+        rw (p .setting .known, setting-back t (p .setting), ruled-need 0 t, lt-leb needed level exceeds, and-false (leb 8 needed && leb (need t) needed))
 
     pub layout-right : (size : ℕ) → end ≤ size → layoutRight size (headerFor level needed t vs sides) ≡ true
     unfolding layoutRight tooMany

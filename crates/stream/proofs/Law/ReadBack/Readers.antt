@@ -33,7 +33,7 @@ use Rattle.stream.proofs.Law.Rows.Given.{check-shut, unpack-shut, probe
 use Rattle.blocks.proofs.Law.Digits.{byte, below-append}
 use Rattle.blocks.proofs.Law.Truth.{le-or-lt}
 use Rattle.stream.proofs.Law.Setting.Codes.{codes-under}
-use Rattle.stream.proofs.Law.Setting.Allowed.{Storable, width-most}
+use Rattle.stream.proofs.Law.Setting.Allowed.{Storable, width-most, ruled-stream-need}
 use Rattle.stream.proofs.Law.Setting.Widths.{width-bytes, need-small, low-need, need-most}
 use Rattle.stream.proofs.Law.Setting.Exponent.{setting-back}
 use Rattle.stream.proofs.Law.Plain.Joined.{joined-below}
@@ -221,7 +221,7 @@ module _ (level : ℕ) (t : Setting) (vs : List ℕ) (p : Storable level t vs) (
   unfolding sideRows needRow first kOf
   tables-read =
       sym (tables-pass (headerOf s) s true true (sym chunk-table-kept) (sym side-table-kept) refl)
-      ∙ rw (ids-kept, header-read, setting-back t (p .setting))
+      ∙ rw (ids-kept, header-read, setting-back t (p .setting), ruled-stream-need 0 t (someHigh (idsOf ps)))
 
   -- and with the early 8: where both minors are right the ids decide, and else it is 8
   abbrev pub told : Step

@@ -94,17 +94,17 @@ module _ (t : Setting) (allowed : Allowed t) (vs : List ℕ) (below : Below (2 ^
         ∙ ap (map (patternAt t)) (joined-map (piece vs) (codeAt t) (chunksIn (length vs)) ∙ ap (map (codeAt t)) (pieces-whole vs))
 
     module _ (i : ℕ) (h : i < length vs) where
-      restored-at : getD (comingBack t vs) i 0 ≡ toleranceRestored W m (binOf W m k) (toleranceCode W m (binOf W m k) (getD vs i 0))
+      restored-at : getD (comingBack t vs) i 0 ≡ toleranceRestored W m (binOf W m k) (toleranceCode W m (t .halves) (binOf W m k) (getD vs i 0))
       unfolding codeAt patternAt
       restored-at = rw each-back (rw (map-at (patternAt t) (map (codeAt t) vs) i (rw (length-map vs (codeAt t)) h), map-at (codeAt t) vs i h) (rw (bin-is, lossy)))
 
       pub tolerance-back : Within W m (t .bin) (getD vs i 0) (getD (comingBack t vs) i 0)
       tolerance-back =
           subst (λ (j : ℕ). Within W m j (getD vs i 0) (getD (comingBack t vs) i 0)) (the-bin-of-its-k W m format (t .bin))
-          (rw restored-at (every-pattern-returns-within W m format k allowed-k (getD vs i 0) (below i)))
+          (rw restored-at (every-pattern-returns-within W m format k allowed-k (t .halves) (getD vs i 0) (below i)))
 
       pub special-back : (2 ^ (W - 1 - m) - 1) * 2 ^ m ≤ ordinal W (getD vs i 0) → getD (comingBack t vs) i 0 ≡ getD vs i 0
-      special-back l = restored-at ∙ specials-return W m format k allowed-k (getD vs i 0) (below i) l
+      special-back l = restored-at ∙ specials-return W m format k allowed-k (t .halves) (getD vs i 0) (below i) l
 
 -- as many as there were
 pub length-back : (t : Setting) (vs : List ℕ) → length (comingBack t vs) ≡ length vs

@@ -8,7 +8,7 @@ use borrow.Author.Tests.{ltb-false, not-false, lt-ltb, le-ltb}
 use lib.Dec.{ltb}
 use lib.IntN.{ℤ}
 use lib.ListN.{length, drop, length-append}
-use Rattle.stream.specs.Setting.{knownLevel, allowedSetting, settingOf, need}
+use Rattle.stream.specs.Setting.{knownLevel, allowedSetting, settingOf, settingAt, need}
 use Rattle.stream.specs.Header.{chunksIn, tooMany}
 use Rattle.stream.specs.Rows.{row, first, answer, after}
 use Rattle.stream.specs.Writing.{spell, dataOf, startsOf, headerNumbers, endOf, body, stream}
@@ -89,9 +89,9 @@ module _ (W level mode : ℕ) (k : ℤ) (size : ℕ) (vs : List ℕ) where
   unfolding lengthAnswer answer
   length-refused number detail e = rw e
 
-  pub length-done : (n : ℕ) → first (lengthRows W level mode k size (length vs)) ≡ Pass → n ≡ endOf (settingOf W mode k size) vs (chunksIn (length vs)) → Done n ≡ lengthAnswer W level mode k size vs
+  pub length-done : (n : ℕ) → first (lengthRows W level mode k size (length vs)) ≡ Pass → n ≡ endOf (settingAt level W mode k size) vs (chunksIn (length vs)) → Done n ≡ lengthAnswer W level mode k size vs
   unfolding lengthAnswer answer
-  length-done n e is = rw e (ap Done (is ∙ sym (length-stream level (settingOf W mode k size) vs)))
+  length-done n e is = rw e (ap Done (is ∙ sym (length-stream level (settingAt level W mode k size) vs)))
 
   module _ (out : List ℕ) where
     rows-refused : (number detail : ℕ) → first (packRows W level mode k size vs (length out)) ≡ Stop number detail
@@ -106,23 +106,23 @@ module _ (W level mode : ℕ) (k : ℤ) (size : ℕ) (vs : List ℕ) where
     pack-refused number detail e =
         rows-refused number detail
         (shut number detail (lengthRows W level mode k size (length vs))
-        (row 4 (ltb (length out) (length (stream level (settingOf W mode k size) vs))) (length (stream level (settingOf W mode k size) vs)) ∷ []) e)
+        (row 4 (ltb (length out) (length (stream level (settingAt level W mode k size) vs))) (length (stream level (settingAt level W mode k size) vs)) ∷ []) e)
 
     module _ (pass : first (lengthRows W level mode k size (length vs)) ≡ Pass) where
-      fourth : first (packRows W level mode k size vs (length out)) ≡ first (shortRow (settingOf W mode k size) vs (length out) ∷ [])
+      fourth : first (packRows W level mode k size vs (length out)) ≡ first (shortRow (settingAt level W mode k size) vs (length out) ∷ [])
       unfolding packRows shortRow
       fourth =
-          opened (lengthRows W level mode k size (length vs)) (row 4 (ltb (length out) (length (stream level (settingOf W mode k size) vs))) (length (stream level (settingOf W mode k size) vs)) ∷ []) pass
-          ∙ ap (λ (n : ℕ). first (row 4 (ltb (length out) n) n ∷ [])) (length-stream level (settingOf W mode k size) vs)
+          opened (lengthRows W level mode k size (length vs)) (row 4 (ltb (length out) (length (stream level (settingAt level W mode k size) vs))) (length (stream level (settingAt level W mode k size) vs)) ∷ []) pass
+          ∙ ap (λ (n : ℕ). first (row 4 (ltb (length out) n) n ∷ [])) (length-stream level (settingAt level W mode k size) vs)
 
       -- 4
-      pub pack-short : (number detail : ℕ) → first (shortRow (settingOf W mode k size) vs (length out) ∷ []) ≡ Stop number detail
+      pub pack-short : (number detail : ℕ) → first (shortRow (settingAt level W mode k size) vs (length out) ∷ []) ≡ Stop number detail
           → (Refused number detail ≡ packAnswer W level mode k size vs (length out)) × (out ≡ packOut W level mode k size vs out)
       pack-short number detail e = rows-refused number detail (fourth ∙ e)
 
-      pub pack-done : (r : ℕ) (new : List ℕ) → first (shortRow (settingOf W mode k size) vs (length out) ∷ []) ≡ Pass → r ≡ length (stream level (settingOf W mode k size) vs)
-          → new ≡ stream level (settingOf W mode k size) vs ++ drop r out
+      pub pack-done : (r : ℕ) (new : List ℕ) → first (shortRow (settingAt level W mode k size) vs (length out) ∷ []) ≡ Pass → r ≡ length (stream level (settingAt level W mode k size) vs)
+          → new ≡ stream level (settingAt level W mode k size) vs ++ drop r out
           → (Done r ≡ packAnswer W level mode k size vs (length out)) × (new ≡ packOut W level mode k size vs out)
       unfolding packAnswer packOut answer after
       pack-done r new e is new-is =
-          (rw (fourth ∙ e) (ap Done is), rw (fourth ∙ e) (new-is ∙ ap (λ (n : ℕ). stream level (settingOf W mode k size) vs ++ drop n out) is))
+          (rw (fourth ∙ e) (ap Done is), rw (fourth ∙ e) (new-is ∙ ap (λ (n : ℕ). stream level (settingAt level W mode k size) vs ++ drop n out) is))

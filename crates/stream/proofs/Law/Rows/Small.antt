@@ -10,7 +10,7 @@ use lib.Dec.{ltb, lit<}
 use lib.IntN.{ℤ}
 use lib.ListN.{length, drop}
 use Rattle.blocks.specs.Bytes.{Below}
-use Rattle.stream.specs.Setting.{knownWidth, settingOf, groupSize, limitOf}
+use Rattle.stream.specs.Setting.{knownWidth, settingAt, groupSize, limitOf}
 use Rattle.stream.specs.Chunk.{chunkCodes}
 use Rattle.stream.specs.Header.{headerOf, settingIn, chunksIn}
 use Rattle.stream.specs.Tables.{startAt, sideId, idsFrom, idsIn}
@@ -205,19 +205,19 @@ module _ (W level mode : ℕ) (k : ℤ) (size : ℕ) (vs : List ℕ) (known : kn
   length-small = plain 1 _ _ (lit< tt, lit< tt) (plain 2 _ _ (lit< tt, lit< tt) (plain 3 _ _ (lit< tt, lit< tt) no-rows))
 
   -- behind 3 the values are few, and so are the bytes
-  stream-small : first (lengthRows W level mode k size (length vs)) ≡ Pass → length (stream level (settingOf W mode k size) vs) < 2 ^ 32
+  stream-small : first (lengthRows W level mode k size (length vs)) ≡ Pass → length (stream level (settingAt level W mode k size) vs) < 2 ^ 32
   stream-small pass =
-      rw (length-stream level (settingOf W mode k size) vs)
-      (omega (arith, end-small (settingOf W mode k size) vs known below (length-passed W level mode k size (length vs) pass .few) (chunksIn (length vs)) (omega arith)))
+      rw (length-stream level (settingAt level W mode k size) vs)
+      (omega (arith, end-small (settingAt level W mode k size) vs known below (length-passed W level mode k size (length vs) pass .few) (chunksIn (length vs)) (omega arith)))
 
   pub length-answer-small : SmallAnswer (2 ^ 32) (lengthAnswer W level mode k size vs)
   unfolding lengthAnswer
-  length-answer-small = answer-small (lengthRows W level mode k size (length vs)) (length (stream level (settingOf W mode k size) vs)) length-small stream-small
+  length-answer-small = answer-small (lengthRows W level mode k size (length vs)) (length (stream level (settingAt level W mode k size) vs)) length-small stream-small
 
   -- 4, which has that length, stands behind 3
   module _ (room : ℕ) where
     abbrev short : List Row
-    short = row 4 (ltb room (length (stream level (settingOf W mode k size) vs))) (length (stream level (settingOf W mode k size) vs)) ∷ []
+    short = row 4 (ltb room (length (stream level (settingAt level W mode k size) vs))) (length (stream level (settingAt level W mode k size) vs)) ∷ []
 
     pack-small : Small (2 ^ 32) (lengthRows W level mode k size (length vs) ++ short)
     pack-small =
@@ -227,5 +227,5 @@ module _ (W level mode : ℕ) (k : ℤ) (size : ℕ) (vs : List ℕ) (known : kn
     pub pack-answer-small : SmallAnswer (2 ^ 32) (packAnswer W level mode k size vs room)
     unfolding packAnswer packRows
     pack-answer-small =
-        answer-small (packRows W level mode k size vs room) (length (stream level (settingOf W mode k size) vs)) pack-small
+        answer-small (packRows W level mode k size vs room) (length (stream level (settingAt level W mode k size) vs)) pack-small
         (λ pass. stream-small (opened-both (lengthRows W level mode k size (length vs)) short pass .0))

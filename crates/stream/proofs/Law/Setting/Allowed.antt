@@ -19,7 +19,7 @@ use Rattle.numbers.specs.Theorem.{Format}
 use Rattle.bins.specs.Answers.{binAnswer}
 use Rattle.numbers.proofs.Theorems.{format-32, format-64, a-bin-is-that-of-k, no-bin-means-not-allowed, an-allowed-k-has-a-bin}
 use Rattle.stream.specs.Setting.{highestLevel, knownLevel, knownWidth, knownSize, fractionBits, losslessMode, isZero, allowedMode, allowedSetting}
-use Rattle.stream.specs.Setting.{binFor, settingOf, widthNeed, modeNeed, sizeNeed, need, groupSize}
+use Rattle.stream.specs.Setting.{binFor, settingOf, ruled, widthNeed, modeNeed, sizeNeed, need, streamNeed, groupSize, clipped, patternAt, patternsAfter, limitOf}
 use Rattle.stream.specs.Chunk.{groupsIn}
 use Rattle.stream.specs.Header.{kOf, saidMode, saidSize, needRight, settingRight}
 use Rattle.stream.specs.Relied.{Allowed, Settled}

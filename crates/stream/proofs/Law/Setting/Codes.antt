@@ -103,7 +103,7 @@ module _ (t : Setting) (format : Format (t .width) (fractionBits (t .width))) wh
   unfolding codeAt
   code-under p h =
       either-under (eqb (t .mode) 0) _ _ (2 ^ W) (lossless-code-has-W-bits W (fractionBits W) format p h)
-      (tolerance-code-has-W-bits W (fractionBits W) format (clipped t) bin-in p h)
+      (tolerance-code-has-W-bits W (fractionBits W) format (clipped t) bin-in (t .halves) p h)
 
   pattern-under : (c : ℕ) → c < 2 ^ W → patternAt t c < 2 ^ W
   unfolding patternAt

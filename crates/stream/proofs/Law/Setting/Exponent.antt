@@ -12,7 +12,7 @@ use Rattle.bins.specs.Tolerance.{kOffset, lastBin, binOf}
 use Rattle.numbers.specs.Bound.{exponentOf}
 use Rattle.numbers.specs.Theorem.{Format}
 use Rattle.numbers.proofs.Theorems.{the-k-of-a-bin-is-allowed, the-bin-of-its-k}
-use Rattle.stream.specs.Setting.{fractionBits, losslessMode, isZero, allowedMode, allowedSetting, binFor, settingOf, modeNumber, kBits}
+use Rattle.stream.specs.Setting.{fractionBits, losslessMode, isZero, allowedMode, allowedSetting, binFor, settingOf, ruled, modeNumber, kBits}
 use Rattle.stream.specs.Header.{saidMode, saidSize}
 use Rattle.stream.specs.Relied.{Allowed}
 use Rattle.stream.specs.declared.setting.Setting.{Setting}

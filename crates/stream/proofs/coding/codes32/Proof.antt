@@ -19,16 +19,16 @@ abbrev μ-loop : tie.MeasureT-loop
 μ-loop t values codes₀ i₀ codes i = length values - i
 
 loop-holds : tie.Need-loop-holds Inv-loop μ-loop
-loop-holds c = (omega arith, c .before .pre .1, refl, refl)
+loop-holds c = (omega arith, c .before .pre .2, refl, refl)
 
-mul-code32 : tie.Need-mul-code32 Inv-loop μ-loop
-mul-code32 c = search needs
+mul-lossless32 : tie.Need-mul-lossless32 Inv-loop μ-loop
+mul-lossless32 c = search needs
 
-shared-slice-read-code32 : tie.Need-shared-slice-read-code32 Inv-loop μ-loop
-shared-slice-read-code32 c = search needs
+shared-slice-read-lossless32 : tie.Need-shared-slice-read-lossless32 Inv-loop μ-loop
+shared-slice-read-lossless32 c = search needs
 
-code32-requires : tie.Need-code32-requires Inv-loop μ-loop
-code32-requires c κs = c .before .before .before .before .pre .0
+lossless32-requires : tie.Need-lossless32-requires Inv-loop μ-loop
+lossless32-requires c κs = let p = c .before .before .before .before .pre in (p .0, p .1)
 
 mul-codes : tie.Need-mul-codes Inv-loop μ-loop
 mul-codes c = omega arith
@@ -49,8 +49,8 @@ loop-again c =
     let values : List ℕ = a .values .now in (
       omega arith,
       l .inv .1,
-      length-set (l .codes) (l .i) (c .code32 .result) ∙ l .inv .2,
-      ap (λ (v : ℕ). take (l .i + 1) (set (l .codes) (l .i) v)) (c .code32 .ensures)
+      length-set (l .codes) (l .i) (c .lossless32 .result) ∙ l .inv .2,
+      ap (λ (v : ℕ). take (l .i + 1) (set (l .codes) (l .i) v)) (c .lossless32 .ensures)
           ∙ one-mapped (codeAt (a .t)) values (l .codes) (l .i) (omega arith) (omega arith) (l .inv .3),
     )
 
@@ -70,9 +70,9 @@ codes32-spec =
     Inv-loop
     μ-loop
     loop-holds
-    mul-code32
-    shared-slice-read-code32
-    code32-requires
+    mul-lossless32
+    shared-slice-read-lossless32
+    lossless32-requires
     mul-codes
     array-write-codes
     add-i

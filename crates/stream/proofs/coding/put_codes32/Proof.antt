@@ -21,14 +21,14 @@ abbrev μ-loop : tie.MeasureT-loop
 loop-holds : tie.Need-loop-holds Inv-loop μ-loop
 loop-holds c = (omega arith, refl)
 
-mul-code32 : tie.Need-mul-code32 Inv-loop μ-loop
-mul-code32 c = search needs
+mul-tolerance32 : tie.Need-mul-tolerance32 Inv-loop μ-loop
+mul-tolerance32 c = search needs
 
-shared-slice-read-code32 : tie.Need-shared-slice-read-code32 Inv-loop μ-loop
-shared-slice-read-code32 c = search needs
+shared-slice-read-tolerance32 : tie.Need-shared-slice-read-tolerance32 Inv-loop μ-loop
+shared-slice-read-tolerance32 c = search needs
 
-code32-requires : tie.Need-code32-requires Inv-loop μ-loop
-code32-requires c κs = c .before .before .before .before .before .pre .0
+tolerance32-requires : tie.Need-tolerance32-requires Inv-loop μ-loop
+tolerance32-requires c κs = let p = c .before .before .before .before .before .pre in (p .0, p .1)
 
 mul-c : tie.Need-mul-c Inv-loop μ-loop
 mul-c c =
@@ -40,7 +40,7 @@ slice-write-c c =
     let f = c .before .before .before .before .before .before in
     let l = c .before .before .before .loop in
     let v = f .args in
-    omega (arith, length-coded (v .t) (v .values .now) (v .c .now) (l .c) (l .i) (f .pre .1) (l .inv .0) (l .inv .1), f .pre .1)
+    omega (arith, length-coded (v .t) (v .values .now) (v .c .now) (l .c) (l .i) (f .pre .2) (l .inv .0) (l .inv .1), f .pre .2)
 
 add-i : tie.Need-add-i Inv-loop μ-loop
 add-i c = omega arith
@@ -54,8 +54,8 @@ loop-again c =
     let v = f .args in
     let l = c .before .before .before .loop in (
       omega arith,
-      ap₂ (λ (o : List ℕ) (p : ℕ). set o (l .i) p) (l .inv .1) (c .code32 .ensures)
-          ∙ one-put (codeAt (v .t)) (v .values .now) (v .c .now) (l .i) (omega arith) (omega (arith, f .pre .1)),
+      ap₂ (λ (o : List ℕ) (p : ℕ). set o (l .i) p) (l .inv .1) (c .tolerance32 .ensures)
+          ∙ one-put (codeAt (v .t)) (v .values .now) (v .c .now) (l .i) (omega arith) (omega (arith, f .pre .2)),
     )
 
 same-length : tie.Need-same-length Inv-loop μ-loop
@@ -63,7 +63,7 @@ same-length c =
     let f = c .before .before .before .before in
     let l = c .before .loop in
     let v = f .args in
-    length-coded (v .t) (v .values .now) (v .c .now) (l .c) (l .i) (f .pre .1) (l .inv .0) (l .inv .1)
+    length-coded (v .t) (v .values .now) (v .c .now) (l .c) (l .i) (f .pre .2) (l .inv .0) (l .inv .1)
 
 returns : tie.Need-returns Inv-loop μ-loop
 returns c =
@@ -83,9 +83,9 @@ put-codes32-spec =
     Inv-loop
     μ-loop
     loop-holds
-    mul-code32
-    shared-slice-read-code32
-    code32-requires
+    mul-tolerance32
+    shared-slice-read-tolerance32
+    tolerance32-requires
     mul-c
     slice-write-c
     add-i

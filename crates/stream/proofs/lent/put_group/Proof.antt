@@ -6,7 +6,7 @@ use native.Mathlib.Omega.{arith}
 use lib.ListN.{length, take, drop}
 use Rattle.stream.specs.Group.{groupBytes}
 use Rattle.stream.specs.Lent.{lentCodes}
-use Rattle.stream.proofs.Law.Lent.Codes.{differences-32, each-32, lent-64, full-codes, within-32, within-other}
+use Rattle.stream.proofs.Law.Lent.Codes.{lent-32, lent-64, full-codes, within-32, within-other}
 use Rattle.stream.proofs.Law.Setting.Allowed.{width-other}
 use borrow.Author.Needs.{needs}
 use Rattle.stream.proofs.lent.put_group.Statement.{statement}
@@ -29,13 +29,9 @@ enough-64 : (c : tie.Else1) → start-64 c .args .at + 32 ≤ length (start-64 c
 enough-64 c = let a = start-64 c .args in within-other (a .t .width) (a .v32 .now) (a .v64 .now) _ (c .if1 .left) (start-64 c .pre .0 .1)
 
 -- the codes of the record are those of the group
-codes-differenced-narrow : (c : tie.After-differenced-narrow) → let a = start-32 (c .before .before .before) .args in let g = c .differenced-narrow .result in
+codes-narrow : (c : tie.After-narrow) → let a = start-32 (c .before) .args in let g = c .narrow .result in
     take (g .count) (g .codes) ≡ take 32 (drop (a .at) (lentCodes (a .t) (a .v32 .now) (a .v64 .now)))
-codes-differenced-narrow c = let a = start-32 (c .before .before .before) .args in full-codes 32 (a .at) _ _ _ (c .differenced-narrow .ensures .1) (differences-32 (a .t) (a .v32 .now) (a .v64 .now) (c .before .before .before .if1 .taken) (c .before .if2 .taken))
-
-codes-coded-narrow : (c : tie.After-coded-narrow) → let a = start-32 (c .before .before .before) .args in let g = c .coded-narrow .result in
-    take (g .count) (g .codes) ≡ take 32 (drop (a .at) (lentCodes (a .t) (a .v32 .now) (a .v64 .now)))
-codes-coded-narrow c = let a = start-32 (c .before .before .before) .args in full-codes 32 (a .at) _ _ _ (c .coded-narrow .ensures .1) (each-32 (a .t) (a .v32 .now) (a .v64 .now) (c .before .before .before .if1 .taken) (c .before .if2 .left))
+codes-narrow c = let a = start-32 (c .before) .args in full-codes 32 (a .at) _ _ _ (c .narrow .ensures .1) (lent-32 (a .t) (a .v32 .now) (a .v64 .now) (c .before .if1 .taken))
 
 codes-wide : (c : tie.After-wide) → let a = start-64 (c .before) .args in let g = c .wide .result in
     take (g .count) (g .codes) ≡ take 32 (drop (a .at) (lentCodes (a .t) (a .v32 .now) (a .v64 .now)))
@@ -44,13 +40,13 @@ codes-wide c = let a = start-64 (c .before) .args in full-codes 32 (a .at) _ _ _
 add-end : tie.Need-add-end
 add-end c = omega (arith, c .before .before .before .before .pre .0 .2)
 
-differenced-narrow-requires : tie.Need-differenced-narrow-requires
-differenced-narrow-requires c κs = (omega arith, omega arith, omega (arith, enough-32 (c .before .before)), omega arith)
+narrow-requires : tie.Need-narrow-requires
+narrow-requires c κs = let p = start-32 c .pre .1 .0 in ((c .if1 .taken, omega arith, omega arith, omega (arith, enough-32 c), omega arith), (p .0, p .1))
 
 full32-requires : tie.Need-full32-requires
 full32-requires c κs =
     let g = c .before in
-    (omega (arith, g .differenced-narrow .ensures .0), rw (codes-differenced-narrow g) (start-32 (g .before .before .before) .pre .1 .1))
+    (omega (arith, g .narrow .ensures .0), rw (codes-narrow g) (start-32 (g .before) .pre .1 .1))
 
 same-length : tie.Need-same-length
 same-length c = search needs
@@ -59,30 +55,8 @@ returns : tie.Need-returns
 returns c =
     let g = c .before .before .before .before in
     let w = c .before .before .full32 in (
-      w .ensures .0 ∙ ap (λ (cs : List ℕ). length (groupBytes cs)) (codes-differenced-narrow g),
-      w .ensures .1 ∙ ap (λ (cs : List ℕ). groupBytes cs ++ drop (w .result) (start-32 (g .before .before .before) .args .out .now)) (codes-differenced-narrow g),
-    )
-
-coded-narrow-requires : tie.Need-coded-narrow-requires
-coded-narrow-requires c κs =
-    let q = c .before .before in
-    let p = start-32 q .pre .1 .0 in
-    ((q .if1 .taken, omega arith, omega arith, omega (arith, enough-32 q), omega arith), (p .0, p .1, c .if2 .left))
-
-full32-requires-2 : tie.Need-full32-requires-2
-full32-requires-2 c κs =
-    let g = c .before in
-    (omega (arith, g .coded-narrow .ensures .0), rw (codes-coded-narrow g) (start-32 (g .before .before .before) .pre .1 .1))
-
-same-length-2 : tie.Need-same-length-2
-same-length-2 c = search needs
-
-returns-2 : tie.Need-returns-2
-returns-2 c =
-    let g = c .before .before .before .before in
-    let w = c .before .before .full322 in (
-      w .ensures .0 ∙ ap (λ (cs : List ℕ). length (groupBytes cs)) (codes-coded-narrow g),
-      w .ensures .1 ∙ ap (λ (cs : List ℕ). groupBytes cs ++ drop (w .result) (start-32 (g .before .before .before) .args .out .now)) (codes-coded-narrow g),
+      w .ensures .0 ∙ ap (λ (cs : List ℕ). length (groupBytes cs)) (codes-narrow g),
+      w .ensures .1 ∙ ap (λ (cs : List ℕ). groupBytes cs ++ drop (w .result) (start-32 (g .before) .args .out .now)) (codes-narrow g),
     )
 
 wide-requires : tie.Need-wide-requires
@@ -93,11 +67,11 @@ full-requires c κs =
     let g = c .before in
     (omega (arith, g .wide .ensures .0), rw (codes-wide g) (start-64 (g .before) .pre .1 .1))
 
-same-length-3 : tie.Need-same-length-3
-same-length-3 c = search needs
+same-length-2 : tie.Need-same-length-2
+same-length-2 c = search needs
 
-returns-3 : tie.Need-returns-3
-returns-3 c =
+returns-2 : tie.Need-returns-2
+returns-2 c =
     let g = c .before .before .before .before in
     let w = c .before .before .full in (
       w .ensures .0 ∙ ap (λ (cs : List ℕ). length (groupBytes cs)) (codes-wide g),
@@ -109,15 +83,11 @@ put-group-spec =
     tie.close
     (tie.spec
     add-end
-    differenced-narrow-requires
+    narrow-requires
     full32-requires
     same-length
     returns
-    coded-narrow-requires
-    full32-requires-2
-    same-length-2
-    returns-2
     wide-requires
     full-requires
-    same-length-3
-    returns-3)
+    same-length-2
+    returns-2)

@@ -6,7 +6,7 @@ use Rattle.stream.proofs.lent.stage.Statement.{statement}
 use Rattle.stream.proofs.lent.stage.Tie as tie
 
 put-codes32-requires : tie.Need-put-codes32-requires
-put-codes32-requires c κs = (c .before .before .before .if1 .taken, c .before .before .before .before .before .before .before .pre .1)
+put-codes32-requires c κs = (c .before .before .before .if1 .taken, c .before .if2 .taken, c .before .before .before .before .before .before .before .pre .1)
 
 same-length : tie.Need-same-length
 same-length c = search needs

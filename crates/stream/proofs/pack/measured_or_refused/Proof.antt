@@ -5,7 +5,7 @@ use Rattle.stream.specs.Header.{chunksIn}
 use Rattle.stream.specs.Lent.{chosen}
 use Rattle.stream.specs.Operations.{lengthRows}
 use Rattle.stream.specs.Rows.{first}
-use Rattle.stream.specs.Setting.{allowedSetting, settingOf}
+use Rattle.stream.specs.Setting.{allowedSetting, settingAt}
 use Rattle.stream.specs.Writing.{endOf}
 use Rattle.stream.specs.declared.setting.Setting.{Setting}
 use borrow.Author.Needs.{needs}
@@ -23,7 +23,7 @@ values s = chosen (s .args .width) (s .args .v32 .now) (s .args .v64 .now)
 
 -- the setting, as the call's numbers make it
 abbrev made : tie.Start → Setting
-made s = settingOf (s .args .width) (s .args .mode) (s .args .k) (s .args .size)
+made s = settingAt (s .args .level) (s .args .width) (s .args .mode) (s .args .k) (s .args .size)
 
 rows : (c : tie.After-length-step) → let s = c .before .before .before .before in
     first (lengthRows (s .args .width) (s .args .level) (s .args .mode) (s .args .k) (s .args .size) (length (values s))) ≡ c .length-step .result
@@ -35,11 +35,11 @@ rows c =
 passed : (c : tie.After-enum-told) → let s = c .before .before .before .before .before .before in Passed (s .args .width) (s .args .level) (s .args .mode) (s .args .k) (s .args .size) (length (values s))
 passed c = let s = c .before .before .before .before .before .before in length-passed (s .args .width) (s .args .level) (s .args .mode) (s .args .k) (s .args .size) (length (values s)) (rows (c .before .before) ∙ c .enum-told .given .1)
 
-setting-is : (c : tie.After-setting-of) → c .setting-of .result ≡ made (c .before .before .before .before .before .before .before)
-setting-is c = let s = c .before .before .before .before .before .before .before in c .setting-of .ensures .0 ∙ ap (λ (z : ℤ). settingOf (s .args .width) (s .args .mode) z (s .args .size)) (toZ-ofZ (s .fits .k))
+setting-is : (c : tie.After-setting-at) → c .setting-at .result ≡ made (c .before .before .before .before .before .before .before)
+setting-is c = let s = c .before .before .before .before .before .before .before in c .setting-at .ensures .0 ∙ ap (λ (z : ℤ). settingAt (s .args .level) (s .args .width) (s .args .mode) z (s .args .size)) (toZ-ofZ (s .fits .k))
 
 -- the list of the setting's width is the call's
-list-is : (c : tie.After-setting-of) → let s = c .before .before .before .before .before .before .before in chosen (c .setting-of .result .width) (s .args .v32 .now) (s .args .v64 .now) ≡ values s
+list-is : (c : tie.After-setting-at) → let s = c .before .before .before .before .before .before .before in chosen (c .setting-at .result .width) (s .args .v32 .now) (s .args .v64 .now) ≡ values s
 list-is c = let s = c .before .before .before .before .before .before .before in ap (λ (t : Setting). chosen (t .width) (s .args .v32 .now) (s .args .v64 .now)) (setting-is c)
 
 length-step-requires : tie.Need-length-step-requires
@@ -54,14 +54,14 @@ returns c = let s = c .before .before .before .before .before .before .before in
 enum-told : tie.Need-enum-told
 enum-told c = search needs
 
-setting-of-requires : tie.Need-setting-of-requires
-setting-of-requires c κs = let s = c .before .before .before .before .before .before in (s .pre .0, ap (λ (z : ℤ). allowedSetting (s .args .width) (s .args .mode) z (s .args .size)) (toZ-ofZ (s .fits .k)) ∙ passed c .allowed)
+setting-at-requires : tie.Need-setting-at-requires
+setting-at-requires c κs = let s = c .before .before .before .before .before .before in (s .pre .0, ap (λ (z : ℤ). allowedSetting (s .args .width) (s .args .mode) z (s .args .size)) (toZ-ofZ (s .fits .k)) ∙ passed c .allowed)
 
 measured-requires : tie.Need-measured-requires
 measured-requires c κs =
     let s = c .before .before .before .before .before .before .before .before in
     let long = ap length (list-is (c .before)) in
-    (c .before .setting-of .ensures .1, s .pre .1 ∙ sym long, omega (arith, passed (c .before .before) .few, s .pre .1), s .pre .2)
+    (c .before .setting-at .ensures .1, s .pre .1 ∙ sym long, omega (arith, passed (c .before .before) .few, s .pre .1), s .pre .2)
 
 same-length : tie.Need-same-length
 same-length c = search needs
@@ -83,7 +83,7 @@ measured-or-refused-spec =
     enum-known-refused
     returns
     enum-told
-    setting-of-requires
+    setting-at-requires
     measured-requires
     same-length
     returns-2)

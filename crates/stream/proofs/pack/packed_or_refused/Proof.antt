@@ -6,7 +6,7 @@ use Rattle.stream.specs.Lent.{chosen}
 use Rattle.stream.specs.Operations.{lengthRows}
 use Rattle.stream.specs.Packing.{shortRow}
 use Rattle.stream.specs.Rows.{first}
-use Rattle.stream.specs.Setting.{allowedSetting, settingOf}
+use Rattle.stream.specs.Setting.{allowedSetting, settingAt}
 use Rattle.stream.specs.Writing.{endOf, stream}
 use Rattle.stream.specs.declared.setting.Setting.{Setting}
 use borrow.Author.Needs.{needs}
@@ -24,7 +24,7 @@ values s = chosen (s .args .width) (s .args .v32 .now) (s .args .v64 .now)
 
 -- the setting, as the call's numbers make it
 abbrev made : tie.Start → Setting
-made s = settingOf (s .args .width) (s .args .mode) (s .args .k) (s .args .size)
+made s = settingAt (s .args .level) (s .args .width) (s .args .mode) (s .args .k) (s .args .size)
 
 rows : (c : tie.After-length-step) → let s = c .before .before .before .before .before in
     first (lengthRows (s .args .width) (s .args .level) (s .args .mode) (s .args .k) (s .args .size) (length (values s))) ≡ c .length-step .result
@@ -36,11 +36,11 @@ rows c =
 passed : (c : tie.After-enum-told) → let s = c .before .before .before .before .before .before .before in Passed (s .args .width) (s .args .level) (s .args .mode) (s .args .k) (s .args .size) (length (values s))
 passed c = let s = c .before .before .before .before .before .before .before in length-passed (s .args .width) (s .args .level) (s .args .mode) (s .args .k) (s .args .size) (length (values s)) (rows (c .before .before) ∙ c .enum-told .given .1)
 
-setting-is : (c : tie.After-setting-of) → c .setting-of .result ≡ made (c .before .before .before .before .before .before .before .before)
-setting-is c = let s = c .before .before .before .before .before .before .before .before in c .setting-of .ensures .0 ∙ ap (λ (z : ℤ). settingOf (s .args .width) (s .args .mode) z (s .args .size)) (toZ-ofZ (s .fits .k))
+setting-is : (c : tie.After-setting-at) → c .setting-at .result ≡ made (c .before .before .before .before .before .before .before .before)
+setting-is c = let s = c .before .before .before .before .before .before .before .before in c .setting-at .ensures .0 ∙ ap (λ (z : ℤ). settingAt (s .args .level) (s .args .width) (s .args .mode) z (s .args .size)) (toZ-ofZ (s .fits .k))
 
 -- the list of the setting's width is the call's
-list-is : (c : tie.After-setting-of) → let s = c .before .before .before .before .before .before .before .before in chosen (c .setting-of .result .width) (s .args .v32 .now) (s .args .v64 .now) ≡ values s
+list-is : (c : tie.After-setting-at) → let s = c .before .before .before .before .before .before .before .before in chosen (c .setting-at .result .width) (s .args .v32 .now) (s .args .v64 .now) ≡ values s
 list-is c = let s = c .before .before .before .before .before .before .before .before in ap (λ (t : Setting). chosen (t .width) (s .args .v32 .now) (s .args .v64 .now)) (setting-is c)
 
 short : (c : tie.After-room-step) → let s = c .before .before .before .before .before .before .before .before .before .before in first (shortRow (made s) (values s) (length (s .args .out .now)) ∷ []) ≡ c .room-step .result
@@ -60,13 +60,13 @@ returns c = let s = c .before .before .before .before .before .before .before .b
 enum-told : tie.Need-enum-told
 enum-told c = search needs
 
-setting-of-requires : tie.Need-setting-of-requires
-setting-of-requires c κs = let s = c .before .before .before .before .before .before .before in (s .pre .0, ap (λ (z : ℤ). allowedSetting (s .args .width) (s .args .mode) z (s .args .size)) (toZ-ofZ (s .fits .k)) ∙ passed c .allowed)
+setting-at-requires : tie.Need-setting-at-requires
+setting-at-requires c κs = let s = c .before .before .before .before .before .before .before in (s .pre .0, ap (λ (z : ℤ). allowedSetting (s .args .width) (s .args .mode) z (s .args .size)) (toZ-ofZ (s .fits .k)) ∙ passed c .allowed)
 
 room-step-requires : tie.Need-room-step-requires
 room-step-requires c κs =
     let s = c .before .before .before .before .before .before .before .before .before in
-    (c .before .setting-of .ensures .1, s .pre .1 ∙ sym (ap length (list-is (c .before))), omega (arith, passed (c .before .before) .few, s .pre .1), s .pre .2)
+    (c .before .setting-at .ensures .1, s .pre .1 ∙ sym (ap length (list-is (c .before))), omega (arith, passed (c .before .before) .few, s .pre .1), s .pre .2)
 
 enum-known-short : tie.Need-enum-known-short
 enum-known-short c = search needs
@@ -90,7 +90,7 @@ written-requires c κs =
     let s = r .before .before .before .before .before .before .before .before .before .before in
     let a = s .args in
     let k = r .before .before in (
-      (k .setting-of .ensures .1, s .pre .1 ∙ sym (ap length (list-is k)), omega (arith, passed (r .before .before .before) .few, s .pre .1), omega (arith, s .pre .2, r .room-step .kept .1 .1 .1 .0)),
+      (k .setting-at .ensures .1, s .pre .1 ∙ sym (ap length (list-is k)), omega (arith, passed (r .before .before .before) .few, s .pre .1), omega (arith, s .pre .2, r .room-step .kept .1 .1 .1 .0)),
       subst (λ (n : ℕ). n ≤ length (a .out .now)) (sym (ap₂ (λ (t : Setting) (vs : List ℕ). endOf t vs (chunksIn (length vs))) (setting-is k) (list-is k)))
           (enough-room (made s) (values s) (length (a .out .now)) (short r ∙ c .before .before .enum-told2 .given .1)),
     )
@@ -121,7 +121,7 @@ packed-or-refused-spec =
     enum-known-refused
     returns
     enum-told
-    setting-of-requires
+    setting-at-requires
     room-step-requires
     enum-known-short
     same-length

@@ -10,8 +10,8 @@ use native.Mathlib.Omega.{arith}
 use Rattle.stream.proofs.setting.setting_of.Statement.{statement}
 use Rattle.stream.proofs.setting.setting_of.Tie as tie
 
-made : (c : tie.After-bin-for) → let a = c .before .args in record { width = a .width; mode = a .mode; bin = c .bin-for .result; size = a .size } ≡ settingOf (a .width) (a .mode) (a .k) (a .size)
-made c = let a = c .before .args in ap (λ (b : ℕ). record { width = a .width; mode = a .mode; bin = b; size = a .size }) (c .bin-for .ensures ∙ ap (binFor (a .width) (a .mode)) (toZ-ofZ (c .before .fits .k)))
+made : (c : tie.After-bin-for) → let a = c .before .args in record { width = a .width; mode = a .mode; bin = c .bin-for .result; size = a .size; halves = 0 } ≡ settingOf (a .width) (a .mode) (a .k) (a .size)
+made c = let a = c .before .args in ap (λ (b : ℕ). record { width = a .width; mode = a .mode; bin = b; size = a .size; halves = 0 }) (c .bin-for .ensures ∙ ap (binFor (a .width) (a .mode)) (toZ-ofZ (c .before .fits .k)))
 
 cast-t5 : tie.Need-cast-t5
 cast-t5 c = omega (arith, width-most (c .args .width) (c .pre .0))
