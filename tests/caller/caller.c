@@ -12,7 +12,7 @@
  *     4          k, in two's complement
  *     4          group: the group size
  *     4          width, of `bound` alone: the others have it in their names
- *     4          nothing: 0
+ *     4          halves: the rule for halves, of `tolerance_code` alone
  *     8          number: the index, the tolerance, the pattern (of `chunks_from` x) or the code
  *     8          count: elements of the input, values or bytes
  *     8          before: elements of the buffer that lie before the room
@@ -45,7 +45,7 @@ struct call {
     char name[24];
     uint32_t level, mode;
     int32_t k;
-    uint32_t group, width, nothing;
+    uint32_t group, width, halves;
     uint64_t number, count, before, room, behind;
 };
 
@@ -160,13 +160,13 @@ static uint64_t call_lossless_restored64(const struct call *c, const void *in, v
 static uint64_t call_tolerance_code32(const struct call *c, const void *in, void *out)
 {
     (void)in;
-    return gwz_tolerance_code32(c->k, (uint32_t)c->number, out);
+    return gwz_tolerance_code32(c->halves, c->k, (uint32_t)c->number, out);
 }
 
 static uint64_t call_tolerance_code64(const struct call *c, const void *in, void *out)
 {
     (void)in;
-    return gwz_tolerance_code64(c->k, c->number, out);
+    return gwz_tolerance_code64(c->halves, c->k, c->number, out);
 }
 
 static uint64_t call_tolerance_restored32(const struct call *c, const void *in, void *out)

@@ -62,6 +62,11 @@ class Caller:
         number, detail = parted(self.call("bound", b"", width=width, number=tolerance))
         return number, detail - 2**32 if number == 0 and detail >= 2**31 else detail
 
+    def tolerance_code(self, width, halves, k, pattern):
+        """By the rule for halves with this number: the third is the code."""
+        result, out = self.call_lent(f"tolerance_code{width}", b"", width // 8, 1, lambda done: 1, halves=halves, k=k, number=pattern)
+        return *parted(result), None if out is None else int.from_bytes(out, "little")
+
     # ---- what is lent
 
     def call_lent(self, name, given, size, room, written, **numbers):
@@ -80,10 +85,10 @@ class Caller:
 
     # ---- the pipe
 
-    def exchange(self, name, given, buffer, level=0, mode=0, k=0, group=0, width=0, number=0, count=None, before=0, room=0, behind=0):
+    def exchange(self, name, given, buffer, level=0, mode=0, k=0, group=0, width=0, halves=0, number=0, count=None, before=0, room=0, behind=0):
         """The result, and the buffer as it is after the call. Without a count the input is bytes."""
         count = len(given) if count is None else count
-        head = HEAD_OF_CALL.pack(name.encode(), level, mode, k, group, width, 0, number, count, before, room, behind)
+        head = HEAD_OF_CALL.pack(name.encode(), level, mode, k, group, width, halves, number, count, before, room, behind)
         try:
             self.program.stdin.write(head + given + buffer)
             self.program.stdin.flush()

@@ -29,6 +29,7 @@ def good_calls(library):
     assert library.probe(64, 10, stream, 2) == (0, 2, (1 << 64) - 1)
     groups_of_128(library)
     summaries(library)
+    halves(library)
     assert library.bound(32, 0x3EB0 << 48) == (0, -20) and library.bound(64, 0x4000 << 48) == (0, 1) and library.bound(16, 1) == (2, 0)
 
 
@@ -57,6 +58,21 @@ def summaries(library):
     assert library.chunks_from(64, 12, 0, copy, 2) == (0, 2, [0, 1]) and library.chunks_from(64, 12, 1, copy, 5) == (0, 1, [0])
     assert library.chunks_from(64, 12, 0, copy, 1) == (4, 2, None) and library.chunks_from(64, 12, 0x7FF0 << 48, copy, 0) == (0, 0, [])
     assert library.chunks_from(64, 12, (1 << 64) - 1, copy, 2) == (2, 0, None) and library.chunks_from(32, 12, 0, copy, 2) == (14, 0, None)
+
+
+def halves(library):
+    """Within 2^-2, 0.25 is the half of one bin: its code is 2 away from zero and 0 to even, and -0.75 is 5 by both rules."""
+    for rule, code in ((0, 2), (1, 0)):
+        assert library.tolerance_code(32, rule, -2, 0x3E800000) == (0, 0, code)
+        assert library.tolerance_code(64, rule, -2, 0x3FD0 << 48) == (0, 0, code)
+        assert library.tolerance_code(32, rule, -2, 0xBF400000) == (0, 0, 5)
+    assert library.tolerance_code(32, 2, -2, 0) == (2, 0, None) and library.tolerance_code(64, 1, 971, 0) == (2, 0, None)
+    for level, data in ((9, b"\x03\x2a"), (13, b"\x03\x2a"), (14, b"\x03\x28")):
+        assert library.length(32, level, 1, -2, 32, [0x3E800000, 0xBF400000]) == (0, 54)
+        number, length, stream = library.pack(32, level, 1, -2, 32, [0x3E800000, 0xBF400000], 54)
+        assert (number, length) == (0, 54) and stream[4:12] == bytes([level, 0, 0, 0, 9, 0, 0, 0]) and stream[52:] == data
+    assert library.unpack(32, 9, stream, 2) == (0, 2, [0, 0xBF800000]) and library.check(15, stream) == (1, 0)
+    assert library.length(32, 15, 1, -2, 32, []) == (1, 0)
 
 
 def fails(action):

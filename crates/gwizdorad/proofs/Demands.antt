@@ -69,6 +69,8 @@ pub demand-2 : Demand2
 demand-2 =
     record {
       layout = accepted-leaves;
+      rule = rule-at;
+      ruled = ruled-at;
       values = λ W level mode k group vs s width patterns packed L n back done.
           (counted W level mode k group vs s width patterns packed L n back done, unpacked W level mode k group vs s width patterns packed L n back done);
       probe32 = λ L s back n i old bytes done below.
@@ -79,6 +81,7 @@ demand-2 =
       differences = differences-at;
       coded = coded-at;
       within = within-at;
+      nearest = nearest-at;
       bound = λ W t. bound-at t W;
     }
 
@@ -88,17 +91,17 @@ module _ (W level mode : ℕ) (k : ℤ) (group : ℕ) (vs s : List ℕ) (o : Off
   read-back : ReadBack W mode k group vs s L back
   read-back = go (le-or-lt (need (settingOf W mode k group)) L)
     where
-      sent : (parts : List Side) × (someHigh (idsOf parts) ≡ false) × Sent level (settingOf W mode k group) vs parts (need (settingOf W mode k group)) s
+      sent : (parts : List Side) × (someHigh (idsOf parts) ≡ false) × Sent level (settingAt level W mode k group) vs parts (need (settingOf W mode k group)) s
       sent = is-sent W level mode k group vs s (o .width) (o .patterns) packed
 
       go : (need (settingOf W mode k group) ≤ L) ⊎ (L < need (settingOf W mode k group)) → ReadBack W mode k group vs s L back
       go (inl reaches) =
-          let read = it-is-read W level mode k group vs (offered W level mode k group vs o) (sent .0) (need (settingOf W mode k group)) s (sent .2) L known (sent .1) refl reaches back room in
+          let read = it-is-read (halvesAt level) W level mode k group vs (offered W level mode k group vs o) (sent .0) (need (settingOf W mode k group)) s (sent .2) L known (sent .1) refl reaches back room in
           given-back reaches (read .1)
           (unpacked W level mode k group vs s (o .width) (o .patterns) packed L (length vs) back (read .1))
           (ap (drop (length vs)) (read .2) ∙ drop-at (values s) (drop (length vs) back) (length vs) (as-many W level mode k group vs s (o .width) (o .patterns) packed))
       go (inr exceeds) =
-          let refused = it-is-too-new W level mode k group vs (offered W level mode k group vs o) (sent .0) (need (settingOf W mode k group)) s (sent .2) L known exceeds .unpack W back in
+          let refused = it-is-too-new (halvesAt level) W level mode k group vs (offered W level mode k group vs o) (sent .0) (need (settingOf W mode k group)) s (sent .2) L known exceeds .unpack W back in
           too-new exceeds (refused .0) (refused .1)
 
 pub demand-3 : Demand3
@@ -108,11 +111,12 @@ demand-3 =
       takes = accepted-setting;
       packs = λ W level mode k group vs o.
           let p = offered W level mode k group vs o in (
-            length (stream level (settingOf W mode k group) vs),
+            length (stream level (settingAt level W mode k group) vs),
             length-is-answered W level mode k group vs p (o .known),
             packed-length-bound W level mode k group vs p,
             λ out room. the-stream-is-packed W level mode k group vs p (o .known) out room .0,
           );
+      unneeded = needs-13;
       reads = read-back;
       higher = λ level level′ s low l known. (
         check-higher level level′ s l known,
@@ -128,24 +132,24 @@ module _ (W level mode : ℕ) (k : ℤ) (group : ℕ) (vs : List ℕ) (parts : L
   p : Packable W written mode k group vs
   p = accepted-later W level mode k group vs (m .out) (m .size) (m .done) width patterns written (m .later) (m .fit .0)
 
-  sent : Sent written (settingOf W mode k group) vs parts needed s
+  sent : Sent written (settingAt level W mode k group) vs parts needed s
   sent = rw (m .bytes) (accepted-is-raised W level mode k group vs (m .out) (m .size) (m .done) parts (m .well-formed) written needed (m .fit .1))
 
   module _ (L : ℕ) (known : knownLevel L ≡ true) where
     older : L < needed → TooNew L s needed
-    older = it-is-too-new W written mode k group vs p parts needed s sent L known
+    older = it-is-too-new (halvesAt level) W written mode k group vs p parts needed s sent L known
 
     wrong : needed ≤ L → (RightNeed W mode k group parts written needed → ⊥) → RefusedBy W L s (length vs) 8 0
-    wrong = refused-by-8 W written mode k group vs p parts needed s sent L known
+    wrong = refused-by-8 (halvesAt level) W written mode k group vs p parts needed s sent L known
 
     newer : needed ≤ L → RightNeed W mode k group parts written needed → someHigh (idsOf parts) ≡ true → RefusedBy W L s (length vs) 15 (firstHigh (idsOf parts))
     newer reaches right high =
-        refused-by-15 W written mode k group vs p parts needed s sent L known reaches high (right .0 ∙ ap (streamNeed (settingOf W mode k group)) high) (right .1)
+        refused-by-15 (halvesAt level) W written mode k group vs p parts needed s sent L known reaches high (right .0 ∙ ap (streamNeed (settingOf W mode k group)) high) (right .1)
 
     skipped : needed ≤ L → RightNeed W mode k group parts written needed → someHigh (idsOf parts) ≡ false → checkAnswer L s ≡ Done (length vs)
     unfolding streamNeed
     skipped reaches right low =
-        it-is-read W written mode k group vs p parts needed s sent L known low (right .0 ∙ ap (streamNeed (settingOf W mode k group)) low) reaches vs (omega arith) .0
+        it-is-read (halvesAt level) W written mode k group vs p parts needed s sent L known low (right .0 ∙ ap (streamNeed (settingOf W mode k group)) low) reaches vs (omega arith) .0
 
 -- the minors as pack wrote them
 module _ (W level mode : ℕ) (k : ℤ) (group : ℕ) (vs out : List ℕ) (size : ℕ) (width : knownWidth W ≡ true) (patterns : Below (2 ^ W) vs) (done : packAnswer W level mode k group vs (length out) ≡ Done size)

@@ -13,17 +13,17 @@ use Prim.Native.Nat.{ℕ, suc, _+_, _-_, _*_, _/_, _^_, _≤_, _<_}
 use lib.IntN.{ℤ, pos}
 use lib.Ieee.{ofBits, nan}
 use lib.ListN.{length, take, drop, getD, replicate}
-use Rattle.bins.specs.Tolerance.{allowedK, binOf, toleranceCode, largestU}
+use Rattle.bins.specs.Tolerance.{allowedK, binOf, ordinal, magnitude, threshold, toleranceCode, largestU}
 use Rattle.numbers.specs.Lossless.{losslessCode, losslessRestored}
 use Rattle.numbers.specs.Difference.{differenceCodes, runningSums}
 use Rattle.numbers.specs.Answers.{codeAnswer, codeNumber, patternAnswer, patternNumber}
 use Rattle.numbers.specs.Bound.{boundAnswer, boundNumber, boundDetail}
-use Rattle.numbers.specs.Theorem.{Returned, BoundFor}
+use Rattle.numbers.specs.Theorem.{Nearest, Returned, BoundFor}
 use Rattle.numbers.specs.declared.bound.BoundAnswer.the-variants.{UnknownWidth}
 use Rattle.numbers.specs.declared.tolerance.CodeAnswer.the-variants as code
 use Rattle.numbers.specs.declared.tolerance.PatternAnswer.the-variants as pattern
 use Rattle.blocks.specs.Bytes.{Below}
-use Rattle.stream.specs.Setting.{knownLevel, knownWidth, fractionBits, losslessMode, allowedSetting, settingOf, need, streamNeed}
+use Rattle.stream.specs.Setting.{knownLevel, knownWidth, fractionBits, losslessMode, allowedSetting, settingOf, halvesAt, settingAt, codeAt, need, streamNeed}
 use Rattle.stream.specs.Rows.{Decides, numbersOf}
 use Rattle.stream.specs.Header.{headerOf, chunksIn}
 use Rattle.stream.specs.Tables.{sideId, sidePlace, sideLength, idsIn, highId, someHigh, firstHigh}
@@ -96,11 +96,11 @@ pub record Demand1 : Type 0 where
       → (listAnswer W L x s (length out) ≡ Refused number detail ↔ Decides (listRows W L x s (length out)) number detail)
       × (listAnswer W L x s (length out) ≡ Refused number detail → listOut W L x s out ≡ out)
   -- the number rules, whose details are 0. "Bound: 2 12 13": 2 for a width that is not known; when 12 and 13 are given is part of demand 2.
-  -- A code and its way back: 2 for a k that is not allowed, then 10 for a u above the largest.
+  -- A code: 2 for a rule for halves that is not known and for a k that is not allowed. The way back: 2 for such a k, then 10 for a u above the largest.
   pub bound : (W t : ℕ) → (knownWidth W ≡ false → boundAnswer W t ≡ UnknownWidth)
       × ((boundNumber (boundAnswer W t) ≡ 0 → ⊥) → boundDetail (boundAnswer W t) ≡ pos 0)
-  pub code : (W m : ℕ) (k : ℤ) (p old : ℕ) → (codeAnswer W m k p ≡ code.NotAllowed ↔ allowedK W m k ≡ false)
-      × ((codeNumber (codeAnswer W m k p) ≡ 0 → ⊥) → codeOut (codeAnswer W m k p) old ≡ old)
+  pub code : (W m halves : ℕ) (k : ℤ) (p old : ℕ) → (codeAnswer W m halves k p ≡ code.NotAllowed ↔ (1 < halves) ⊎ (allowedK W m k ≡ false))
+      × ((codeNumber (codeAnswer W m halves k p) ≡ 0 → ⊥) → codeOut (codeAnswer W m halves k p) old ≡ old)
   pub pattern : (W m : ℕ) (k : ℤ) (c old : ℕ) → (patternAnswer W m k c ≡ pattern.NotAllowed ↔ allowedK W m k ≡ false)
       × (patternAnswer W m k c ≡ pattern.AboveLargest ↔ (allowedK W m k ≡ true) × (largestU W m (binOf W m k) < c / 2))
       × ((patternNumber (patternAnswer W m k c) ≡ 0 → ⊥) → patternOut (patternAnswer W m k c) old ≡ old)
@@ -130,9 +130,14 @@ pub record Packed (W level mode : ℕ) (k : ℤ) (group : ℕ) (vs s : List ℕ)
   pub given : Sided (take size (packOut W level mode k group vs out)) s
 
 pub record Demand2 : Type 0 where
-  -- pack leaves the stream that document 01 lays out (`stream`, with its codes), and past it nothing is altered
+  -- pack leaves the stream that document 01 lays out (`stream`, with its codes), and past it nothing is altered. Document 02, R-7: "the code is the rule's of the
+  -- written level", which is part of the writer's setting (`settingAt`).
   pub layout : (W level mode : ℕ) (k : ℤ) (group : ℕ) (vs out : List ℕ) (size : ℕ) → packAnswer W level mode k group vs (length out) ≡ Done size
-      → (size ≡ length (stream level (settingOf W mode k group) vs)) × (packOut W level mode k group vs out ≡ stream level (settingOf W mode k group) vs ++ drop size out)
+      → (size ≡ length (stream level (settingAt level W mode k group) vs)) × (packOut W level mode k group vs out ≡ stream level (settingAt level W mode k group) vs ++ drop size out)
+  -- "Writers at level 14 and later" send halves to even (1), "writers at 8 to 13 keep the old rule", away from zero (0)
+  pub rule : (level : ℕ) → (level < 14 → halvesAt level ≡ 0) × (14 ≤ level → halvesAt level ≡ 1)
+  pub ruled : (W level : ℕ) (k : ℤ) (group p : ℕ) → allowedSetting W 1 k group ≡ true → knownWidth W ≡ true
+      → codeAt (settingAt level W 1 k group) p ≡ toleranceCode W (fractionBits W) (halvesAt level) (binOf W (fractionBits W) k) p
   -- what was packed and is unpacked, whatever the levels
   pub values : (W level mode : ℕ) (k : ℤ) (group : ℕ) (vs s : List ℕ) → knownWidth W ≡ true → Below (2 ^ W) vs → Packed W level mode k group vs s
       → (L n : ℕ) (back : List ℕ) → unpackAnswer W L s (length back) ≡ Done n
@@ -147,16 +152,20 @@ pub record Demand2 : Type 0 where
   pub lossless : (W p : ℕ) → knownWidth W ≡ true → p < 2 ^ W → losslessRestored W (fractionBits W) (losslessCode W (fractionBits W) p) ≡ p
   pub differences : (W before : ℕ) (ps : List ℕ) → knownWidth W ≡ true → before < 2 ^ W → Below (2 ^ W) ps
       → runningSums W before (differenceCodes W before ps) ≡ ps
-  pub coded : (W m : ℕ) (k : ℤ) (p : ℕ) → allowedK W m k ≡ true → codeAnswer W m k p ≡ code.Code (toleranceCode W m (binOf W m k) p)
-  pub within : (W : ℕ) (k : ℤ) (p c : ℕ) → knownWidth W ≡ true → p < 2 ^ W → codeAnswer W (fractionBits W) k p ≡ code.Code c
+  pub coded : (W m halves : ℕ) (k : ℤ) (p : ℕ) → halves ≤ 1 → allowedK W m k ≡ true → codeAnswer W m halves k p ≡ code.Code (toleranceCode W m halves (binOf W m k) p)
+  pub within : (W halves : ℕ) (k : ℤ) (p c : ℕ) → knownWidth W ≡ true → p < 2 ^ W → codeAnswer W (fractionBits W) halves k p ≡ code.Code c
       → (q : ℕ) × (patternAnswer W (fractionBits W) k c ≡ pattern.Pattern q) × Returned (formatOf W) (binOf W (fractionBits W) k) p q
+  -- below the threshold the magnitude code is the number of bins nearest to the magnitude, and where a half goes is the rule (`Nearest`)
+  pub nearest : (W halves : ℕ) (k : ℤ) (p : ℕ) → knownWidth W ≡ true → p < 2 ^ W → allowedK W (fractionBits W) k ≡ true
+      → magnitude (fractionBits W) (ordinal W p) < threshold (fractionBits W) (binOf W (fractionBits W) k)
+      → Nearest halves (magnitude (fractionBits W) (ordinal W p)) (2 ^ binOf W (fractionBits W) k) (toleranceCode W (fractionBits W) halves (binOf W (fractionBits W) k) p / 2)
   pub bound : (W t : ℕ) → knownWidth W ≡ true → BoundFor W (fractionBits W) t (boundAnswer W t)
 
 -- ---- Demand 3: "Pack a list within the limit at level 8, 9 or 10, with a setting that level allows and enough room, and give the stream any
 -- well-formed side parts. The reader for its width, told to act as level 8, 9 or 10 and lent room for the values, gives back what demand 2
 -- says, or refuses as too new and names the needed level: exactly when that, as a number, exceeds its own. And bytes accepted by one level are
--- accepted by each higher one with the same values." Since document 02, R-6, it speaks of the levels 8 to 13 (`knownLevel`) and of groups of 32 and of 128;
--- since R-4 of side parts with ids below 2^31, and of arbitrary bytes "without the high ids". The need is 13 in groups of 128, else 11 in mode 2, else 10 for
+-- accepted by each higher one with the same values." Since document 02, R-7, it speaks of the levels 8 to 14 (`knownLevel`); since R-6 of groups of
+-- 32 and of 128; since R-4 of side parts with ids below 2^31, and of arbitrary bytes "without the high ids". The need is 13 in groups of 128, else 11 in mode 2, else 10 for
 -- width 64, else 9 in mode 1, else 8; too new is refusal 7.
 
 -- a list within the limit, of patterns of a width, and a level that allows the setting
@@ -189,6 +198,8 @@ pub record Demand3 : Type 0 where
       → (size : ℕ) × (lengthAnswer W level mode k group vs ≡ Done size)
       × (size ≤ 48 + 4 * chunksIn (length vs) + (length vs + (group - 1)) / group + length vs * W / 8)
       × ((out : List ℕ) → size ≤ length out → packAnswer W level mode k group vs (length out) ≡ Done size)
+  -- "Nothing needs level 14 to be read"
+  pub unneeded : (W mode : ℕ) (k : ℤ) (group : ℕ) → need (settingOf W mode k group) ≤ 13
   pub reads : (W level mode : ℕ) (k : ℤ) (group : ℕ) (vs s : List ℕ) → Offered W level mode k group vs → Packed W level mode k group vs s
       → (L : ℕ) → knownLevel L ≡ true → (back : List ℕ) → length vs ≤ length back → ReadBack W mode k group vs s L back
   -- any bytes s without a high id. Today no level accepts bytes with one (`NotSkipped`), so the premise takes no bytes away that any reader accepts. It

@@ -4,6 +4,7 @@ pub mod Signed
 pub mod Lossless
 pub mod Difference
 pub mod Answers
+pub mod Halves
 pub mod Bound
 pub mod Read
 pub mod BoundRead

@@ -21,15 +21,16 @@ use Rattle.numbers.specs.Answers.{codeAnswer, patternAnswer}
 use Rattle.numbers.specs.Signed.{signedView}
 use Rattle.numbers.specs.Lossless.{field, stepped, losslessCode, unstepped, losslessRestored}
 use Rattle.numbers.specs.Difference.{differenceCode, differenceCodes, differenceRestored, runningSums, lastOf}
-use Rattle.bins.specs.Tolerance.{kOffset, lastBin, allowedK, binOf, knownHalves, sign, ordinal, magnitude, restoredOrdinal, toleranceCode, toleranceRestored, largestU}
+use Rattle.bins.specs.Tolerance.{kOffset, lastBin, allowedK, binOf, knownHalves, sign, ordinal, magnitude, threshold, near, restoredOrdinal, toleranceCode, toleranceRestored, largestU}
 use Rattle.bins.specs.Answers.{binAnswer}
 use Rattle.numbers.specs.Bound.{isTolerance, exponentOf, notAbove, boundAt}
-use Rattle.numbers.specs.Theorem.{Format, distance, Within, IsBound, Returned, BoundFor}
+use Rattle.numbers.specs.Theorem.{Format, Nearest, distance, Within, IsBound, Returned, BoundFor}
 use Rattle.numbers.proofs.Law.Lossless as Lossless
 use Rattle.numbers.proofs.Law.Difference as Difference
 use Rattle.bins.proofs.Law.Tolerance as Tolerance
 use Rattle.bins.proofs.Law.Answers.{bin-small, allowed, bin-is, refused-is}
 use Rattle.bins.proofs.Law.Exponent.{leZ-both}
+use Rattle.numbers.proofs.Law.Halves.{nearest-is}
 use Rattle.numbers.proofs.Law.Bound as Bound
 use Rattle.bins.proofs.Law.Ieee as Ieee
 use Rattle.numbers.proofs.Law.Read as Read
@@ -273,6 +274,14 @@ module _ (W m : ℕ) (format : Format W m) where
               (let near = Tolerance.returns-close m rule j (ordinal W p) l in omega (arith, near .0, near .1));
           exact = Tolerance.pattern-returns W m (format .room) j an-allowed-k-has-a-bin rule p h;
         }
+
+    -- below the threshold u is the number of bins nearest to the magnitude; where a half goes is the rule's to say
+    pub the-code-is-the-nearest : (rule p : ℕ) → p < 2 ^ W → magnitude m (ordinal W p) < threshold m (binOf W m k)
+        → Nearest rule (magnitude m (ordinal W p)) (2 ^ binOf W m k) (toleranceCode W m rule (binOf W m k) p / 2)
+    unfolding near
+    the-code-is-the-nearest rule p h l =
+        let j = binOf W m k in
+        rw (Tolerance.code-half W m (format .room) j an-allowed-k-has-a-bin rule p h, Tolerance.code-below m rule j (ordinal W p) l) (nearest-is rule (magnitude m (ordinal W p)) (2 ^ j) (pow-pos j))
 
     -- so of the answers for a k: a pattern's code is restored within the tolerance
     pub a-code-is-restored : (rule p c : ℕ) → p < 2 ^ W → codeAnswer W m rule k p ≡ code.Code c

@@ -1,7 +1,7 @@
 -- The words that the theorems of proofs/Theorems.antt are stated in.
 use mathlib.Core.Path.{_≡_}
 use mathlib.Core.Bool.{Bool, true, false}
-use Prim.Native.Nat.{ℕ, _+_, _-_, _*_, _^_, _≤_, _<_}
+use Prim.Native.Nat.{ℕ, _+_, _-_, _*_, _%_, _^_, _≤_, _<_}
 use lib.Ieee as Ieee
 use lib.Ieee.Exact.{HasValue}
 use lib.IntN.{ℤ}
@@ -27,6 +27,12 @@ pub record Within (W m j p q : ℕ) : Type 0 where
   pub signed : sign W q ≡ sign W p
   pub close : magnitude m (ordinal W p) < threshold m j → 2 * distance (magnitude m (ordinal W p)) (magnitude m (ordinal W q)) ≤ 2 ^ j
   pub exact : threshold m j ≤ magnitude m (ordinal W p) → q ≡ p
+
+-- n is the whole number nearest to a / b, by a rule for halves: no other is nearer; and where another is as near, that is a half, and n is the larger of the two
+-- by the rule 0, away from zero, and the even one by the rule 1.
+pub record Nearest (halves a b n : ℕ) : Type 0 where
+  pub close : (u : ℕ) → distance a (n * b) ≤ distance a (u * b)
+  pub half : (u : ℕ) → (u ≡ n → ⊥) → distance a (u * b) ≡ distance a (n * b) → (halves ≡ 0 → u < n) × (halves ≡ 1 → n % 2 ≡ 0)
 
 -- "the largest allowed k with 2^k not above it"
 pub record IsBound (W m t : ℕ) (k : ℤ) : Type 0 where

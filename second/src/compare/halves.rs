@@ -190,15 +190,18 @@ fn rule_at(level: u32) -> Halves {
 }
 
 impl FullOfHalves {
-    /// With any k that has halves, of any length.
+    /// With any k that has halves, of any length. Often no value is above the half of one
+    /// bin: then alone the rules give a group different widths.
     fn some(rng: &mut XorShift, setting: Setting) -> FullOfHalves {
         let (width, m) = (setting.width, setting.width.fraction_bits());
         let k = some_k(rng, width).max(*ks_with_halves(width).start());
-        let (n, most_bits) = (some_length(rng), rng.below(m as u64 + 1));
+        let (n, any) = (some_length(rng), rng.below(m as u64 + 1));
+        let most_bits = rng.one_of(&[0, 0, 1, any, any]);
+        let beside = rng.one_of(&[Place::On, Place::Below, Place::Above]);
         let value = |_| {
             let bits = rng.below(most_bits + 1) as u32;
             let whole = whole_of_length(rng, bits);
-            let place = rng.one_of(&[Place::On, Place::On, Place::On, Place::Below, Place::Above]);
+            let place = rng.one_of(&[Place::On, Place::On, Place::On, Place::Below, beside]);
             Around { width, k, whole, place, negative: rng.chance(2) }
         };
         let values = (0..n).map(value).collect();

@@ -142,39 +142,47 @@ fn tolerance_codes(judge: &mut Judge) {
     judge.compare_known(above, refused(Refusal::bare(10)), &[]);
 }
 
-/// The list 0.25, -0.75 within 2^-2, by every writer that can. Its codes, of 3 bits, are
-/// 2 and 5 up to level 13, and 0 and 5 from level 14 on; every reader from the need on
-/// restores the same of them.
+/// Lists within 2^-2 by every writer that can, with their groups up to level 13 and from
+/// level 14 on. The codes of 0.25 and -0.75 are 2 and 5, and then 0 and 5, of 3 bits; that
+/// of 0.25 alone is 2, of 2 bits, and then 0, of none.
 fn examples_of_halves(judge: &mut Judge) {
     for setting in every_setting().into_iter().filter(|setting| setting.mode == 1) {
         for level in setting.need()..=HIGHEST_LEVEL {
-            let (restored, codes) = if level < 14 { (0.5, 0x2A) } else { (0.0, 0x28) };
-            example_of_halves(judge, setting, level, codes, [restored, -1.0]);
+            let (restored, of_two, of_one): (f64, [u8; 2], &[u8]) =
+                if level < 14 { (0.5, [3, 0x2A], &[2, 0x02]) } else { (0.0, [3, 0x28], &[0]) };
+            let writer = (setting, level);
+            example_of_halves(judge, writer, &[0.25, -0.75], &of_two, &[restored, -1.0]);
+            example_of_halves(judge, writer, &[0.25], of_one, &[restored]);
         }
     }
 }
 
+/// What a writer makes of a list, and every reader from the need on of that.
 fn example_of_halves(
     judge: &mut Judge,
-    setting: Setting,
-    level: u32,
-    codes: u8,
-    restored: [f64; 2],
+    (setting, level): (Setting, u32),
+    values: &[f64],
+    group: &[u8],
+    restored: &[f64],
 ) {
-    let Setting { width, mode, k, group } = setting;
-    let (need, number) = (setting.need(), setting.mode_number());
-    let header = [1, level, need, width.bits(), number, k as u32, 2, 1, 48, 52, 0, 54, 0];
-    let stream = &[&bytes_of(&header)[..], &[3, codes]].concat();
+    let Setting { width, mode, k, group: size } = setting;
+    let (need, n, end) = (setting.need(), values.len(), 52 + group.len() as u32);
+    let mut header = vec![1, level, need, width.bits(), setting.mode_number(), k as u32];
+    header.extend([n as u32, 1, 48, 52, 0, end, 0]);
+    let stream = &[&bytes_of(&header), group].concat();
     let bytes: Vec<u64> = stream.iter().map(|&byte| byte as u64).collect();
-    let list = List::of(width, [0.25, -0.75].map(|value| pattern_of(width, value)));
+    let patterns = |values: &[f64]| -> Vec<u64> {
+        values.iter().map(|&value| pattern_of(width, value)).collect()
+    };
+    let list = List::of(width, patterns(values));
     let (values, room) = (list.values(), stream.len());
-    judge.compare_known(Call::Length { level, mode, k, group, values }, room as u64, &[]);
-    let pack = Call::Pack { level, mode, k, group, values, room };
+    judge.compare_known(Call::Length { level, mode, k, group: size, values }, room as u64, &[]);
+    let pack = Call::Pack { level, mode, k, group: size, values, room };
     judge.compare_known(pack, room as u64, &bytes);
     for level in need..=HIGHEST_LEVEL {
-        judge.compare_known(Call::Check { level, stream }, 2, &[]);
-        let unpack = Call::Unpack { width, level, stream, room: 2 };
-        judge.compare_known(unpack, 2, &restored.map(|value| pattern_of(width, value)));
+        judge.compare_known(Call::Check { level, stream }, n as u64, &[]);
+        let unpack = Call::Unpack { width, level, stream, room: n };
+        judge.compare_known(unpack, n as u64, &patterns(restored));
     }
 }
 

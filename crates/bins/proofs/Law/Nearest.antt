@@ -5,7 +5,7 @@ use mathlib.Core.Bool.{Bool, true, false, _&&_, cond}
 use Prim.Native.Nat.{ℕ, suc, _+_, _-_, _*_, _/_, _%_, _≤_, _<_}
 use native.Mathlib.Nat.{mul-left-comm, mul-assoc, add-zero, add-mul, suc-mul, zero-mul, mul-pos, mod-lt, mod-le, div-add-mod', div-eq-of-lt, mul-lt-mul-of-pos-right, lt-of-lt-of-le, le-of-eq}
 use native.Mathlib.Omega.{arith}
-use borrow.Author.Tests.{eq-eqb, ne-eqb, eqb-true}
+use borrow.Author.Tests.{eq-eqb, ne-eqb, eqb-true, eqb-false}
 use lib.Arith.{digits-div, digits-mod}
 use lib.Dec.{eqb}
 use Rattle.bins.specs.Tolerance.{upper, halfway, nearest}
@@ -112,3 +112,43 @@ nearest-other rule a b u r e some l = sym (nearest-by rule a b u r e l ∙ rw (n
 -- u whole b are nearest to u
 pub nearest-exact : (rule b u : ℕ) → 0 < b → nearest rule (u * b) b ≡ u
 nearest-exact rule b u some = sym (nearest-other rule (u * b) b u b (ap (λ (n : ℕ). n + b) (mul-left-comm u 2 b)) some (omega arith))
+
+-- ---- what it is, in full: not halfway, or halfway and the upper one, or halfway and the lower one
+
+abbrev pub Found : ℕ → ℕ → ℕ → ℕ → Type 0
+Found rule a b n =
+    ((r : ℕ) × (n * (2 * b) + r ≡ 2 * a + b) × (0 < r) × (r < 2 * b))
+    ⊎ ((n * (2 * b) ≡ 2 * a + b) × (rule ≡ 1 → n % 2 ≡ 0))
+    ⊎ ((suc n * (2 * b) ≡ 2 * a + b) × (rule ≡ 1) × (n % 2 ≡ 0))
+
+pub nearest-found : (rule a b : ℕ) → 0 < b → Found rule a b (nearest rule a b)
+nearest-found rule a b some = subst (Found rule a b) (sym (nearest-by rule a b u r parts rest)) (go (eqb rule 1) refl (le-or-lt r 0) (le-or-lt (u % 2) 0))
+  where
+    u : ℕ
+    u = (2 * a + b) / (2 * b)
+
+    r : ℕ
+    r = (2 * a + b) % (2 * b)
+
+    parts : u * (2 * b) + r ≡ 2 * a + b
+    parts = div-add-mod' (2 * a + b) (2 * b)
+
+    rest : r < 2 * b
+    rest = mod-lt (2 * a + b) (omega arith)
+
+    whole : r ≤ 0 → u * (2 * b) ≡ 2 * a + b
+    whole z = omega (arith, parts)
+
+    at : (even : Bool) → r ≤ 0 → cond (even && eqb r 0) (u - u % 2) u ≡ cond even (u - u % 2) u
+    at true z = ap (λ (half : Bool). cond half (u - u % 2) u) (eq-eqb r 0 (omega arith))
+    at false z = refl
+
+    off : (even : Bool) → 0 < r → cond (even && eqb r 0) (u - u % 2) u ≡ u
+    off true z = ap (λ (half : Bool). cond half (u - u % 2) u) (ne-eqb r 0 (λ (e : r ≡ 0). omega arith))
+    off false z = refl
+
+    go : (even : Bool) → eqb rule 1 ≡ even → (r ≤ 0) ⊎ (0 < r) → (u % 2 ≤ 0) ⊎ (0 < u % 2) → Found rule a b (cond (even && eqb r 0) (u - u % 2) u)
+    go even is (inr z) p = subst (Found rule a b) (sym (off even z)) (inl (r, parts, z, rest))
+    go true is (inl z) (inl p) = subst (Found rule a b) (sym (at true z)) (inr (inl (rw (let e : u - u % 2 ≡ u = omega arith in e) (whole z), λ _. rw (let e : u - u % 2 ≡ u = omega arith in e) (omega arith))))
+    go true is (inl z) (inr p) = subst (Found rule a b) (sym (at true z)) (inr (inr (rw (let e : suc (u - u % 2) ≡ u = omega arith in e) (whole z), eqb-true rule 1 is, omega arith)))
+    go false is (inl z) p = subst (Found rule a b) (sym (at false z)) (inr (inl (whole z, λ e. absurd (eqb-false rule 1 is e))))

@@ -1,27 +1,28 @@
 -- What the demands ask beyond the theorems of the crates below: the tolerance by the width, and the values of a packed stream.
 use mathlib.Core.Path.{_≡_, refl, sym, ap, subst, _∙_}
 use mathlib.Core.Logic.{_⊎_, inl, inr, _↔_}
-use mathlib.Core.Bool.{Bool, true, false}
+use mathlib.Core.Bool.{Bool, true, false, _&&_, cond}
 use mathlib.Core.List.{List, []}
-use Prim.Native.Nat.{ℕ, _+_, _*_, _/_, _^_, _<_}
+use Prim.Native.Nat.{ℕ, _+_, _*_, _/_, _^_, _≤_, _<_}
+use native.Mathlib.Nat.{min-eq-left, max-le}
 use native.Mathlib.Omega.{arith}
-use borrow.Author.Tests.{leb-false, lt-leb, eqb-true}
-use lib.Dec.{leb, eqb}
+use borrow.Author.Tests.{leb-false, le-leb, lt-leb, eqb-true}
+use lib.Dec.{leb, eqb, lit≤}
 use lib.IntN.{ℤ, pos}
 use lib.ListN.{length, take, getD}
-use Rattle.bins.specs.Tolerance.{allowedK, binOf, toleranceCode, toleranceRestored, largestU}
+use Rattle.bins.specs.Tolerance.{allowedK, binOf, knownHalves, ordinal, magnitude, threshold, toleranceCode, toleranceRestored, largestU}
 use Rattle.numbers.specs.Lossless.{losslessCode, losslessRestored}
 use Rattle.numbers.specs.Difference.{differenceCodes, runningSums}
 use Rattle.numbers.specs.Answers.{codeAnswer, patternAnswer}
 use Rattle.numbers.specs.Bound.{boundAnswer, boundNumber, boundDetail}
-use Rattle.numbers.specs.Theorem.{Format, Within, Returned, BoundFor}
+use Rattle.numbers.specs.Theorem.{Format, Nearest, Within, Returned, BoundFor}
 use Rattle.numbers.specs.declared.bound.BoundAnswer.{BoundAnswer}
 use Rattle.numbers.specs.declared.bound.BoundAnswer.the-variants.{Exponent, UnknownWidth, NoTolerance, TooSmall}
 use Rattle.numbers.specs.declared.tolerance.CodeAnswer.the-variants as code
 use Rattle.numbers.specs.declared.tolerance.PatternAnswer.the-variants as pattern
-use Rattle.numbers.proofs.Theorems.{format-32, format-64, every-pattern-is-restored, every-list-is-restored, a-coded-k-is-allowed, an-allowed-k-has-a-bin, a-code-is-restored, binary32-returned, binary64-returned, bound-for-binary32, bound-for-binary64}
+use Rattle.numbers.proofs.Theorems.{format-32, format-64, every-pattern-is-restored, every-list-is-restored, a-coded-k-is-allowed, an-allowed-k-has-a-bin, a-code-is-restored, the-code-is-the-nearest, binary32-returned, binary64-returned, bound-for-binary32, bound-for-binary64}
 use Rattle.blocks.specs.Bytes.{Below}
-use Rattle.stream.specs.Setting.{knownWidth, fractionBits, allowedMode, allowedSetting, settingOf, need}
+use Rattle.stream.specs.Setting.{knownWidth, fractionBits, allowedMode, allowedSetting, binFor, settingOf, halvesAt, settingAt, clipped, codeAt, widthNeed, modeNeed, sizeNeed, need}
 use Rattle.stream.specs.Tables.{someHigh}
 use Rattle.stream.specs.Stream.{values}
 use Rattle.stream.specs.Writing.{Side, idsOf, WellFormedSides}
@@ -74,27 +75,45 @@ format-at : (W : ℕ) → knownWidth W ≡ true → Format W (fractionBits W)
 unfolding fractionBits
 format-at = of-a-width (λ (W : ℕ). Format W (fractionBits W)) format-32 format-64
 
-pub within-at : (W : ℕ) (k : ℤ) (p c : ℕ) → knownWidth W ≡ true → p < 2 ^ W → codeAnswer W (fractionBits W) k p ≡ code.Code c
+pub within-at : (W halves : ℕ) (k : ℤ) (p c : ℕ) → knownWidth W ≡ true → p < 2 ^ W → codeAnswer W (fractionBits W) halves k p ≡ code.Code c
     → (q : ℕ) × (patternAnswer W (fractionBits W) k c ≡ pattern.Pattern q) × Returned (formatOf W) (binOf W (fractionBits W) k) p q
-within-at W k p c width h e =
-    let allowed = a-coded-k-is-allowed W (fractionBits W) (format-at W width) k p c e in
-    let r = a-code-is-restored W (fractionBits W) (format-at W width) k allowed p c h e in
+within-at W halves k p c width h e =
+    let allowed = a-coded-k-is-allowed W (fractionBits W) (format-at W width) halves k p c e in
+    let r = a-code-is-restored W (fractionBits W) (format-at W width) k allowed halves p c h e in
     (r .0, r .1, returned k p (r .0) W width allowed (r .2))
 
+pub nearest-at : (W halves : ℕ) (k : ℤ) (p : ℕ) → knownWidth W ≡ true → p < 2 ^ W → allowedK W (fractionBits W) k ≡ true
+    → magnitude (fractionBits W) (ordinal W p) < threshold (fractionBits W) (binOf W (fractionBits W) k)
+    → Nearest halves (magnitude (fractionBits W) (ordinal W p)) (2 ^ binOf W (fractionBits W) k) (toleranceCode W (fractionBits W) halves (binOf W (fractionBits W) k) p / 2)
+nearest-at W halves k p width h allowed l = the-code-is-the-nearest W (fractionBits W) (format-at W width) k allowed halves p h l
+
 -- when the number rules refuse
-module _ (W m : ℕ) (k : ℤ) where
-  pub coded-at : (p : ℕ) → allowedK W m k ≡ true → codeAnswer W m k p ≡ code.Code (toleranceCode W m (binOf W m k) p)
-  unfolding codeAnswer
-  coded-at p e = rw e
+module _ (W m halves : ℕ) (k : ℤ) (p : ℕ) where
+  pub coded-at : halves ≤ 1 → allowedK W m k ≡ true → codeAnswer W m halves k p ≡ code.Code (toleranceCode W m halves (binOf W m k) p)
+  unfolding codeAnswer knownHalves
+  coded-at known e = rw (le-leb halves 1 known, e)
 
-  pub code-refused : (p : ℕ) → codeAnswer W m k p ≡ code.NotAllowed ↔ allowedK W m k ≡ false
-  unfolding codeAnswer
-  code-refused p = (λ e. go (allowedK W m k) refl e, λ e. rw e)
+  pub code-refused : codeAnswer W m halves k p ≡ code.NotAllowed ↔ (1 < halves) ⊎ (allowedK W m k ≡ false)
+  unfolding codeAnswer knownHalves
+  code-refused = (λ e. go (leb halves 1) refl (allowedK W m k) refl e, back)
     where
-      go : (b : Bool) → allowedK W m k ≡ b → codeAnswer W m k p ≡ code.NotAllowed → allowedK W m k ≡ false
-      go false is e = is
-      go true is e = let z : code.Code (toleranceCode W m (binOf W m k) p) ≡ code.NotAllowed = rw is at e in cc
+      go : (a : Bool) → leb halves 1 ≡ a → (b : Bool) → allowedK W m k ≡ b → codeAnswer W m halves k p ≡ code.NotAllowed → (1 < halves) ⊎ (allowedK W m k ≡ false)
+      go false known b is e = inl (leb-false halves 1 known)
+      go true known false is e = inr is
+      go true known true is e = absurd (no-code (rw (known, is) at e))
+        where
+          no-code : {c : ℕ} → code.Code c ≡ code.NotAllowed → ⊥
+          no-code {c} z = let q : 0 ≡ 1 = cc in omega arith
 
+      back : (1 < halves) ⊎ (allowedK W m k ≡ false) → codeAnswer W m halves k p ≡ code.NotAllowed
+      back (inl unknown) = rw (lt-leb halves 1 unknown)
+      back (inr is) = refused (leb halves 1) is
+        where
+          refused : (a : Bool) → allowedK W m k ≡ false → cond (a && allowedK W m k) (code.Code (toleranceCode W m halves (binOf W m k) p)) code.NotAllowed ≡ code.NotAllowed
+          refused true z = rw z
+          refused false z = refl
+
+module _ (W m : ℕ) (k : ℤ) where
   pub pattern-refused : (c : ℕ) → patternAnswer W m k c ≡ pattern.NotAllowed ↔ allowedK W m k ≡ false
   unfolding patternAnswer
   pattern-refused c = (λ e. go (allowedK W m k) refl (leb (c / 2) (largestU W m (binOf W m k))) refl e, λ e. rw e)
@@ -147,6 +166,27 @@ offered W level mode k group vs o =
       patterns = o .patterns;
     }
 
+-- ---- document 02, R-7: the rule for halves
+
+pub rule-at : (level : ℕ) → (level < 14 → halvesAt level ≡ 0) × (14 ≤ level → halvesAt level ≡ 1)
+unfolding halvesAt
+rule-at level = (λ h. rw (lt-leb 14 level h), λ h. rw (le-leb 14 level h))
+
+pub ruled-at : (W level : ℕ) (k : ℤ) (group p : ℕ) → allowedSetting W 1 k group ≡ true → knownWidth W ≡ true
+    → codeAt (settingAt level W 1 k group) p ≡ toleranceCode W (fractionBits W) (halvesAt level) (binOf W (fractionBits W) k) p
+unfolding codeAt clipped binFor
+ruled-at W level k group p allowed width =
+    ap (λ (j : ℕ). toleranceCode W (fractionBits W) (halvesAt level) j p)
+    (min-eq-left (an-allowed-k-has-a-bin W (fractionBits W) (format-at W width) k (allowed-in-mode-1 W 1 k group refl allowed)))
+
+pub needs-13 : (W mode : ℕ) (k : ℤ) (group : ℕ) → need (settingOf W mode k group) ≤ 13
+unfolding need widthNeed modeNeed sizeNeed
+needs-13 W mode k group = max-le (max-le (one (eqb W 64) 10 8 (lit≤ tt) (lit≤ tt)) (one (eqb mode 1) 9 (cond (eqb mode 2) 11 8) (lit≤ tt) (one (eqb mode 2) 11 8 (lit≤ tt) (lit≤ tt)))) (one (eqb group 128) 13 8 (lit≤ tt) (lit≤ tt))
+  where
+    one : (b : Bool) (x y : ℕ) → x ≤ 13 → y ≤ 13 → cond b x y ≤ 13
+    one true x y h l = h
+    one false x y h l = l
+
 -- ---- the values of a packed stream
 
 module _ (W level mode : ℕ) (k : ℤ) (group : ℕ) (vs out : List ℕ) (size : ℕ) (done : packAnswer W level mode k group vs (length out) ≡ Done size)
@@ -155,17 +195,17 @@ module _ (W level mode : ℕ) (k : ℤ) (group : ℕ) (vs out : List ℕ) (size 
   whole = ap length (accepted-bytes W level mode k group vs out size done) ∙ sym (accepted-leaves W level mode k group vs out size done .0)
 
   sided-is-sent : (s : List ℕ) → Sided (take size (packOut W level mode k group vs out)) s
-      → (parts : List Side) × (someHigh (idsOf parts) ≡ false) × Sent level (settingOf W mode k group) vs parts (need (settingOf W mode k group)) s
+      → (parts : List Side) × (someHigh (idsOf parts) ≡ false) × Sent level (settingAt level W mode k group) vs parts (need (settingOf W mode k group)) s
   unfolding idsOf someHigh
   sided-is-sent s (plain is) = (
     [],
     refl,
-    subst (Sent level (settingOf W mode k group) vs [] (need (settingOf W mode k group))) (sym (is ∙ accepted-bytes W level mode k group vs out size done)) (the-plain-stream W level mode k group vs packable),
+    subst (Sent level (settingAt level W mode k group) vs [] (need (settingOf W mode k group))) (sym (is ∙ accepted-bytes W level mode k group vs out size done)) (the-plain-stream (halvesAt level) W level mode k group vs packable),
   )
   sided-is-sent s (with-parts parts well low is) = (
     parts,
     low,
-    subst (Sent level (settingOf W mode k group) vs parts (need (settingOf W mode k group))) (sym is)
+    subst (Sent level (settingAt level W mode k group) vs parts (need (settingOf W mode k group))) (sym is)
         (accepted-is-sent W level mode k group vs out size done parts (subst (λ (n : ℕ). WellFormedSides (n + 12 * length parts) parts) whole well)),
   )
 
@@ -173,15 +213,15 @@ module _ (W level mode : ℕ) (k : ℤ) (group : ℕ) (vs s : List ℕ) (width :
   packable : Packable W level mode k group vs
   packable = accepted-list W level mode k group vs (packed .out) (packed .size) (packed .done) width patterns
 
-  pub is-sent : (parts : List Side) × (someHigh (idsOf parts) ≡ false) × Sent level (settingOf W mode k group) vs parts (need (settingOf W mode k group)) s
+  pub is-sent : (parts : List Side) × (someHigh (idsOf parts) ≡ false) × Sent level (settingAt level W mode k group) vs parts (need (settingOf W mode k group)) s
   is-sent = sided-is-sent W level mode k group vs (packed .out) (packed .size) (packed .done) packable s (packed .given)
 
   pub as-many : length (values s) ≡ length vs
-  as-many = as-many-values W level mode k group vs packable (is-sent .0) (need (settingOf W mode k group)) s (is-sent .2)
+  as-many = as-many-values (halvesAt level) W level mode k group vs packable (is-sent .0) (need (settingOf W mode k group)) s (is-sent .2)
 
   pub come-back : (i : ℕ) → i < length vs → ComesBack W mode k (getD vs i 0) (getD (values s) i 0)
   come-back i below =
       record {
-        lossless = λ e. ap (λ (l : List ℕ). getD l i 0) (lossless-values W level mode k group vs packable (is-sent .0) (need (settingOf W mode k group)) s (is-sent .2) e);
-        within = λ e. returned k (getD vs i 0) (getD (values s) i 0) W width (allowed-in-mode-1 W mode k group e (packable .allowed)) (tolerance-values W level mode k group vs packable (is-sent .0) (need (settingOf W mode k group)) s (is-sent .2) e i below);
+        lossless = λ e. ap (λ (l : List ℕ). getD l i 0) (lossless-values (halvesAt level) W level mode k group vs packable (is-sent .0) (need (settingOf W mode k group)) s (is-sent .2) e);
+        within = λ e. returned k (getD vs i 0) (getD (values s) i 0) W width (allowed-in-mode-1 W mode k group e (packable .allowed)) (tolerance-values (halvesAt level) W level mode k group vs packable (is-sent .0) (need (settingOf W mode k group)) s (is-sent .2) e i below);
       }
