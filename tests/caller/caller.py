@@ -85,7 +85,8 @@ class Caller:
 
     # ---- the pipe
 
-    def exchange(self, name, given, buffer, level=0, mode=0, k=0, group=0, width=0, halves=0, number=0, count=None, before=0, room=0, behind=0):
+    def exchange(self, name, given, buffer, level=0, mode=0, k=0, group=0, width=0, halves=0, number=0, count=None,
+                 before=0, room=0, behind=0):
         """The result, and the buffer as it is after the call. Without a count the input is bytes."""
         count = len(given) if count is None else count
         head = HEAD_OF_CALL.pack(name.encode(), level, mode, k, group, width, halves, number, count, before, room, behind)

@@ -44,6 +44,20 @@ sleek-known : wrong sleekRight sleekRows ≡ []
 unfolding wrong sleekRight sleekRows
 sleek-known = refl
 
+-- The same format by the rule of document 02, R-7: of its halves, the patterns 20, 26, 29 and 31 (0.25, 0.75, 1.25 and 1.75), the first and the third go to another code.
+evenRight : ℕ × ℕ × ℕ → Bool
+unfolding toleranceRight
+evenRight r = toleranceRight (7, 2, 1, negsuc 1, r .0, r .1, r .2)
+
+evenRows : List (ℕ × ℕ × ℕ)
+evenRows =
+    (0, 0, 0) ∷ (19, 0, 0) ∷ (20, 0, 0) ∷ (21, 2, 24) ∷ (25, 2, 24) ∷ (26, 4, 28) ∷ (27, 4, 28) ∷ (28, 4, 28) ∷ (29, 4, 28) ∷ (30, 6, 30) ∷ (31, 8, 32)
+    ∷ (32, 8, 32) ∷ (33, 10, 33) ∷ (63, 70, 63) ∷ (84, 1, 64) ∷ (93, 5, 92) ∷ []
+
+even-known : wrong evenRight evenRows ≡ []
+unfolding wrong evenRight evenRows
+even-known = refl
+
 -- ---- the limits that document 01 states in numbers: the smallest k, the largest j, and the largest k as their difference
 
 limitsRight : ℕ × ℕ × ℕ × ℕ → Bool

@@ -12,7 +12,7 @@ use Rattle.numbers.specs.Answers.{codeAnswer, patternAnswer}
 use Rattle.numbers.specs.Bound.{boundAnswer}
 use Rattle.blocks.specs.Bytes.{Below}
 use Rattle.blocks.proofs.Law.Truth.{le-or-lt}
-use Rattle.stream.specs.Setting.{knownLevel, knownWidth, settingOf, need, streamNeed}
+use Rattle.stream.specs.Setting.{knownLevel, knownWidth, settingOf, halvesAt, settingAt, need, streamNeed}
 use Rattle.stream.specs.Tables.{someHigh, firstHigh}
 use Rattle.stream.specs.Chunk.{groupsIn}
 use Rattle.stream.specs.Stream.{values}
@@ -32,7 +32,7 @@ use Rattle.gwizdorad_numbers.proofs.Theorems.{a-refused-code-is-not-written, a-
 use Rattle.gwizdorad.specs.Result.{probeOut32, probeOut64}
 use Rattle.gwizdorad.specs.Demands.{Demand1, ComesBack, Packed, Demand2, Offered, ReadBack, given-back, too-new, Demand3, WithMinors, RightNeed, NotSkipped, SummaryBeside}
 use Rattle.gwizdorad.proofs.Theorems.{probe32-leaves-what-unpack-leaves, probe64-leaves-what-unpack-leaves}
-use Rattle.gwizdorad.proofs.Law.Demand.{coded-at, code-refused, pattern-refused, pattern-above, bound-detail, unknown-width, lossless-at, differences-at, within-at, bound-at, offered, is-sent, as-many, come-back}
+use Rattle.gwizdorad.proofs.Law.Demand.{coded-at, code-refused, pattern-refused, pattern-above, bound-detail, unknown-width, lossless-at, differences-at, within-at, nearest-at, rule-at, ruled-at, needs-13, bound-at, offered, is-sent, as-many, come-back}
 
 pub demand-1 : Demand1
 unfolding probeOut32 probeOut64
@@ -50,7 +50,7 @@ demand-1 =
       test = refused-test;
       list = λ W L x s out number detail. (refused-list W L x s (length out) number detail, refused-list-untouched W L x s out number detail);
       bound = λ W t. (unknown-width W t, bound-detail (boundAnswer W t));
-      code = λ W m k p old. (code-refused W m k p, a-refused-code-is-not-written (codeAnswer W m k p) old);
+      code = λ W m halves k p old. (code-refused W m halves k p, a-refused-code-is-not-written (codeAnswer W m halves k p) old);
       pattern = λ W m k c old. (pattern-refused W m k c, pattern-above W m k c, a-refused-pattern-is-not-written (patternAnswer W m k c) old);
     }
 

@@ -63,12 +63,33 @@ fn pattern(a: PatternAnswer) {
     }
 }
 
-// The exponent, a pattern, and its code.
+// The exponent, a pattern, and its code, a half going away from zero.
 fn coded(k: i32, p: u32) {
     text(b"code 32 k");
     signed(k);
     hex(p as u64, 8);
-    code(numbers::tolerance::code32(k, p));
+    code(numbers::tolerance::code32(0, k, p));
+    text(b"\n");
+}
+
+// The rule for halves, the exponent, a pattern, and its code.
+fn ruled32(halves: u32, k: i32, p: u32) {
+    text(b"halves ");
+    io::print_decimal(STDOUT_FILENO, halves as u64);
+    text(b" code 32 k");
+    signed(k);
+    hex(p as u64, 8);
+    code(numbers::tolerance::code32(halves, k, p));
+    text(b"\n");
+}
+
+fn ruled64(halves: u32, k: i32, p: u64) {
+    text(b"halves ");
+    io::print_decimal(STDOUT_FILENO, halves as u64);
+    text(b" code 64 k");
+    signed(k);
+    hex(p, 16);
+    code(numbers::tolerance::code64(halves, k, p));
     text(b"\n");
 }
 
@@ -133,6 +154,25 @@ fn tolerance_values() {
     restored(-151, 0);
 }
 
+// Halves to even, at k = -2: 0.25, -0.75, 4194303.75, -1.25 by both rules, and the numbers beside 0.25; at k = -149, below the bins of the floats, the smallest number
+// and thrice that; 0.25 and 0.75 at width 64. Then rules that are not known, with a k that is allowed and one that is not.
+fn halves() {
+    ruled32(1, -2, 0x3E80_0000);
+    ruled32(1, -2, 0xBF40_0000);
+    ruled32(1, -2, 0x4A7F_FFFF);
+    ruled32(0, -2, 0xBFA0_0000);
+    ruled32(1, -2, 0xBFA0_0000);
+    ruled32(1, -2, 0x3E7F_FFFF);
+    ruled32(1, -2, 0x3E80_0001);
+    ruled32(0, -149, 0x0000_0001);
+    ruled32(1, -149, 0x0000_0001);
+    ruled32(1, -149, 0x0000_0003);
+    ruled64(1, -2, 0x3FD0_0000_0000_0000);
+    ruled64(1, -2, 0x3FE8_0000_0000_0000);
+    ruled32(2, -2, 0x3E80_0000);
+    ruled64(4294967295, 971, 0x3FD0_0000_0000_0000);
+}
+
 // 0.3, 0.25, 2^200, 2^-150, 2^-151, 0, -0, infinity, a not-a-number and -1 at width 32; then the smallest number and 2^1000 at
 // width 64, and a width that is not known.
 fn bound_values() {
@@ -154,5 +194,6 @@ fn bound_values() {
 fn main() {
     lossless_values();
     tolerance_values();
+    halves();
     bound_values();
 }

@@ -236,6 +236,27 @@ fn longest() {
     );
 }
 
+// Three halves within 2^-2, written by a level, and what a reader at level 9 makes of them.
+fn halves_by(level: u32) {
+    let list: [u32; 3] = [0x3E80_0000, 0xBF40_0000, 0xBFA0_0000];
+    let mut out: [u8; 55] = [0; 55];
+    told(
+        b"halves packed",
+        pack::pack32(level, 1, -2, 32, &list, &mut out),
+    );
+    text(b"halves bytes ");
+    text(&out);
+    text(b"\n");
+    let mut back: [u32; 3] = [0; 3];
+    told(b"halves at level 8", reading::unpack32(8, &out, &mut back));
+    told(b"halves at level 9", reading::unpack32(9, &out, &mut back));
+    text(b"halves values");
+    pattern(back[0]);
+    pattern(back[1]);
+    pattern(back[2]);
+    text(b"\n");
+}
+
 fn main() {
     example();
     example_too_short();
@@ -244,4 +265,7 @@ fn main() {
     differences();
     groups_of_128();
     longest();
+    halves_by(13);
+    halves_by(14);
+    halves_by(15);
 }

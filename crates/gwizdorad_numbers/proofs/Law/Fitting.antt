@@ -1,6 +1,6 @@
 -- What the number rules answer at width W has W bits, so that spelling it loses nothing.
 use mathlib.Core.Path.{_≡_, refl, sym, ap, _∙_}
-use mathlib.Core.Bool.{Bool, true, false, cond}
+use mathlib.Core.Bool.{Bool, true, false, _&&_, cond}
 use Prim.Native.Nat.{ℕ, _/_, _^_, _<_}
 use lib.Dec.{leb}
 use lib.Pow.{pow-pos}
@@ -8,7 +8,7 @@ use lib.IntN.{ℤ}
 use mir.Syntax.{w32}
 use mir.Val.{SFits, toZ, ofZ}
 use mir.Facts.{toZ-ofZ}
-use Rattle.bins.specs.Tolerance.{allowedK, binOf, toleranceCode, toleranceRestored, largestU}
+use Rattle.bins.specs.Tolerance.{allowedK, binOf, knownHalves, toleranceCode, toleranceRestored, largestU}
 use Rattle.numbers.specs.Answers.{codeAnswer, patternAnswer}
 use Rattle.numbers.specs.Theorem.{Format}
 use Rattle.numbers.specs.declared.tolerance.CodeAnswer.the-variants as code
@@ -20,16 +20,17 @@ pub told : {A : Type 0} (f : ℤ → A) (k : ℤ) → SFits w32 k → (r e : A) 
 told f k s r e a b = ap f (sym (toZ-ofZ s)) ∙ sym a ∙ b
 
 module _ (W m : ℕ) (format : Format W m) (k : ℤ) where
-  module _ (p : ℕ) (small : p < 2 ^ W) (c : ℕ) where
-    coded : (b : Bool) → allowedK W m k ≡ b → cond b (code.Code (toleranceCode W m (binOf W m k) p)) code.NotAllowed ≡ code.Code c → c < 2 ^ W
-    coded true a e =
-        let same : toleranceCode W m (binOf W m k) p ≡ c = cc in
-        rw (sym same) (tolerance-code-has-W-bits W m format (binOf W m k) (an-allowed-k-has-a-bin W m format k a) p small)
-    coded false a e = let none : c ≡ 0 = cc in rw none (pow-pos W)
+  module _ (rule p : ℕ) (small : p < 2 ^ W) (c : ℕ) where
+    coded : (a b : Bool) → allowedK W m k ≡ b → cond (a && b) (code.Code (toleranceCode W m rule (binOf W m k) p)) code.NotAllowed ≡ code.Code c → c < 2 ^ W
+    coded true true is e =
+        let same : toleranceCode W m rule (binOf W m k) p ≡ c = cc in
+        rw (sym same) (tolerance-code-has-W-bits W m format (binOf W m k) (an-allowed-k-has-a-bin W m format k is) rule p small)
+    coded true false is e = let none : c ≡ 0 = cc in rw none (pow-pos W)
+    coded false b is e = let none : c ≡ 0 = cc in rw none (pow-pos W)
 
-    pub code-fits : codeAnswer W m k p ≡ code.Code c → c < 2 ^ W
+    pub code-fits : codeAnswer W m rule k p ≡ code.Code c → c < 2 ^ W
     unfolding codeAnswer
-    code-fits e = coded (allowedK W m k) refl e
+    code-fits e = coded (knownHalves rule) (allowedK W m k) refl e
 
   module _ (c p : ℕ) where
     restored : (b : Bool) → allowedK W m k ≡ b → (o : Bool)

@@ -18,7 +18,7 @@ enum-known-answer : tie.Need-enum-known-answer
 enum-known-answer c = search needs
 
 cast-code : tie.Need-cast-code
-cast-code c = record { fits = code-fits 32 23 format-32 (c .before .before .before .before .args .k) (c .before .before .before .before .args .pattern) (c .before .before .before .before .fits .pattern .fits) _ (told (λ (z : ℤ). codeAnswer 32 23 z (c .before .before .before .before .args .pattern)) (c .before .before .before .before .args .k) (c .before .before .before .before .fits .k) (c .before .before .before .code32 .result) _ (c .before .before .before .code32 .ensures) (c .before .answer .given .1)) }
+cast-code c = record { fits = code-fits 32 23 format-32 (c .before .before .before .before .args .k) (c .before .before .before .before .args .halves) (c .before .before .before .before .args .pattern) (c .before .before .before .before .fits .pattern .fits) _ (told (λ (z : ℤ). codeAnswer 32 23 (c .before .before .before .before .args .halves) z (c .before .before .before .before .args .pattern)) (c .before .before .before .before .args .k) (c .before .before .before .before .fits .k) (c .before .before .before .code32 .result) _ (c .before .before .before .code32 .ensures) (c .before .answer .given .1)) }
 
 result-of-requires : tie.Need-result-of-requires
 result-of-requires c κs = search needs
@@ -31,11 +31,11 @@ result-of-requires-2 c κs = search needs
 
 returns : tie.Need-returns
 unfolding codeResult codeNumber codeOut
-returns c = let e = told (λ (z : ℤ). codeAnswer 32 23 z (c .before .before .before .before .before .args .pattern)) (c .before .before .before .before .before .args .k) (c .before .before .before .before .before .fits .k) (c .before .before .before .before .code32 .result) _ (c .before .before .before .before .code32 .ensures) (c .before .before .answer .given .1) in (c .result-of .ensures ∙ ap codeResult (sym e), sym (ap (λ (a : CodeAnswer). codeOut a (now (c .before .before .before .before .before .args .code))) e))
+returns c = let e = told (λ (z : ℤ). codeAnswer 32 23 (c .before .before .before .before .before .args .halves) z (c .before .before .before .before .before .args .pattern)) (c .before .before .before .before .before .args .k) (c .before .before .before .before .before .fits .k) (c .before .before .before .before .code32 .result) _ (c .before .before .before .before .code32 .ensures) (c .before .before .answer .given .1) in (c .result-of .ensures ∙ ap codeResult (sym e), sym (ap (λ (a : CodeAnswer). codeOut a (now (c .before .before .before .before .before .args .code))) e))
 
 returns-2 : tie.Need-returns-2
 unfolding codeResult codeNumber codeOut
-returns-2 c = let e = told (λ (z : ℤ). codeAnswer 32 23 z (c .before .before .before .before .args .pattern)) (c .before .before .before .before .args .k) (c .before .before .before .before .fits .k) (c .before .before .before .code32 .result) _ (c .before .before .before .code32 .ensures) (c .before .enum-told .given .1) in (c .result-of2 .ensures ∙ ap codeResult (sym e), sym (ap (λ (a : CodeAnswer). codeOut a (now (c .before .before .before .before .args .code))) e))
+returns-2 c = let e = told (λ (z : ℤ). codeAnswer 32 23 (c .before .before .before .before .args .halves) z (c .before .before .before .before .args .pattern)) (c .before .before .before .before .args .k) (c .before .before .before .before .fits .k) (c .before .before .before .code32 .result) _ (c .before .before .before .code32 .ensures) (c .before .enum-told .given .1) in (c .result-of2 .ensures ∙ ap codeResult (sym e), sym (ap (λ (a : CodeAnswer). codeOut a (now (c .before .before .before .before .args .code))) e))
 
 pub gwz-tolerance-code32-spec : {M : Type 1} → statement M
 gwz-tolerance-code32-spec =

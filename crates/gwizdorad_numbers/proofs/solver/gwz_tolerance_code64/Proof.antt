@@ -27,11 +27,11 @@ result-of-requires-2 c κs = search needs
 
 returns : tie.Need-returns
 unfolding codeResult codeNumber codeOut
-returns c = let e = told (λ (z : ℤ). codeAnswer 64 52 z (c .before .before .before .before .before .args .pattern)) (c .before .before .before .before .before .args .k) (c .before .before .before .before .before .fits .k) (c .before .before .before .before .code64 .result) _ (c .before .before .before .before .code64 .ensures) (c .before .before .answer .given .1) in (c .result-of .ensures ∙ ap codeResult (sym e), sym (ap (λ (a : CodeAnswer). codeOut a (now (c .before .before .before .before .before .args .code))) e))
+returns c = let e = told (λ (z : ℤ). codeAnswer 64 52 (c .before .before .before .before .before .args .halves) z (c .before .before .before .before .before .args .pattern)) (c .before .before .before .before .before .args .k) (c .before .before .before .before .before .fits .k) (c .before .before .before .before .code64 .result) _ (c .before .before .before .before .code64 .ensures) (c .before .before .answer .given .1) in (c .result-of .ensures ∙ ap codeResult (sym e), sym (ap (λ (a : CodeAnswer). codeOut a (now (c .before .before .before .before .before .args .code))) e))
 
 returns-2 : tie.Need-returns-2
 unfolding codeResult codeNumber codeOut
-returns-2 c = let e = told (λ (z : ℤ). codeAnswer 64 52 z (c .before .before .before .before .args .pattern)) (c .before .before .before .before .args .k) (c .before .before .before .before .fits .k) (c .before .before .before .code64 .result) _ (c .before .before .before .code64 .ensures) (c .before .enum-told .given .1) in (c .result-of2 .ensures ∙ ap codeResult (sym e), sym (ap (λ (a : CodeAnswer). codeOut a (now (c .before .before .before .before .args .code))) e))
+returns-2 c = let e = told (λ (z : ℤ). codeAnswer 64 52 (c .before .before .before .before .args .halves) z (c .before .before .before .before .args .pattern)) (c .before .before .before .before .args .k) (c .before .before .before .before .fits .k) (c .before .before .before .code64 .result) _ (c .before .before .before .code64 .ensures) (c .before .enum-told .given .1) in (c .result-of2 .ensures ∙ ap codeResult (sym e), sym (ap (λ (a : CodeAnswer). codeOut a (now (c .before .before .before .before .args .code))) e))
 
 pub gwz-tolerance-code64-spec : {M : Type 1} → statement M
 gwz-tolerance-code64-spec =
