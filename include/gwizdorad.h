@@ -80,7 +80,7 @@
 
 /* The format that this header is of: its major number, and the highest level that is known here. */
 #define GWZ_FORMAT_MAJOR 1
-#define GWZ_HIGHEST_LEVEL 13 /* reads every stream that this library can write */
+#define GWZ_HIGHEST_LEVEL 14 /* reads every stream that this library can write */
 
 #ifdef __cplusplus
 extern "C" {
@@ -92,6 +92,10 @@ extern "C" {
  * within a tolerance, else 8. A reader of level 10 or below refuses GWZ_DIFFERENCES by 7: for such boats use GWZ_LOSSLESS, whose
  * need is 8, or 10 at width 64. One of level 12 or below refuses groups of 128 by 7: for such boats use GWZ_GROUPS_OF_32. A stream
  * to which somebody added a side part with an id from GWZ_FIRST_HIGH_ID up needs 12, or more if its setting does: see SIDE PARTS.
+ *
+ * Nothing needs level 14: what a writer does there is read by each level that reads the same setting written at an older one. Within
+ * a tolerance it sends halves to even (GWZ_HALVES_TO_EVEN); at the levels 8 to 13 they go away from zero. It is the level told to
+ * gwz_pack that decides. Who compares files with older ones byte for byte writes at the older level.
  */
 enum gwz_level {
     GWZ_LEVEL_8 = 8,   /* width 32, GWZ_LOSSLESS */
@@ -99,7 +103,8 @@ enum gwz_level {
     GWZ_LEVEL_10 = 10, /* and width 64, in both of these */
     GWZ_LEVEL_11 = 11, /* and GWZ_DIFFERENCES, both widths */
     GWZ_LEVEL_12 = 12, /* no other setting; refuses ids that must be understood by 15 */
-    GWZ_LEVEL_13 = 13  /* and groups of 128, in every mode and width */
+    GWZ_LEVEL_13 = 13, /* and groups of 128, in every mode and width */
+    GWZ_LEVEL_14 = 14  /* no other setting; within a tolerance a writer sends halves to even */
 };
 
 enum gwz_mode {
@@ -186,7 +191,7 @@ uint32_t gwz_highest_level(void);
  * behind them nothing is altered. Enough room is what gwz_length answers, or GWZ_LONGEST_STREAM, with which
  * there is no measuring pass over the values.
  *
- * level    8, 9, 10, 11, 12 or 13; which allows which setting stands with enum gwz_level
+ * level    8, 9, 10, 11, 12, 13 or 14; which allows which setting stands with enum gwz_level
  * mode     GWZ_LOSSLESS, GWZ_WITHIN_TOLERANCE or GWZ_DIFFERENCES
  * k        within a tolerance its exponent, which gwz_bound finds: -150 to 103 for width 32, -1075 to 970 for
  *          width 64; else 0

@@ -37,9 +37,9 @@
  * means, may change where the second number does.
  */
 #define GWZ_VERSION_MAJOR 0
-#define GWZ_VERSION_MINOR 12
+#define GWZ_VERSION_MINOR 13
 #define GWZ_VERSION_PATCH 0
-#define GWZ_VERSION "0.12.0"
+#define GWZ_VERSION "0.13.0"
 
 #ifndef GWZ_HELPER
 #define GWZ_HELPER static inline
@@ -55,9 +55,9 @@ const char *gwz_version(void);
 /* The refusal numbers. The detail is 0 but for the four that say another. */
 enum gwz_refusal_number {
     GWZ_DONE = 0,                 /* not refused: the low 32 bits are the answer */
-    GWZ_UNKNOWN_LEVEL = 1,        /* level not 8 to 13 */
+    GWZ_UNKNOWN_LEVEL = 1,        /* level not 8 to 14 */
     GWZ_NOT_ALLOWED = 2,          /* mode, k or group size not allowed, or the need exceeds the level; bound: width not 32 or
-                                     64; list of chunks: x is a not-a-number */
+                                     64; a code alone: rule for halves not 0 or 1; list of chunks: x is a not-a-number */
     GWZ_TOO_MANY_VALUES = 3,      /* more than GWZ_MOST_VALUES */
     GWZ_TOO_SHORT = 4,            /* lent output too short; detail: the length needed, in that output's elements */
     GWZ_NO_HEADER = 5,            /* fewer than GWZ_HEADER_BYTES bytes */
@@ -82,6 +82,16 @@ enum gwz_exponent_limit {
     GWZ_LARGEST_K32 = 103,
     GWZ_SMALLEST_K64 = -1075,
     GWZ_LARGEST_K64 = 970
+};
+
+/*
+ * Where a value goes within a tolerance that lies halfway between two multiples of 2^(k+1). The tolerance is kept by both. Away
+ * from zero, values that are all positive come back a little too high on the average where many of them are such halves, as the
+ * readings of a gauge that counts in steps of 2^k are; to even, as IEEE 754 rounds, about half of them go up and half down.
+ */
+enum gwz_halves {
+    GWZ_HALVES_AWAY = 0,   /* away from zero: what gwz_pack does at the levels 8 to 13 */
+    GWZ_HALVES_TO_EVEN = 1 /* to the even multiple: what it does at level 14 */
 };
 
 /* ---- Taking a result apart */
@@ -118,10 +128,10 @@ GWZ_HELPER const char *gwz_refusal_text(uint32_t number)
     case GWZ_DONE:
         return "Done: nothing was refused.";
     case GWZ_UNKNOWN_LEVEL:
-        return "The level is not known: pass 8, 9, 10, 11, 12 or 13.";
+        return "The level is not known: pass 8, 9, 10, 11, 12, 13 or 14.";
     case GWZ_NOT_ALLOWED:
         return "The setting is not allowed: check mode, k, group size and width, or pass the higher level that the setting needs. "
-               "(Of a list of chunks: x is a not-a-number, and no value is at least that; pass the pattern of a number.)";
+               "(Of a code alone: check k and the rule for halves, which is 0 or 1. Of a list of chunks: x is a not-a-number, and no value is at least that; pass the pattern of a number.)";
     case GWZ_TOO_MANY_VALUES:
         return "There are more than 1048576 values: cut the list and pack each part as its own stream.";
     case GWZ_TOO_SHORT:
@@ -185,14 +195,14 @@ uint32_t gwz_lossless_restored32(uint32_t code);
 uint64_t gwz_lossless_restored64(uint64_t code);
 
 /*
- * Writes the code of a pattern under the tolerance 2^k, and answers 0. Refused with 2 where k is not allowed;
- * *code is then as it was.
+ * Writes the code of a pattern under the tolerance 2^k, and answers 0. `halves` is GWZ_HALVES_AWAY or GWZ_HALVES_TO_EVEN.
+ * Refused with 2 where it is another number or k is not allowed; *code is then as it was.
  */
-uint64_t gwz_tolerance_code32(int32_t k, uint32_t pattern, uint32_t *code);
-uint64_t gwz_tolerance_code64(int32_t k, uint64_t pattern, uint64_t *code);
+uint64_t gwz_tolerance_code32(uint32_t halves, int32_t k, uint32_t pattern, uint32_t *code);
+uint64_t gwz_tolerance_code64(uint32_t halves, int32_t k, uint64_t pattern, uint64_t *code);
 
 /*
- * Writes the pattern that a code restores under the tolerance 2^k, and answers 0. Refused with 2 where k is not
+ * Writes the pattern that a code restores under the tolerance 2^k, whichever rule made it, and answers 0. Refused with 2 where k is not
  * allowed, and with 10 (detail 0: there is no chunk) where no pattern has a code so large; *pattern is then as
  * it was.
  */

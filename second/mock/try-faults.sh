@@ -3,7 +3,7 @@
 # find every fault that can be planted, or those of them that FAULTS names.
 # Faults of the listing program, whose names say so, are put to `listings`, all
 # others to `compare`. Arguments go to these; without any, the quick run is taken.
-# Needs some twenty seconds for each fault, more than an hour for all.
+# Needs more than half a minute for each fault, some two hours for all.
 set -eu
 cd "$(dirname "$0")/.."
 [ $# -gt 0 ] || set -- --quick

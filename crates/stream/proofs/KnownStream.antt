@@ -7,13 +7,13 @@ use mathlib.Core.List.{List, [], _∷_, _++_, map}
 use lib.IntN.{pos}
 use lib.ListN.{length, replicate}
 use lib.Ieee.{size}
-use Rattle.bins.specs.Tolerance.{kOffset, lastBin, allowedK, binOf, largestU}
+use Rattle.bins.specs.Tolerance.{kOffset, lastBin, allowedK, binOf, ordinalOf, thresholdOrdinal, restoredOrdinal, toleranceRestored, largestU}
 use Rattle.numbers.specs.Signed.{signedView, folded, unfolded, bitsOf}
 use Rattle.numbers.specs.Lossless.{rotated, field, minus, lowered, stepped, losslessCode, plus, raised, unstepped, unrotated, losslessRestored}
 use Rattle.numbers.specs.Difference.{differenceCode, differenceCodes, differenceRestored, runningSums}
 use Rattle.blocks.specs.Bytes.{number, digits}
 use Rattle.stream.specs.Group.{bytesFor, largest, widthOf, packed, groupBytes, givenWidth, groupLength, groupNumber, groupCodes, within, goodGroup}
-use Rattle.stream.specs.Setting.{highestLevel, knownLevel, knownWidth, fractionBits, widthNeed, modeNeed, need, streamNeed, losslessMode, isZero, allowedSetting, binFor, settingOf, kBits, groupSize, codeAt, patternAt, codesAfter, patternsAfter, limitOf, sizeNeed, allowedMode, knownSize, modeNumber}
+use Rattle.stream.specs.Setting.{highestLevel, knownLevel, knownWidth, fractionBits, widthNeed, modeNeed, need, streamNeed, losslessMode, isZero, allowedSetting, binFor, settingOf, kBits, groupSize, clipped, codeAt, patternAt, codesAfter, patternsAfter, limitOf, sizeNeed, allowedMode, knownSize, modeNumber}
 use Rattle.stream.specs.Chunk.{groupsIn, groupsBytes, chunkBytes, firstFault, chunkAnswer, groupsCodes, chunkCodes}
 use Rattle.stream.specs.Rows.{rowsFrom, first, answer, after}
 use Rattle.stream.specs.Header.{word, headerOf, kOf, chunksIn, tooMany, needRight, settingRight, layoutRight, saidMode, saidSize}
@@ -151,6 +151,29 @@ written-eight-read : checkAnswer 12 writtenEight ∷ unpackAnswer 64 12 writtenE
     ≡ replicate 4 (Refused 8 0)
 unfolding size signedView folded bitsOf number digits bytesFor largest widthOf givenWidth groupLength groupNumber groupCodes within goodGroup highestLevel knownLevel knownWidth fractionBits widthNeed modeNeed sizeNeed need highId someHigh streamNeed losslessMode isZero allowedSetting allowedMode knownSize binFor groupSize limitOf groupsIn firstFault chunkAnswer first answer word headerOf kOf chunksIn tooMany needRight settingRight saidMode saidSize layoutRight every startAt startRight chunkTableRight sideId sidePlace sideLength idFloor partAt entryRight sideTableRight idsFrom idsIn countOf chunkOf chunkState spell headerRows openingRows needRow idRow sideRows tableRows faultDetail faultRow rowsFrom chunkRow chunkRows contentRows checkRows checkAnswer widthRow roomRow unpackRows unpackAnswer placed withIds writtenEight
 written-eight-read = refl
+
+-- Document 02, R-7: the stream of three halves that a writer at level 14 leaves (`tolerance-packed` of KnownGroups.antt). Level 8 refuses it by 7 with its need, and each
+-- level from 9 on reads the same values: the half at 0.25 went to 0.
+evens : List ℕ
+evens =
+    spell (1 ∷ 14 ∷ 9 ∷ 32 ∷ 1 ∷ 0xFFFF_FFFE ∷ 3 ∷ 1 ∷ 48 ∷ 52 ∷ 0 ∷ 63 ∷ 0 ∷ [])
+    ++ (0x19 ∷ 0x00 ∷ 0x00 ∷ 0x00 ∷ 0x0A ∷ 0x00 ∷ 0x00 ∷ 0x00 ∷ 0x00 ∷ 0x00 ∷ 0x04 ∷ [])
+
+evens-read : map (λ (level : ℕ). unpackAnswer 32 level evens 3) (8 ∷ 9 ∷ 13 ∷ 14 ∷ 15 ∷ []) ≡ Refused 7 9 ∷ Done 3 ∷ Done 3 ∷ Done 3 ∷ Refused 1 0 ∷ []
+unfolding size signedView folded unfolded bitsOf number digits bytesFor largest widthOf givenWidth groupLength groupNumber groupCodes within goodGroup highestLevel knownLevel knownWidth fractionBits widthNeed modeNeed sizeNeed need someHigh streamNeed losslessMode isZero allowedSetting allowedMode knownSize binFor groupSize limitOf clipped patternAt patternsAfter groupsIn firstFault chunkAnswer groupsCodes chunkCodes first answer after word headerOf kOf chunksIn tooMany needRight settingRight saidMode saidSize layoutRight every startAt startRight chunkTableRight partAt sideTableRight idsFrom idsIn joined countOf chunkOf chunkState chunkValues valuesIn values spell headerRows openingRows needRow sideRows tableRows faultDetail faultRow rowsFrom chunkRow chunkRows contentRows widthRow roomRow unpackRows kOffset lastBin allowedK binOf largestU ordinalOf thresholdOrdinal restoredOrdinal toleranceRestored evens unpackAnswer
+evens-read = refl
+
+evens-unpacked : map (λ (level : ℕ). unpackOut 32 level evens (7 ∷ 7 ∷ 7 ∷ 7 ∷ [])) (9 ∷ 13 ∷ 14 ∷ []) ≡ replicate 3 (0x0000_0000 ∷ 0xBF80_0000 ∷ 0x4A80_0000 ∷ 7 ∷ [])
+unfolding size signedView folded unfolded bitsOf number digits bytesFor largest widthOf givenWidth groupLength groupNumber groupCodes within goodGroup highestLevel knownLevel knownWidth fractionBits widthNeed modeNeed sizeNeed need someHigh streamNeed losslessMode isZero allowedSetting allowedMode knownSize binFor groupSize limitOf clipped patternAt patternsAfter groupsIn firstFault chunkAnswer groupsCodes chunkCodes first answer after word headerOf kOf chunksIn tooMany needRight settingRight saidMode saidSize layoutRight every startAt startRight chunkTableRight partAt sideTableRight idsFrom idsIn joined countOf chunkOf chunkState chunkValues valuesIn values spell headerRows openingRows needRow sideRows tableRows faultDetail faultRow rowsFrom chunkRow chunkRows contentRows widthRow roomRow unpackRows kOffset lastBin allowedK binOf largestU ordinalOf thresholdOrdinal restoredOrdinal toleranceRestored evens unpackOut
+evens-unpacked = refl
+
+-- a need of 14, which no stream has: 8 at level 14, found after the tables, in groups of 32 and of 128; and 7 below it
+needFourteen : ℕ → List ℕ
+needFourteen mode = spell (1 ∷ 14 ∷ 14 ∷ 32 ∷ mode ∷ 0 ∷ 0 ∷ 0 ∷ 48 ∷ 48 ∷ 0 ∷ 48 ∷ [])
+
+need-fourteen-read : map (λ (mode : ℕ). checkAnswer 14 (needFourteen mode)) (0 ∷ 2 ∷ 256 ∷ 258 ∷ []) ++ (checkAnswer 13 (needFourteen 256) ∷ []) ≡ replicate 4 (Refused 8 0) ++ (Refused 7 14 ∷ [])
+unfolding size signedView folded bitsOf number digits bytesFor largest widthOf givenWidth groupLength groupNumber groupCodes within goodGroup highestLevel knownLevel knownWidth fractionBits widthNeed modeNeed sizeNeed need highId someHigh streamNeed losslessMode isZero allowedSetting allowedMode knownSize binFor groupSize limitOf groupsIn firstFault chunkAnswer first answer word headerOf kOf chunksIn tooMany needRight settingRight saidMode saidSize layoutRight every startAt startRight chunkTableRight sideId sidePlace sideLength idFloor partAt entryRight sideTableRight idsFrom idsIn countOf chunkOf chunkState spell headerRows openingRows needRow idRow sideRows tableRows faultDetail faultRow rowsFrom chunkRow chunkRows contentRows checkRows checkAnswer needFourteen
+need-fourteen-read = refl
 
 -- levels that are not known
 levels-known : map (λ (level : ℕ). checkAnswer level theirBytes) (0 ∷ 7 ∷ 15 ∷ []) ≡ replicate 3 (Refused 1 0)

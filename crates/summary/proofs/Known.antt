@@ -101,10 +101,10 @@ pub added-known :
 unfolding size signedView folded unfolded bitsOf number digits plus raised unstepped unrotated losslessRestored field bytesFor group.largest widthOf givenWidth groupLength groupNumber groupCodes within goodGroup highestLevel knownLevel knownWidth fractionBits widthNeed modeNeed sizeNeed need someHigh streamNeed losslessMode isZero allowedSetting allowedMode knownSize binFor groupSize limitOf patternAt patternsAfter groupsIn firstFault chunkAnswer groupsCodes chunkCodes first answer word headerOf kOf chunksIn tooMany needRight settingRight saidMode saidSize layoutRight every startAt startRight chunkTableRight partAt sideTableRight idsFrom idsIn joined countOf chunkOf chunkState chunkValues spell headerRows openingRows needRow sideRows tableRows faultDetail faultRow rowsFrom chunkRow chunkRows contentRows widthRow highId sideId sidePlace sideLength idFloor entryRight idRow checkRows checkAnswer entries parts placed addSides ordinal infinityOrdinal notANumber rank zeroOrMinusZero atLeast nansIn others smallestFrom largestFrom smallestIn largestIn smallest largest entryLength entryBytes summaryId chunkEntry summaryIn summary withSummary same summaryTrue numbersFrom holdsIn chunksFrom sidesRow summaryRow roomFor addRows addAnswer testRows testAnswer xRow listRows listAnswer listOut hasId entryOf placeOf lengthOf sideBytes theirStream theirCopy
 added-known = refl
 
--- test at levels 7 to 14; of a stream without a summary, of one that lies, and of one with further side parts
+-- test at levels 7 to 15; of a stream without a summary, of one that lies, and of one with further side parts
 pub tested-known :
-    map (λ (level : ℕ). testAnswer level theirCopy) (7 ∷ 8 ∷ 9 ∷ 10 ∷ 11 ∷ 12 ∷ 13 ∷ 14 ∷ []) ++ map (testAnswer 10) (theirStream ∷ theirLie ∷ theirMore ∷ [])
-    ≡ Refused 1 0 ∷ Done 3 ∷ Done 3 ∷ Done 3 ∷ Done 3 ∷ Done 3 ∷ Done 3 ∷ Refused 1 0 ∷ Refused 17 0 ∷ Refused 17 0 ∷ Done 3 ∷ []
+    map (λ (level : ℕ). testAnswer level theirCopy) (7 ∷ 8 ∷ 9 ∷ 10 ∷ 11 ∷ 12 ∷ 13 ∷ 14 ∷ 15 ∷ []) ++ map (testAnswer 10) (theirStream ∷ theirLie ∷ theirMore ∷ [])
+    ≡ Refused 1 0 ∷ Done 3 ∷ Done 3 ∷ Done 3 ∷ Done 3 ∷ Done 3 ∷ Done 3 ∷ Done 3 ∷ Refused 1 0 ∷ Refused 17 0 ∷ Refused 17 0 ∷ Done 3 ∷ []
 unfolding size signedView folded unfolded bitsOf number digits plus raised unstepped unrotated losslessRestored field bytesFor group.largest widthOf givenWidth groupLength groupNumber groupCodes within goodGroup highestLevel knownLevel knownWidth fractionBits widthNeed modeNeed sizeNeed need someHigh streamNeed losslessMode isZero allowedSetting allowedMode knownSize binFor groupSize limitOf patternAt patternsAfter groupsIn firstFault chunkAnswer groupsCodes chunkCodes first answer word headerOf kOf chunksIn tooMany needRight settingRight saidMode saidSize layoutRight every startAt startRight chunkTableRight partAt sideTableRight idsFrom idsIn joined countOf chunkOf chunkState chunkValues spell headerRows openingRows needRow sideRows tableRows faultDetail faultRow rowsFrom chunkRow chunkRows contentRows widthRow highId sideId sidePlace sideLength idFloor entryRight idRow checkRows checkAnswer entries parts placed addSides ordinal infinityOrdinal notANumber rank zeroOrMinusZero atLeast nansIn others smallestFrom largestFrom smallestIn largestIn smallest largest entryLength entryBytes summaryId chunkEntry summaryIn summary withSummary same summaryTrue numbersFrom holdsIn chunksFrom sidesRow summaryRow roomFor addRows addAnswer testRows testAnswer xRow listRows listAnswer listOut hasId entryOf placeOf lengthOf sideBytes theirStream theirCopy theirLie theirMore
 tested-known = refl
 

@@ -9,9 +9,10 @@ use super::random::{allowed_k, bin_exponent, half_bins, some_k, some_length, Xor
 use super::streams::*;
 use super::walks::{some_k_of_mode, some_patterns_of_mode};
 use super::{reference, Extent};
-use crate::numbers::{Halves, Width};
+use crate::numbers::{Halves, Width, WIDTH_32};
 use crate::stream::HIGHEST_LEVEL;
 use crate::Refusal;
+use std::ops::RangeInclusive;
 
 /// From this level on writers send halves to even.
 const FIRST_LEVEL_TO_EVEN: u32 = 14;
@@ -68,7 +69,7 @@ impl Around {
 
 /// The k of a width that have halves: with the least one every value is a whole number
 /// of bins.
-fn ks_with_halves(width: Width) -> std::ops::RangeInclusive<i32> {
+fn ks_with_halves(width: Width) -> RangeInclusive<i32> {
     allowed_k(width).start() + 1..=*allowed_k(width).end()
 }
 
@@ -82,14 +83,13 @@ fn whole_of_length(rng: &mut XorShift, bits: u32) -> u64 {
 
 // ------------------------------------------------------ the number rules
 
-/// For every k halves of every exponent that there is below T, and around some of them
-/// all; and the rules for halves that there are not.
+/// For every k a half of every exponent that there is below T, and what lies around it or,
+/// of width 64, around some; and the rules for halves that there are not.
 pub fn codes(judge: &mut Judge, rng: &mut XorShift, extent: Extent) {
     let step = if extent == Extent::Quick { 5 } else { 1 };
     for width in WIDTHS {
         let m = width.fraction_bits();
-        // Of both widths about as many.
-        let one_in = width.bits() as u64 / 8;
+        let one_in = if width == WIDTH_32 { 1 } else { 8 };
         for k in ks_with_halves(width).step_by(step) {
             for whole in [0, 1, 2, 3, (1 << m) - 2, (1 << m) - 1] {
                 all_around(judge, width, k, whole);

@@ -128,7 +128,7 @@ pub fn run(options: &Options, library: Library, out: &mut dyn Write) -> bool {
     judge.finish()
 }
 
-/// Puts some 280,000 calls with random lists and damaged streams to an
+/// Puts some 310,000 calls with random lists and damaged streams to an
 /// implementation of the operations, in a second or two; writes how it differs
 /// from the reference, and answers whether it never does.
 pub fn run_briefly(library: Library, out: &mut dyn Write) -> bool {
