@@ -4,10 +4,10 @@
  *
  *     cc -std=c99 -I include examples/tide_mean.c target/lib/libgwizdorad.a -lm -o tide_mean
  *
- * Within a tolerance 2^k a value becomes the nearest multiple of 2^(k+1). This gauge counts in steps of 2^k, so every odd reading lies halfway between
- * two of them. Written at the levels 8 to 13 a half goes away from zero: up, where all readings are above chart datum, and the mean goes up too. Written at
- * level 14 it goes to the even multiple, and about half of them go up and half down. No reader has to be newer for that. So: write at level 14, unless
- * the file is compared byte for byte with one of an older writer.
+ * Within a tolerance 2^k a value becomes the nearest multiple of 2^(k+1). This gauge counts in steps of 2^k, so every odd reading lies halfway
+ * between two of them. Written at the levels 8 to 13 such a half goes away from zero: up, where all readings are above chart datum, and the mean goes
+ * up with them. Written at level 14 it goes to the even multiple, and about half of them go up and half down. No reader has to be newer for that. So:
+ * write at level 14, unless the file is compared byte for byte with one of an older writer.
  */
 #include "gwizdorad.h"
 
@@ -108,7 +108,8 @@ int main(void)
         readings[i] = reading_at(i);
         halves += is_half(readings[i]);
     }
-    printf("A year of tide: %d readings in steps of 2^-9 m, all above chart datum; within 2^%d m %d of them are halves\n", (int)READINGS, (int)K, halves);
+    printf("A year of tide: %d readings in steps of 2^-9 m, all above chart datum; within 2^%d m %d of them are halves\n", (int)READINGS,
+           (int)K, halves);
     printf("  mean of the readings: %.4f mm\n", mean_in_mm(sum_of(readings)));
     for (int i = 0; i < 2; i++) {
         uint32_t length = packed_at(levels[i], readings, back[i]);
@@ -120,7 +121,7 @@ int main(void)
     for (int i = 0; i < READINGS; i++)
         differing += back[0][i] != back[1][i];
     printf("  a reader of level 9 reads both, and in both no reading is further off than 2^%d m = %.6f mm\n", (int)K, 1000.0 / STEPS);
-    printf("  only halves are off at all: the two differ in %d readings, all of them halves\n", differing);
+    printf("  only halves came back off: the two differ in %d of them, and in no other reading\n", differing);
     if (llabs(bias[1]) * 10 >= llabs(bias[0]))
         stop("comparing", "the bias from level 14 is not under a tenth of that from level 13");
     return 0;

@@ -137,6 +137,7 @@ struct call {
     size_t count;
     uint64_t index; /* of a list of chunks: x */
     size_t room;
+    uint32_t halves; /* the rule for them, of a code alone */
 };
 
 /* `in` and `out` stand at the alignment of their elements. */
@@ -160,8 +161,8 @@ static uint64_t answer_of(const struct call *c, const void *in, void *out)
     case CHUNKS_FROM32:
         return gwz_chunks_from32(c->level, (uint32_t)c->index, bytes, c->count, (uint32_t *)out, c->room);
     case CHUNKS_FROM64: return gwz_chunks_from64(c->level, c->index, bytes, c->count, (uint32_t *)out, c->room);
-    case TOLERANCE_CODE32: return gwz_tolerance_code32(c->k, words[0], (uint32_t *)out);
-    case TOLERANCE_CODE64: return gwz_tolerance_code64(c->k, longs[0], (uint64_t *)out);
+    case TOLERANCE_CODE32: return gwz_tolerance_code32(c->halves, c->k, words[0], (uint32_t *)out);
+    case TOLERANCE_CODE64: return gwz_tolerance_code64(c->halves, c->k, longs[0], (uint64_t *)out);
     case TOLERANCE_RESTORED32: return gwz_tolerance_restored32(c->k, words[0], (uint32_t *)out);
     case TOLERANCE_RESTORED64: return gwz_tolerance_restored64(c->k, longs[0], (uint64_t *)out);
     }
@@ -191,7 +192,7 @@ static void expect_call(struct tally *tally, const char *what, struct call call,
 static struct call packing(enum operation operation, uint32_t level, uint32_t mode, int32_t k, const void *values,
                            size_t n, size_t room)
 {
-    struct call call = {operation, level, mode, k, GWZ_GROUPS_OF_32, values, n, 0, room};
+    struct call call = {operation, level, mode, k, GWZ_GROUPS_OF_32, values, n, 0, room, 0};
     return call;
 }
 
@@ -204,27 +205,33 @@ static struct call in_groups_of(uint32_t group, struct call call)
 
 static struct call reading(enum operation operation, uint32_t level, const uint8_t *bytes, size_t len, size_t room)
 {
-    struct call call = {operation, level, 0, 0, 0, bytes, len, 0, room};
+    struct call call = {operation, level, 0, 0, 0, bytes, len, 0, room, 0};
     return call;
 }
 
 static struct call probing(enum operation operation, uint32_t level, const uint8_t *bytes, size_t len, uint64_t index)
 {
-    struct call call = {operation, level, 0, 0, 0, bytes, len, index, 1};
+    struct call call = {operation, level, 0, 0, 0, bytes, len, index, 1, 0};
     return call;
 }
 
 static struct call listing(enum operation operation, uint32_t level, uint64_t x, const uint8_t *bytes, size_t len,
                            size_t room)
 {
-    struct call call = {operation, level, 0, 0, 0, bytes, len, x, room};
+    struct call call = {operation, level, 0, 0, 0, bytes, len, x, room, 0};
     return call;
 }
 
-static struct call ruling(enum operation operation, int32_t k, const void *number)
+/* A code alone, by a rule for halves. */
+static struct call coding(enum operation operation, uint32_t halves, int32_t k, const void *pattern)
 {
-    struct call call = {operation, 0, 0, k, 0, number, 1, 0, 1};
+    struct call call = {operation, 0, 0, k, 0, pattern, 1, 0, 1, halves};
     return call;
+}
+
+static struct call restoring(enum operation operation, int32_t k, const void *code)
+{
+    return coding(operation, 0, k, code);
 }
 
 /* ---- Streams written by hand */
@@ -272,6 +279,25 @@ static size_t put_stream(uint8_t *stream, struct setting s, uint32_t n, const ui
     put_number(stream + 48, 0);
     memcpy(stream + 52, data, data_bytes);
     return 52 + data_bytes;
+}
+
+/* The codes of at most 1,024 values in groups of a size: each with its smallest width. Returns the bytes. */
+static size_t put_codes(uint8_t *data, uint32_t group, const uint64_t *codes, size_t n)
+{
+    size_t bytes = 0;
+    for (size_t first = 0; first < n; first += group) {
+        size_t count = n - first < group ? n - first : group, w = 0;
+        for (size_t i = 0; i < count; i++)
+            while (w < 64 && codes[first + i] >> w != 0)
+                w++;
+        data[bytes] = (uint8_t)w;
+        memset(data + bytes + 1, 0, (w * count + 7) / 8);
+        for (size_t bit = 0; bit < w * count; bit++)
+            if ((codes[first + bit / w] >> bit % w & 1) != 0)
+                data[bytes + 1 + bit / 8] |= (uint8_t)(1u << bit % 8);
+        bytes += 1 + (w * count + 7) / 8;
+    }
+    return bytes;
 }
 
 /* The list 0, -0, 2^-149, packed at level 8, mode 0, as document 01 prints it. */
@@ -331,13 +357,23 @@ static void test_helpers(struct tally *tally)
         {"summary of 1024 values of 32 bits", GWZ_SUMMARY_BYTES(32, 1024), 12 + 12},
         {"summary of 1025 values of 64 bits", gwz_summary_bytes(64, 1025), 12 + 2 * 20},
         {"summary of all", GWZ_SUMMARY_BYTES(64, GWZ_MOST_VALUES), 12 + 1024 * 20},
+        {"the last level", GWZ_LEVEL_14, 14},
+        {"the highest level of the header", GWZ_HIGHEST_LEVEL, 14},
+        {"the highest level of the library", gwz_highest_level(), 14},
+        {"the major number of the header", GWZ_FORMAT_MAJOR, 1},
+        {"the major number of the library", gwz_format_major(), 1},
+        {"the rule away from zero", GWZ_HALVES_AWAY, 0},
+        {"the rule to even", GWZ_HALVES_TO_EVEN, 1},
     };
     expect_numbers(tally, cases, COUNT(cases));
+    record(tally, "header and library have one version", strcmp(GWZ_VERSION, gwz_version()) == 0 ? NULL : gwz_version());
     for (uint32_t number = 0; number <= LAST_REFUSAL; number++) {
         const char *unknown = gwz_refusal_text(LAST_REFUSAL + 1), *next = gwz_refusal_text(number + 1);
         int own = strcmp(gwz_refusal_text(number), unknown) != 0 && strcmp(gwz_refusal_text(number), next) != 0;
         record(tally, "a text of its own for each refusal", own ? NULL : gwz_refusal_text(number));
     }
+    record(tally, "the text of 1 names the levels", strstr(gwz_refusal_text(1), "8, 9, 10, 11, 12, 13 or 14") != NULL ? NULL : gwz_refusal_text(1));
+    record(tally, "the text of 2 names the rule", strstr(gwz_refusal_text(2), "rule for halves, which is 0 or 1") != NULL ? NULL : gwz_refusal_text(2));
 }
 
 static void test_bound(struct tally *tally)
@@ -429,60 +465,96 @@ static void test_lossless_map(struct tally *tally)
     }
 }
 
+/* Rules for halves that there are not; and of each width, k that are not allowed. */
+static const uint32_t other_rules[] = {2, 3, 32, 255, 256, 0x10000, 0x80000000, 0x80000001, 0xFFFFFFFE, 0xFFFFFFFF};
+static const int32_t other_k32[] = {-151, 104, INT32_MIN, INT32_MAX}, other_k64[] = {-1076, 971, INT32_MIN, INT32_MAX};
+
+/* Another rule, a k that is not allowed, and both at once: 2, and nothing is written. */
+static void expect_no_code(struct tally *tally, enum operation code, enum operation restored, const int32_t *other_k)
+{
+    const uint64_t zero = 0;
+    for (size_t i = 0; i < COUNT(other_rules); i++) {
+        expect_call(tally, "another rule", coding(code, other_rules[i], -2, &zero), refused(2, 0), NULL, 0);
+        for (size_t at = 0; at < 4; at++)
+            expect_call(tally, "another rule, k not allowed", coding(code, other_rules[i], other_k[at], &zero), refused(2, 0), NULL, 0);
+    }
+    for (size_t at = 0; at < 4; at++) {
+        for (uint32_t halves = 0; halves <= 1; halves++)
+            expect_call(tally, "k not allowed", coding(code, halves, other_k[at], &zero), refused(2, 0), NULL, 0);
+        expect_call(tally, "k not allowed", restoring(restored, other_k[at], &zero), refused(2, 0), NULL, 0);
+    }
+}
+
+/* Codes and what they restore by each rule: away from zero, then to even. */
 static void test_tolerance32(struct tally *tally)
 {
-    static const struct { const char *what; int32_t k; uint32_t pattern, code, restored; } known[] = {
-        {"0.25", -2, 0x3E800000, 2, 0x3F000000},
-        {"0.21875", -2, 0x3E600000, 0, 0},
-        {"just below 0.25", -2, 0x3E7FFFFF, 0, 0},
-        {"-0.75", -2, 0xBF400000, 5, 0xBF800000},
-        {"-0.125 comes back as -0", -2, 0xBE000000, 1, 0x80000000},
-        {"4194303.75", -2, 0x4A7FFFFF, 16777216, 0x4A800000},
-        {"4194304", -2, 0x4A800000, 16777216, 0x4A800000},
-        {"infinity", -2, 0x7F800000, 1795162112, 0x7F800000},
-        {"-infinity", -2, 0xFF800000, 1795162113, 0xFF800000},
-        {"a not-a-number", -2, 0x7FC00123, 1795162112 + 2 * 0x400123, 0x7FC00123},
-        {"2^-149 under the smallest k", -150, 1, 2, 1},
-        {"the largest finite under the largest k", 103, 0x7F7FFFFF, 2 * 0xFFFFFF, 0x7F7FFFFF},
+    static const struct { const char *what; int32_t k; uint32_t pattern, codes[2], restored[2]; } known[] = {
+        {"0.25", -2, 0x3E800000, {2, 0}, {0x3F000000, 0}},
+        {"-0.25 comes back as -0 by the rule to even", -2, 0xBE800000, {3, 1}, {0xBF000000, 0x80000000}},
+        {"0.21875", -2, 0x3E600000, {0, 0}, {0, 0}},
+        {"just below 0.25", -2, 0x3E7FFFFF, {0, 0}, {0, 0}},
+        {"just above 0.25", -2, 0x3E800001, {2, 2}, {0x3F000000, 0x3F000000}},
+        {"0.75", -2, 0x3F400000, {4, 4}, {0x3F800000, 0x3F800000}},
+        {"-0.75", -2, 0xBF400000, {5, 5}, {0xBF800000, 0xBF800000}},
+        {"1.25", -2, 0x3FA00000, {6, 4}, {0x3FC00000, 0x3F800000}},
+        {"-1.25", -2, 0xBFA00000, {7, 5}, {0xBFC00000, 0xBF800000}},
+        {"-0.125 comes back as -0", -2, 0xBE000000, {1, 1}, {0x80000000, 0x80000000}},
+        {"4194303.25", -2, 0x4A7FFFFD, {16777214, 16777212}, {0x4A7FFFFE, 0x4A7FFFFC}},
+        {"4194303.75", -2, 0x4A7FFFFF, {16777216, 16777216}, {0x4A800000, 0x4A800000}},
+        {"4194304", -2, 0x4A800000, {16777216, 16777216}, {0x4A800000, 0x4A800000}},
+        {"infinity", -2, 0x7F800000, {1795162112, 1795162112}, {0x7F800000, 0x7F800000}},
+        {"-infinity", -2, 0xFF800000, {1795162113, 1795162113}, {0xFF800000, 0xFF800000}},
+        {"a not-a-number", -2, 0x7FC00123, {1795162112 + 2 * 0x400123, 1795162112 + 2 * 0x400123}, {0x7FC00123, 0x7FC00123}},
+        {"2^-149 under the smallest k, which has no halves", -150, 1, {2, 2}, {1, 1}},
+        {"2^-149 under the next k", -149, 1, {2, 0}, {2, 0}},
+        {"3 times 2^-149 under it", -149, 3, {4, 4}, {4, 4}},
+        {"2^103 under the largest k", 103, 0x73000000, {2, 0}, {0x73800000, 0}},
+        {"the largest finite under the largest k", 103, 0x7F7FFFFF, {2 * 0xFFFFFF, 2 * 0xFFFFFF}, {0x7F7FFFFF, 0x7F7FFFFF}},
     };
-    uint32_t untouched = 0;
-    for (size_t i = 0; i < COUNT(known); i++) {
-        expect_call(tally, known[i].what, ruling(TOLERANCE_CODE32, known[i].k, &known[i].pattern), done(0),
-                    &known[i].code, 1);
-        expect_call(tally, known[i].what, ruling(TOLERANCE_RESTORED32, known[i].k, &known[i].code), done(0),
-                    &known[i].restored, 1);
+    for (size_t i = 0; i < 2 * COUNT(known); i++) {
+        size_t at = i / 2, rule = i % 2;
+        uint32_t halves = rule == 0 ? GWZ_HALVES_AWAY : GWZ_HALVES_TO_EVEN;
+        expect_call(tally, known[at].what, coding(TOLERANCE_CODE32, halves, known[at].k, &known[at].pattern), done(0),
+                    &known[at].codes[rule], 1);
+        expect_call(tally, known[at].what, restoring(TOLERANCE_RESTORED32, known[at].k, &known[at].codes[rule]), done(0),
+                    &known[at].restored[rule], 1);
     }
-    for (size_t i = 0; i < 2; i++) {
-        int32_t k = i == 0 ? -151 : 104;
-        expect_call(tally, "k not allowed", ruling(TOLERANCE_CODE32, k, &untouched), refused(2, 0), NULL, 0);
-        expect_call(tally, "k not allowed", ruling(TOLERANCE_RESTORED32, k, &untouched), refused(2, 0), NULL, 0);
-    }
+    expect_no_code(tally, TOLERANCE_CODE32, TOLERANCE_RESTORED32, other_k32);
 }
 
 static void test_tolerance64(struct tally *tally)
 {
-    static const struct { const char *what; int32_t k; uint64_t pattern, code, restored; } known[] = {
-        {"0.25", -2, 0x3FD0000000000000, 2, 0x3FE0000000000000},
-        {"-0.75", -2, 0xBFE8000000000000, 5, 0xBFF0000000000000},
-        {"2^51 is the threshold", -2, 0x4320000000000000, (uint64_t)1 << 53, 0x4320000000000000},
-        {"2^-1074 under the smallest k", -1075, 1, 2, 1},
-        {"a not-a-number", -2, 0x7FF8000000000000, (uint64_t)1949 << 52, 0x7FF8000000000000},
-        {"the largest u", -2, 0xFFFFFFFFFFFFFFFF, ((uint64_t)1950 << 52) - 1, 0xFFFFFFFFFFFFFFFF},
+    static const struct { const char *what; int32_t k; uint64_t pattern, codes[2], restored[2]; } known[] = {
+        {"0.25", -2, 0x3FD0000000000000, {2, 0}, {0x3FE0000000000000, 0}},
+        {"just above 0.25", -2, 0x3FD0000000000001, {2, 2}, {0x3FE0000000000000, 0x3FE0000000000000}},
+        {"-0.75", -2, 0xBFE8000000000000, {5, 5}, {0xBFF0000000000000, 0xBFF0000000000000}},
+        {"-1.25", -2, 0xBFF4000000000000, {7, 5}, {0xBFF8000000000000, 0xBFF0000000000000}},
+        {"4194303.75", -2, 0x414FFFFFE0000000, {16777216, 16777216}, {0x4150000000000000, 0x4150000000000000}},
+        {"2^51 - 0.25, half a bin below the threshold", -2, 0x431FFFFFFFFFFFFF, {(uint64_t)1 << 53, (uint64_t)1 << 53},
+         {0x4320000000000000, 0x4320000000000000}},
+        {"2^51 - 0.75, a bin below that", -2, 0x431FFFFFFFFFFFFD, {((uint64_t)1 << 53) - 2, ((uint64_t)1 << 53) - 4},
+         {0x431FFFFFFFFFFFFE, 0x431FFFFFFFFFFFFC}},
+        {"2^51 is the threshold", -2, 0x4320000000000000, {(uint64_t)1 << 53, (uint64_t)1 << 53},
+         {0x4320000000000000, 0x4320000000000000}},
+        {"2^-1074 under the smallest k, which has no halves", -1075, 1, {2, 2}, {1, 1}},
+        {"2^-1074 under the next k", -1074, 1, {2, 0}, {2, 0}},
+        {"2^970 under the largest k", 970, 0x7C90000000000000, {2, 0}, {0x7CA0000000000000, 0}},
+        {"a not-a-number", -2, 0x7FF8000000000000, {(uint64_t)1949 << 52, (uint64_t)1949 << 52},
+         {0x7FF8000000000000, 0x7FF8000000000000}},
+        {"the largest u", -2, 0xFFFFFFFFFFFFFFFF, {((uint64_t)1950 << 52) - 1, ((uint64_t)1950 << 52) - 1},
+         {0xFFFFFFFFFFFFFFFF, 0xFFFFFFFFFFFFFFFF}},
     };
     const uint64_t too_large = (uint64_t)1950 << 52; /* 2u, where u is 2^63 - 1073 * 2^52 */
-    uint64_t untouched = 0;
-    for (size_t i = 0; i < COUNT(known); i++) {
-        expect_call(tally, known[i].what, ruling(TOLERANCE_CODE64, known[i].k, &known[i].pattern), done(0),
-                    &known[i].code, 1);
-        expect_call(tally, known[i].what, ruling(TOLERANCE_RESTORED64, known[i].k, &known[i].code), done(0),
-                    &known[i].restored, 1);
+    for (size_t i = 0; i < 2 * COUNT(known); i++) {
+        size_t at = i / 2, rule = i % 2;
+        uint32_t halves = rule == 0 ? GWZ_HALVES_AWAY : GWZ_HALVES_TO_EVEN;
+        expect_call(tally, known[at].what, coding(TOLERANCE_CODE64, halves, known[at].k, &known[at].pattern), done(0),
+                    &known[at].codes[rule], 1);
+        expect_call(tally, known[at].what, restoring(TOLERANCE_RESTORED64, known[at].k, &known[at].codes[rule]), done(0),
+                    &known[at].restored[rule], 1);
     }
-    expect_call(tally, "u too large", ruling(TOLERANCE_RESTORED64, -2, &too_large), refused(10, 0), NULL, 0);
-    for (size_t i = 0; i < 2; i++) {
-        int32_t k = i == 0 ? -1076 : 971;
-        expect_call(tally, "k not allowed", ruling(TOLERANCE_CODE64, k, &untouched), refused(2, 0), NULL, 0);
-        expect_call(tally, "k not allowed", ruling(TOLERANCE_RESTORED64, k, &untouched), refused(2, 0), NULL, 0);
-    }
+    expect_call(tally, "u too large", restoring(TOLERANCE_RESTORED64, -2, &too_large), refused(10, 0), NULL, 0);
+    expect_no_code(tally, TOLERANCE_CODE64, TOLERANCE_RESTORED64, other_k64);
 }
 
 /* u = 905969663 at k = -2 is read, alone and in a stream; one more is not. The code is 2u + sign, in 31 bits. */
@@ -494,14 +566,14 @@ static void test_largest_u(struct tally *tally)
 
     put_number(data + 1, largest);
     put_stream(stream, within, 1, data, sizeof data);
-    expect_call(tally, "largest u restored", ruling(TOLERANCE_RESTORED32, -2, &largest), done(0), &pattern, 1);
+    expect_call(tally, "largest u restored", restoring(TOLERANCE_RESTORED32, -2, &largest), done(0), &pattern, 1);
     expect_call(tally, "largest u checked", reading(CHECK, 9, stream, 57, 0), done(1), NULL, 0);
     expect_call(tally, "largest u unpacked", reading(UNPACK32, 9, stream, 57, 1), done(1), &pattern, 1);
     expect_call(tally, "largest u probed", probing(PROBE32, 9, stream, 57, 0), done(GWZ_NOT_A_NUMBER), &pattern, 1);
     expect_call(tally, "largest u packed", packing(PACK32, 9, 1, -2, &pattern, 1, 57), done(57), stream, 57);
 
     put_number(stream + 53, too_large);
-    expect_call(tally, "u too large", ruling(TOLERANCE_RESTORED32, -2, &too_large), refused(10, 0), NULL, 0);
+    expect_call(tally, "u too large", restoring(TOLERANCE_RESTORED32, -2, &too_large), refused(10, 0), NULL, 0);
     expect_call(tally, "u too large checked", reading(CHECK, 9, stream, 57, 0), refused(10, 0), NULL, 0);
     expect_call(tally, "u too large unpacked", reading(UNPACK32, 9, stream, 57, 1), refused(10, 0), NULL, 0);
     expect_call(tally, "u too large probed", probing(PROBE32, 9, stream, 57, 0), refused(10, 0), NULL, 0);

@@ -83,7 +83,7 @@ fn restored_as_stated(t: Tolerance, halves: Halves, pattern: u64) {
     assert!(up.is_le() && down.is_le());
     match halves {
         Halves::AwayFromZero => assert!(down.is_lt()),
-        Halves::ToEven => assert!(up.is_lt() && down.is_lt() || code / 2 % 2 == 0),
+        Halves::ToEven => assert!(up.is_lt() && down.is_lt() || (code / 2).is_multiple_of(2)),
     }
     assert!(units(width, after).multiple_of_power(d));
     // u counts bins: u·E is r.
