@@ -144,7 +144,7 @@ static int32_t exponent_of(double metres)
     return gwz_exponent(not_refused("bound", gwz_bound(32, pattern)));
 }
 
-/* Each stream is written at the lowest level that allows it, so that the oldest readers can read it. */
+/* Each stream is written at the lowest level that allows it, as a writer of that age would. */
 static uint32_t level_for(uint32_t mode, uint32_t group)
 {
     if (group == GWZ_GROUPS_OF_128)

@@ -372,8 +372,9 @@ static void test_helpers(struct tally *tally)
         int own = strcmp(gwz_refusal_text(number), unknown) != 0 && strcmp(gwz_refusal_text(number), next) != 0;
         record(tally, "a text of its own for each refusal", own ? NULL : gwz_refusal_text(number));
     }
-    record(tally, "the text of 1 names the levels", strstr(gwz_refusal_text(1), "8, 9, 10, 11, 12, 13 or 14") != NULL ? NULL : gwz_refusal_text(1));
-    record(tally, "the text of 2 names the rule", strstr(gwz_refusal_text(2), "rule for halves, which is 0 or 1") != NULL ? NULL : gwz_refusal_text(2));
+    const char *level = gwz_refusal_text(GWZ_UNKNOWN_LEVEL), *setting = gwz_refusal_text(GWZ_NOT_ALLOWED);
+    record(tally, "the text of 1 has the levels", strstr(level, "8, 9, 10, 11, 12, 13 or 14") != NULL ? NULL : level);
+    record(tally, "the text of 2 has the rule", strstr(setting, "rule for halves, which is 0 or 1") != NULL ? NULL : setting);
 }
 
 static void test_bound(struct tally *tally)
@@ -476,7 +477,8 @@ static void expect_no_code(struct tally *tally, enum operation code, enum operat
     for (size_t i = 0; i < COUNT(other_rules); i++) {
         expect_call(tally, "another rule", coding(code, other_rules[i], -2, &zero), refused(2, 0), NULL, 0);
         for (size_t at = 0; at < 4; at++)
-            expect_call(tally, "another rule, k not allowed", coding(code, other_rules[i], other_k[at], &zero), refused(2, 0), NULL, 0);
+            expect_call(tally, "another rule, k not allowed", coding(code, other_rules[i], other_k[at], &zero), refused(2, 0), NULL,
+                        0);
     }
     for (size_t at = 0; at < 4; at++) {
         for (uint32_t halves = 0; halves <= 1; halves++)
@@ -656,9 +658,9 @@ static void test_levels(struct tally *tally)
     const uint64_t zero = 0;
     const uint8_t no_bits[] = {0};
     for (size_t i = 0; i < COUNT(settings); i++)
-        for (uint32_t level = 0; level <= 14; level++) {
+        for (uint32_t level = 0; level <= 15; level++) {
             uint32_t need = settings[i].need, mode = settings[i].mode, group = settings[i].group;
-            int known = level >= 8 && level <= 13;
+            int known = level >= 8 && level <= 14;
             const struct setting written = {level, settings[i].width, mode_number(mode, group), 0};
             const struct setting later = {77, settings[i].width, mode_number(mode, group), 0};
             uint8_t stream[53], later_stream[53];
@@ -677,12 +679,36 @@ static void test_levels(struct tally *tally)
         }
 }
 
-/* Refusals of pack and length; where several apply, the first of 1 2 3 4. */
+/* Every operation that takes a level, at levels that there are not, with nothing else wrong. */
+static void test_unknown_levels(struct tally *tally)
+{
+    static const uint32_t unknown[] = {0, 1, 7, 15, 16, 64, 264, 0x8000000E, UINT32_MAX};
+    static const enum operation packs[] = {PACK32, PACK64, LENGTH32, LENGTH64};
+    static const enum operation reads[] = {CHECK, UNPACK32, UNPACK64, PROBE32, PROBE64, ADD_SUMMARY, TEST_SUMMARY, CHUNKS_FROM32,
+                                           CHUNKS_FROM64};
+    const struct setting settings[2] = {{14, 32, 0, 0}, {14, 64, 0, 0}};
+    const uint64_t zero = 0;
+    const uint8_t no_bits[] = {0};
+    uint8_t streams[2][53];
+    for (size_t i = 0; i < 2; i++)
+        put_stream(streams[i], settings[i], 1, no_bits, 1);
+    for (size_t i = 0; i < COUNT(unknown); i++) {
+        for (size_t at = 0; at < 2 * COUNT(packs); at++)
+            for (uint32_t mode = 0; mode <= 2; mode++)
+                expect_call(tally, "packing",
+                            in_groups_of(group_sizes[at % 2], packing(packs[at / 2], unknown[i], mode, 0, &zero, 1, 53)),
+                            refused(1, 0), NULL, 0);
+        for (size_t at = 0; at < 2 * COUNT(reads); at++)
+            expect_call(tally, "reading", reading(reads[at / 2], unknown[i], streams[at % 2], 53, 99), refused(1, 0), NULL, 0);
+    }
+}
+
+/* Refusals of pack and length; where several apply, the first of 1 2 3 4. What level 13 refuses or takes, 14 does. */
 static void test_packing_refused(struct tally *tally)
 {
     static const struct { const char *what; uint32_t level, mode; int32_t k; uint32_t refusal32, refusal64; } rows[] = {
         {"level 7 before mode 3", 7, 3, 0, 1, 1},
-        {"level 14", 14, 0, 0, 1, 1},
+        {"level 15", 15, 0, 0, 1, 1},
         {"level 2^32 - 1", UINT32_MAX, 0, 0, 1, 1},
         {"mode 3", 13, 3, 0, 2, 2},
         {"k 1 in mode 2", 13, 2, 1, 2, 2},
@@ -704,9 +730,10 @@ static void test_packing_refused(struct tally *tally)
         {"mode 2^32 - 1", 13, UINT32_MAX, 0, 2, 2},
     };
     const uint64_t zero = 0;
-    for (size_t i = 0; i < 2 * COUNT(rows); i++) {
-        size_t row = i / 2;
-        uint32_t level = rows[row].level, mode = rows[row].mode, group = group_sizes[i % 2];
+    for (size_t i = 0; i < 4 * COUNT(rows); i++) {
+        size_t row = i / 4;
+        uint32_t level = rows[row].level == 13 && i / 2 % 2 == 1 ? 14 : rows[row].level;
+        uint32_t mode = rows[row].mode, group = group_sizes[i % 2];
         int32_t k = rows[row].k;
         uint64_t wanted32 = refused(rows[row].refusal32, rows[row].refusal32 == 4 ? 53 : 0);
         uint64_t wanted64 = refused(rows[row].refusal64, rows[row].refusal64 == 4 ? 53 : 0);
@@ -736,17 +763,19 @@ static void test_other_sizes(struct tally *tally)
     const size_t too_many = GWZ_MOST_VALUES + 1;
     uint64_t *zeros = (uint64_t *)allocated(8 * too_many);
     memset(zeros, 0, 8 * too_many);
-    for (uint32_t level = 7; level <= 14; level++)
+    for (uint32_t level = 7; level <= 15; level++)
         for (uint32_t mode = 0; mode <= 3; mode++) {
-            uint64_t wanted = refused(level < 8 || level > 13 ? 1 : 2, 0);
+            uint64_t wanted = refused(level < 8 || level > 14 ? 1 : 2, 0);
             for (size_t i = 0; i < COUNT(others); i++)
                 expect_not_packed(tally, "another size", level, mode, others[i], zeros, 1, wanted);
-            if (level < 13 || level > 13 || mode == 3)
+            if (level < 13 || level > 14 || mode == 3)
                 expect_not_packed(tally, "128 below level 13", level, mode, GWZ_GROUPS_OF_128, zeros, 1, wanted);
         }
     expect_not_packed(tally, "2 before 3: size 64", 13, 0, 64, zeros, too_many, refused(2, 0));
     expect_not_packed(tally, "2 before 3: 128 at level 12", 12, 0, 128, zeros, too_many, refused(2, 0));
-    expect_not_packed(tally, "1 before 2 and 3", 14, 256, 64, zeros, too_many, refused(1, 0));
+    expect_not_packed(tally, "2 before 3: size 64 at level 14", 14, 1, 64, zeros, too_many, refused(2, 0));
+    expect_not_packed(tally, "1 before 2 and 3", 15, 256, 64, zeros, too_many, refused(1, 0));
+    expect_not_packed(tally, "3 at level 14", 14, 1, 32, zeros, too_many, refused(3, 0));
     expect_not_packed(tally, "3 in groups of 128", 13, 0, 128, zeros, too_many, refused(3, 0));
     free(zeros);
 }
@@ -830,7 +859,8 @@ static void test_damaged_example(struct tally *tally)
 {
     static const struct damage damages[] = {
         {"major 0", 0, 4, 0, 6, 0}, {"major 2", 0, 4, 2, 6, 0}, {"major 257", 0, 4, 257, 6, 0},
-        {"need 14", 8, 4, 14, 7, 14}, {"need 2^32 - 1", 8, 4, UINT32_MAX, 7, UINT32_MAX},
+        {"need 15", 8, 4, 15, 7, 15}, {"need 2^32 - 1", 8, 4, UINT32_MAX, 7, UINT32_MAX},
+        {"need 14, which nothing has", 8, 4, 14, 8, 0},
         {"need 7", 8, 4, 7, 8, 0}, {"need 9, not the setting's", 8, 4, 9, 8, 0},
         {"need 11, not the setting's", 8, 4, 11, 8, 0}, {"need 13, not the setting's", 8, 4, 13, 8, 0},
         {"written 7 below needed 8", 4, 4, 7, 8, 0}, {"width 16", 12, 4, 16, 8, 0},
@@ -970,26 +1000,26 @@ static size_t put_two_groups(uint8_t *data, uint32_t mode)
     return bytes[0] + bytes[1];
 }
 
-/* The list in each mode and width, written by level 13 and read at every level. */
+/* The list in each mode and width, written by the levels 13 and 14, which have no half in it, and read at every level. */
 static void test_groups_of_128(struct tally *tally)
 {
     uint32_t narrow[130];
     uint64_t wide[130];
     for (size_t i = 0; i < 130; i++)
         wide[i] = narrow[i] = listed_in_128(i);
-    for (uint32_t i = 0; i < 6; i++) {
-        uint32_t mode = i % 3, width = i / 3 == 0 ? 32 : 64;
+    for (uint32_t i = 0; i < 12; i++) {
+        uint32_t mode = i % 3, width = i / 3 % 2 == 0 ? 32 : 64, writer = i / 6 == 0 ? 13 : 14;
         int32_t k = mode != 1 ? 0 : width == 32 ? GWZ_SMALLEST_K32 : GWZ_SMALLEST_K64;
-        const struct setting setting = {13, width, 256 + mode, (uint32_t)k};
+        const struct setting setting = {writer, width, 256 + mode, (uint32_t)k};
         enum operation pack = width == 32 ? PACK32 : PACK64, length = width == 32 ? LENGTH32 : LENGTH64;
         enum operation unpack = width == 32 ? UNPACK32 : UNPACK64, probe = width == 32 ? PROBE32 : PROBE64;
         const void *values = width == 32 ? (const void *)narrow : (const void *)wide;
         uint8_t data[64], stream[128];
         size_t len = put_stream(stream, setting, 130, data, put_two_groups(data, mode));
-        expect_call(tally, "length", in_groups_of(128, packing(length, 13, mode, k, values, 130, 0)), done(len), NULL, 0);
-        expect_call(tally, "packed", in_groups_of(128, packing(pack, 13, mode, k, values, 130, len)), done(len), stream, len);
-        for (uint32_t level = 8; level <= 13; level++) {
-            int read = level == 13;
+        expect_call(tally, "length", in_groups_of(128, packing(length, writer, mode, k, values, 130, 0)), done(len), NULL, 0);
+        expect_call(tally, "packed", in_groups_of(128, packing(pack, writer, mode, k, values, 130, len)), done(len), stream, len);
+        for (uint32_t level = 8; level <= GWZ_HIGHEST_LEVEL; level++) {
+            int read = level >= 13;
             expect_call(tally, "checked", reading(CHECK, level, stream, len, 0), read ? done(130) : refused(7, 13), NULL, 0);
             expect_call(tally, "unpacked", reading(unpack, level, stream, len, 130), read ? done(130) : refused(7, 13), values,
                         read ? 130 : 0);
@@ -1010,7 +1040,8 @@ static void test_damaged_groups_of_128(struct tally *tally)
         {"mode 2^32 - 1", 16, 4, UINT32_MAX, 8, 0},
         {"groups of 32 and the need of 128", 16, 4, 0, 8, 0}, {"mode 2 and the need of 128", 16, 4, 2, 8, 0},
         {"k 1 in mode 0", 20, 4, 1, 8, 0}, {"k 104 in mode 1", 20, 4, 104, 8, 0},
-        {"need 8", 8, 4, 8, 8, 0}, {"need 12", 8, 4, 12, 8, 0}, {"need 14", 8, 4, 14, 7, 14}, {"written 12", 4, 4, 12, 8, 0},
+        {"need 8", 8, 4, 8, 8, 0}, {"need 12", 8, 4, 12, 8, 0}, {"need 14", 8, 4, 14, 8, 0}, {"need 15", 8, 4, 15, 7, 15},
+        {"written 12", 4, 4, 12, 8, 0},
         {"n 1025 in 1 chunk", 24, 4, 1025, 8, 0},
         {"w 33 of group 0", 52, 1, 33, 10, 0}, {"w 255 of group 0", 52, 1, 255, 10, 0},
         {"w 2 of group 0: bytes left over", 52, 1, 2, 10, 1},
@@ -1116,7 +1147,11 @@ static void test_must_be_understood(struct tally *tally)
         put_ids(stream, 13, 7, 8, high);
         expect_ids(tally, "a high id, and the need of groups of 128", level, stream, level < 13 ? refused(7, 13) : refused(8, 0));
         put_ids(stream, 14, 7, 8, high);
-        expect_ids(tally, "a high id, and a need that is too large", level, stream, refused(7, 14));
+        expect_ids(tally, "a high id, and a need that is too large", level, stream, level < 14 ? refused(7, 14) : refused(8, 0));
+        put_ids(stream, 14, 7, 8, high - 1);
+        expect_ids(tally, "low ids, and a need that nothing has", level, stream, level < 14 ? refused(7, 14) : refused(8, 0));
+        put_ids(stream, 15, 7, 8, high);
+        expect_ids(tally, "a need above every level", level, stream, refused(7, 15));
         /* In groups of 128 the three values are the same bytes: the need is 13 with a high id and without. */
         put_ids(stream, 13, 7, high, UINT32_MAX);
         put_number(stream + 16, 256);
@@ -1125,30 +1160,40 @@ static void test_must_be_understood(struct tally *tally)
         put_ids(stream, 13, 7, 8, high - 1);
         put_number(stream + 16, 256);
         expect_ids(tally, "low ids in groups of 128", level, stream, level < 13 ? refused(7, 13) : done(3));
+        put_number(stream + 4, 14);
+        put_number(stream + 8, 14);
+        expect_ids(tally, "groups of 128, and a need that nothing has", level, stream,
+                   level < 14 ? refused(7, 14) : refused(8, 0));
         put_ids(stream, 12, 7, 8, high);
         put_number(stream + 16, 256);
         expect_ids(tally, "groups of 128, and the need of a high id", level, stream, level < 12 ? refused(7, 12) : refused(8, 0));
     }
 }
 
-/* The late 8 and 15 come behind 14, 4, 11 and 9 and before 10. */
+/*
+ * The late 8 and 15 come behind 14, 4, 11 and 9 and before 10: with the need of the ids, with one that is too small, and with a
+ * need of 14 at level 14.
+ */
 static void test_order_of_ids(struct tally *tally)
 {
     const uint32_t high = GWZ_FIRST_HIGH_ID;
+    const struct { uint32_t level, need; uint64_t wanted; } rows[] = {
+        {12, 12, refused(15, high)}, {12, 9, refused(8, 0)}, {14, 12, refused(15, high)}, {14, 14, refused(8, 0)}
+    };
     uint8_t stream[WITH_IDS];
-    for (int wrong_need = 0; wrong_need < 2; wrong_need++) {
-        uint64_t wanted = wrong_need ? refused(8, 0) : refused(15, high);
-        put_ids(stream, wrong_need ? 9 : 12, 7, high, UINT32_MAX);
-        expect_call(tally, "14 before the ids", reading(UNPACK64, 12, stream, WITH_IDS, 3), refused(14, 0), NULL, 0);
-        expect_call(tally, "14 before the ids", probing(PROBE64, 12, stream, WITH_IDS, 0), refused(14, 0), NULL, 0);
-        expect_call(tally, "4 before the ids", reading(UNPACK32, 12, stream, WITH_IDS, 2), refused(4, 3), NULL, 0);
-        expect_call(tally, "11 before the ids", probing(PROBE32, 12, stream, WITH_IDS, 3), refused(11, 0), NULL, 0);
+    for (size_t i = 0; i < COUNT(rows); i++) {
+        uint32_t level = rows[i].level, need = rows[i].need;
+        put_ids(stream, need, 7, high, UINT32_MAX);
+        expect_call(tally, "14 before the ids", reading(UNPACK64, level, stream, WITH_IDS, 3), refused(14, 0), NULL, 0);
+        expect_call(tally, "14 before the ids", probing(PROBE64, level, stream, WITH_IDS, 0), refused(14, 0), NULL, 0);
+        expect_call(tally, "4 before the ids", reading(UNPACK32, level, stream, WITH_IDS, 2), refused(4, 3), NULL, 0);
+        expect_call(tally, "11 before the ids", probing(PROBE32, level, stream, WITH_IDS, 3), refused(11, 0), NULL, 0);
         stream[52] = 33;
-        expect_ids(tally, "the ids before 10", 12, stream, wanted);
+        expect_ids(tally, "the ids before 10", level, stream, rows[i].wanted);
         put_number(stream + 48, 1);
-        expect_ids(tally, "9 before the ids: the chunk table", 12, stream, refused(9, 0));
-        put_ids(stream, wrong_need ? 9 : 12, high, 7, UINT32_MAX);
-        expect_ids(tally, "9 before the ids: the side table", 12, stream, refused(9, 0));
+        expect_ids(tally, "9 before the ids: the chunk table", level, stream, refused(9, 0));
+        put_ids(stream, need, high, 7, UINT32_MAX);
+        expect_ids(tally, "9 before the ids: the side table", level, stream, refused(9, 0));
     }
 }
 
@@ -1522,8 +1567,226 @@ static void test_order_of_summaries(struct tally *tally)
     expect_refused(tally, "5 before 6", call, refused(5, 0), refused(5, 0), refused(5, 0), refused(5, 0));
     call.index = 0x7FF800017FF80001; /* a not-a-number at either width */
     expect_refused(tally, "2 before 5", call, refused(5, 0), refused(5, 0), refused(2, 0), refused(2, 0));
-    call.level = 14;
+    call.level = 15;
     expect_refused(tally, "1 before all", call, refused(1, 0), refused(1, 0), refused(1, 0), refused(1, 0));
+}
+
+/* ---- Halves: to even at level 14, away from zero below it */
+
+static uint32_t halves_at(uint32_t level)
+{
+    return level >= 14 ? GWZ_HALVES_TO_EVEN : GWZ_HALVES_AWAY;
+}
+
+/* The u of i bins and a half: the larger neighbour, or the even one. */
+static uint64_t u_of_half(uint64_t i, uint32_t halves)
+{
+    return halves == GWZ_HALVES_AWAY || i % 2 == 1 ? i + 1 : i;
+}
+
+/* The pattern of a whole number of 2^k that is a number of this width: every step is exact. */
+static uint64_t pattern_of(uint32_t width, uint64_t number, int32_t k)
+{
+    double value = ldexp((double)number, k);
+    float narrow = width == 32 ? (float)value : 0;
+    uint32_t pattern32;
+    uint64_t pattern64;
+    memcpy(&pattern32, &narrow, sizeof narrow);
+    memcpy(&pattern64, &value, sizeof value);
+    return width == 32 ? pattern32 : pattern64;
+}
+
+static int has_code(uint32_t width, uint32_t halves, int32_t k, uint64_t pattern, uint64_t code)
+{
+    uint32_t narrow = 0;
+    uint64_t wide = 0;
+    uint64_t answer = width == 32 ? gwz_tolerance_code32(halves, k, (uint32_t)pattern, &narrow)
+                                  : gwz_tolerance_code64(halves, k, pattern, &wide);
+    return answer == done(0) && (width == 32 ? narrow : wide) == code;
+}
+
+static int comes_back_as(uint32_t width, int32_t k, uint64_t code, uint64_t pattern)
+{
+    uint32_t narrow = 0;
+    uint64_t wide = 0;
+    uint64_t answer = width == 32 ? gwz_tolerance_restored32(k, (uint32_t)code, &narrow)
+                                  : gwz_tolerance_restored64(k, code, &wide);
+    return answer == done(0) && (width == 32 ? narrow : wide) == pattern;
+}
+
+/* i bins and a half with both signs by both rules, and the numbers next to it, which have the same code by both. */
+static int is_half_of_bins(uint32_t width, int32_t k, uint64_t i)
+{
+    int good = 1;
+    for (uint32_t halves = 0; halves <= 1; halves++)
+        for (uint64_t sign = 0; sign <= 1; sign++) {
+            uint64_t high = sign << (width - 1), half = high + pattern_of(width, 2 * i + 1, k), u = u_of_half(i, halves);
+            good = good && has_code(width, halves, k, half, 2 * u + sign) && has_code(width, halves, k, half - 1, 2 * i + sign)
+                && has_code(width, halves, k, half + 1, 2 * i + 2 + sign)
+                && comes_back_as(width, k, 2 * u + sign, high + pattern_of(width, u, k + 1));
+        }
+    return good;
+}
+
+/* Of each k the halves around every power of two, from that of no bin to the one below the threshold. The smallest k has none. */
+static void test_halves(struct tally *tally)
+{
+    static const int32_t k32[] = {-149, -148, -128, -127, -126, -125, -104, -24, -9, -2, -1, 0, 1, 50, 102, 103};
+    static const int32_t k64[] = {-1074, -1073, -1024, -1023, -1022, -1021, -971, -53, -9, -2, -1, 0, 1, 500, 969, 970};
+    for (uint32_t width = 32; width <= 64; width += 32)
+        for (size_t at = 0; at < COUNT(k32); at++)
+            for (uint64_t limit = (uint64_t)1 << (width == 32 ? 23 : 52), power = 1; power <= limit; power *= 2)
+                for (uint64_t i = power < 4 ? power - 1 : power - 3; i < power + 3 && i < limit; i++)
+                    record(tally, width == 32 ? "a half of 32 bits" : "a half of 64 bits",
+                           is_half_of_bins(width, width == 32 ? k32[at] : k64[at], i) ? NULL : "another code or pattern");
+}
+
+/* Patterns of 64 bits whose numbers have patterns of 32 bits too, with their codes and what they come back as. */
+enum { MOST_HALVES = 1000 };
+
+struct coded {
+    uint64_t values[MOST_HALVES], codes[MOST_HALVES], back[MOST_HALVES];
+    size_t n;
+};
+
+/* The same values at each level from the need on; below it 7, and 1 at a level that there is not. */
+static void expect_read(struct tally *tally, uint32_t width, const uint8_t *stream, size_t len, uint32_t need, const void *back,
+                        uint32_t n)
+{
+    enum operation unpack = width == 32 ? UNPACK32 : UNPACK64, probe = width == 32 ? PROBE32 : PROBE64;
+    for (uint32_t level = 7; level <= GWZ_HIGHEST_LEVEL + 1; level++) {
+        int known = level >= 8 && level <= 14, read = known && level >= need;
+        uint64_t wanted = !known ? refused(1, 0) : refused(7, need);
+        expect_call(tally, "checked", reading(CHECK, level, stream, len, 0), read ? done(n) : wanted, NULL, 0);
+        expect_call(tally, "unpacked", reading(unpack, level, stream, len, n), read ? done(n) : wanted, back, read ? n : 0);
+        for (uint32_t i = 0; i < n; i += i < 8 ? 1 : 61)
+            expect_call(tally, "probed", probing(probe, level, stream, len, i), read ? done(GWZ_FINITE) : wanted,
+                        (const uint8_t *)back + i * (width / 8), read ? 1 : 0);
+    }
+}
+
+/* A list within 2^-2 as one level writes it, and as every level reads it. Returns the length of the stream. */
+static size_t expect_coded(struct tally *tally, uint32_t width, uint32_t group, uint32_t level, const struct coded *list,
+                           uint8_t *stream)
+{
+    enum operation pack = width == 32 ? PACK32 : PACK64, length = width == 32 ? LENGTH32 : LENGTH64;
+    const struct setting setting = {level, width, mode_number(GWZ_WITHIN_TOLERANCE, group), (uint32_t)-2};
+    static uint8_t data[MOST_HALVES * 9];
+    static uint32_t narrow[MOST_HALVES], narrow_back[MOST_HALVES];
+    size_t n = list->n, len = put_stream(stream, setting, (uint32_t)n, data, put_codes(data, group, list->codes, n));
+    for (size_t i = 0; i < n; i++) {
+        narrow[i] = narrowed(list->values[i]);
+        narrow_back[i] = narrowed(list->back[i]);
+    }
+    const void *values = width == 32 ? (const void *)narrow : (const void *)list->values;
+    const void *back = width == 32 ? (const void *)narrow_back : (const void *)list->back;
+    struct call packs = in_groups_of(group, packing(pack, level, GWZ_WITHIN_TOLERANCE, -2, values, n, len));
+    struct call measures = in_groups_of(group, packing(length, level, GWZ_WITHIN_TOLERANCE, -2, values, n, 0));
+    expect_call(tally, "length", measures, done(len), NULL, 0);
+    expect_call(tally, "packed", packs, done(len), stream, len);
+    packs.room = len - 1;
+    expect_call(tally, "a byte short", packs, refused(4, (uint32_t)len), NULL, 0);
+    expect_read(tally, width, stream, len, stream[8], back, (uint32_t)n);
+    return len;
+}
+
+/* 0.25, -0.75, 4194303.75 and -1.25, with the summary of what they come back as. */
+static void expect_known_halves(struct tally *tally, uint32_t width, uint32_t group, uint32_t level)
+{
+    static const uint64_t values[4] = {0x3FD0000000000000, 0xBFE8000000000000, 0x414FFFFFE0000000, 0xBFF4000000000000};
+    static const uint64_t codes[2][4] = {{2, 5, 16777216, 7}, {0, 5, 16777216, 5}};
+    static const uint64_t back[2][4] = {{0x3FE0000000000000, 0xBFF0000000000000, 0x4150000000000000, 0xBFF8000000000000},
+                                        {0, 0xBFF0000000000000, 0x4150000000000000, 0xBFF0000000000000}};
+    static struct coded list;
+    uint32_t rule = level == 14 ? 1 : 0;
+    uint8_t stream[GWZ_LONGEST_STREAM(64, 32, 4)];
+    struct entry entry = {0, back[rule][3], back[rule][2]}; /* the smallest is the last, the largest the third */
+    list.n = 4;
+    memcpy(list.values, values, sizeof values);
+    memcpy(list.codes, codes[rule], sizeof codes[rule]);
+    memcpy(list.back, back[rule], sizeof back[rule]);
+    size_t len = expect_coded(tally, width, group, level, &list, stream), copy_len;
+    if (width == 32) {
+        entry.smallest = narrowed(entry.smallest);
+        entry.largest = narrowed(entry.largest);
+    }
+    uint8_t *copy = copy_with(stream, len, width, &entry, 1, &copy_len);
+    expect_summary(tally, "the summary of halves", stream, len, copy, copy_len);
+    free(copy);
+}
+
+/* A list of halves with both signs: 128 of up to 3 bins and 128 of up to a million, in turn. */
+static void expect_many_halves(struct tally *tally, uint32_t width, uint32_t group, uint32_t level)
+{
+    static struct coded list;
+    static uint8_t stream[GWZ_LONGEST_STREAM(64, 32, MOST_HALVES)];
+    list.n = MOST_HALVES;
+    for (size_t i = 0; i < MOST_HALVES; i++) {
+        uint64_t bins = i / 128 % 2 == 0 ? i % 4 : i * i, sign = i / 3 % 2, u = u_of_half(bins, halves_at(level));
+        list.values[i] = (sign << 63) + pattern_of(64, 2 * bins + 1, -2);
+        list.codes[i] = 2 * u + sign;
+        list.back[i] = (sign << 63) + pattern_of(64, u, -1);
+    }
+    expect_coded(tally, width, group, level, &list, stream);
+}
+
+/* Each level that writes the setting, at both widths and both sizes of groups. */
+static void test_written_halves(struct tally *tally)
+{
+    for (uint32_t width = 32; width <= 64; width += 32)
+        for (size_t g = 0; g < 2; g++)
+            for (uint32_t level = group_sizes[g] == 128 ? 13 : width == 64 ? 10 : 9; level <= 14; level++) {
+                expect_known_halves(tally, width, group_sizes[g], level);
+                expect_many_halves(tally, width, group_sizes[g], level);
+            }
+}
+
+/* 0.25, -0.75 and -1.25 as docs/FORMAT.md prints them; and the second stream with a need of 14, which no stream has. */
+static void test_printed_halves(struct tally *tally)
+{
+    static const uint32_t values[] = {0x3E800000, 0xBF400000, 0xBFA00000};
+    static const uint8_t data[2][3] = {{0x03, 0xEA, 0x01}, {0x03, 0x68, 0x01}};
+    static const uint32_t back[2][3] = {{0x3F000000, 0xBF800000, 0xBFC00000}, {0x00000000, 0xBF800000, 0xBF800000}};
+    uint8_t stream[55];
+    for (uint32_t i = 0; i < 2; i++) {
+        const struct setting setting = {13 + i, 32, GWZ_WITHIN_TOLERANCE, 0xFFFFFFFE};
+        put_stream(stream, setting, 3, data[i], 3);
+        expect_call(tally, "packed", packing(PACK32, 13 + i, GWZ_WITHIN_TOLERANCE, -2, values, 3, 55), done(55), stream, 55);
+        expect_read(tally, 32, stream, 55, 9, back[i], 3);
+    }
+    put_number(stream + 8, 14);
+    for (uint32_t level = 8; level <= GWZ_HIGHEST_LEVEL; level++) {
+        uint64_t wanted = level < 14 ? refused(7, 14) : refused(8, 0);
+        expect_call(tally, "a need of 14", reading(CHECK, level, stream, 55, 0), wanted, NULL, 0);
+        expect_call(tally, "a need of 14", reading(UNPACK32, level, stream, 55, 3), wanted, NULL, 0);
+        expect_call(tally, "a need of 14", probing(PROBE32, level, stream, 55, 0), wanted, NULL, 0);
+        expect_call(tally, "a need of 14", reading(ADD_SUMMARY, level, stream, 55, 99), wanted, NULL, 0);
+        expect_call(tally, "a need of 14", reading(TEST_SUMMARY, level, stream, 55, 0), wanted, NULL, 0);
+        expect_call(tally, "a need of 14", listing(CHUNKS_FROM32, level, 0, stream, 55, 1), wanted, NULL, 0);
+    }
+}
+
+/* 1,024 times 0.25, half a bin: the code is 2 away from zero, and to even 0, which takes no bits. */
+static void test_halves_of_no_bits(struct tally *tally)
+{
+    static uint32_t narrow[1024];
+    static uint64_t wide[1024];
+    for (size_t i = 0; i < 1024; i++) {
+        narrow[i] = 0x3E800000;
+        wide[i] = 0x3FD0000000000000;
+    }
+    const uint32_t mode = GWZ_WITHIN_TOLERANCE;
+    const struct number_case cases[] = {
+        {"at level 13", gwz_length32(13, mode, -2, GWZ_GROUPS_OF_32, narrow, 1024), done(52 + 32 * 9)},
+        {"at level 14", gwz_length32(14, mode, -2, GWZ_GROUPS_OF_32, narrow, 1024), done(52 + 32)},
+        {"at level 13, width 64", gwz_length64(13, mode, -2, GWZ_GROUPS_OF_32, wide, 1024), done(52 + 32 * 9)},
+        {"at level 14, width 64", gwz_length64(14, mode, -2, GWZ_GROUPS_OF_32, wide, 1024), done(52 + 32)},
+        {"at level 13, groups of 128", gwz_length32(13, mode, -2, GWZ_GROUPS_OF_128, narrow, 1024), done(52 + 8 * 33)},
+        {"at level 14, groups of 128", gwz_length32(14, mode, -2, GWZ_GROUPS_OF_128, narrow, 1024), done(52 + 8)},
+        {"at level 13, width 64, groups of 128", gwz_length64(13, mode, -2, GWZ_GROUPS_OF_128, wide, 1024), done(52 + 8 * 33)},
+        {"at level 14, width 64, groups of 128", gwz_length64(14, mode, -2, GWZ_GROUPS_OF_128, wide, 1024), done(52 + 8)},
+    };
+    expect_numbers(tally, cases, COUNT(cases));
 }
 
 /* ---- Lengths up to the limit: all values 0, or all with the largest code */
@@ -1660,37 +1923,39 @@ static void test_limit(struct tally *tally)
 
 /* ---- Lists of unlike patterns */
 
+/* Within a tolerance a third of them are halves, of as many bits as a number has. */
 enum { MIXED = 3000 };
 
-/* What a magnitude comes back as under 2^k. Every step is exact: the bin is a power of two. */
-static double magnitude_back(double magnitude, int k, int fraction_bits)
+/* What a magnitude comes back as under 2^k by a rule for halves. Every step is exact: the bin is a power of two. */
+static double magnitude_back(double magnitude, int k, int fraction_bits, uint32_t halves)
 {
-    double bins = ldexp(magnitude, -k - 1), whole = floor(bins);
+    double bins = ldexp(magnitude, -k - 1), whole = floor(bins), rest = bins - whole;
+    int odd = fmod(whole, 2) != 0;
     if (!(magnitude < ldexp(1, k + 1 + fraction_bits)))
         return magnitude;
-    return ldexp(bins - whole >= 0.5 ? whole + 1 : whole, k + 1);
+    return ldexp(rest > 0.5 || (rest == 0.5 && (halves == GWZ_HALVES_AWAY || odd)) ? whole + 1 : whole, k + 1);
 }
 
-static uint32_t pattern_back32(uint32_t pattern, int k)
+static uint32_t pattern_back32(uint32_t pattern, int k, uint32_t halves)
 {
     uint32_t magnitude = pattern & 0x7FFFFFFF, sign = pattern & 0x80000000;
     float value;
     memcpy(&value, &magnitude, sizeof value);
     if (magnitude >= 0x7F800000)
         return pattern;
-    value = (float)magnitude_back(value, k, 23);
+    value = (float)magnitude_back(value, k, 23, halves);
     memcpy(&magnitude, &value, sizeof value);
     return sign | magnitude;
 }
 
-static uint64_t pattern_back64(uint64_t pattern, int k)
+static uint64_t pattern_back64(uint64_t pattern, int k, uint32_t halves)
 {
     uint64_t magnitude = pattern & 0x7FFFFFFFFFFFFFFF, sign = pattern & 0x8000000000000000;
     double value;
     memcpy(&value, &magnitude, sizeof value);
     if (magnitude >= 0x7FF0000000000000)
         return pattern;
-    value = magnitude_back(value, k, 52);
+    value = magnitude_back(value, k, 52, halves);
     memcpy(&magnitude, &value, sizeof value);
     return sign | magnitude;
 }
@@ -1700,13 +1965,13 @@ static void test_mixed32(struct tally *tally)
     static uint32_t values[MIXED], back[MIXED];
     static uint8_t stream[GWZ_LONGEST_STREAM(32, GWZ_GROUPS_OF_32, MIXED)];
     uint32_t state = 1;
-    for (uint32_t setting = 0; setting < 6; setting++) {
-        uint32_t mode = setting % 3, group = group_sizes[setting / 3], level = level_of_groups(group);
+    for (uint32_t setting = 0; setting < 12; setting++) {
+        uint32_t mode = setting % 3, group = group_sizes[setting / 3 % 2], level = setting < 6 ? level_of_groups(group) : 14;
         int32_t k = mode == 1 ? -9 : 0;
         for (size_t i = 0; i < MIXED; i++) {
             state = state * 1664525u + 1013904223u;
-            values[i] = state;
-            back[i] = mode == 1 ? pattern_back32(state, k) : state;
+            values[i] = mode == 1 && i % 3 == 0 ? (state & 0x80000000) + (uint32_t)pattern_of(32, (state >> 8) | 1, k) : state;
+            back[i] = mode == 1 ? pattern_back32(values[i], k, halves_at(level)) : state;
         }
         uint64_t packed = gwz_pack32(level, mode, k, group, values, MIXED, stream, sizeof stream);
         size_t length = gwz_answer(packed);
@@ -1723,13 +1988,13 @@ static void test_mixed64(struct tally *tally)
     static uint64_t values[MIXED], back[MIXED];
     static uint8_t stream[GWZ_LONGEST_STREAM(64, GWZ_GROUPS_OF_32, MIXED)];
     uint64_t state = 1;
-    for (uint32_t setting = 0; setting < 6; setting++) {
-        uint32_t mode = setting % 3, group = group_sizes[setting / 3], level = level_of_groups(group);
+    for (uint32_t setting = 0; setting < 12; setting++) {
+        uint32_t mode = setting % 3, group = group_sizes[setting / 3 % 2], level = setting < 6 ? level_of_groups(group) : 14;
         int32_t k = mode == 1 ? -30 : 0;
         for (size_t i = 0; i < MIXED; i++) {
             state = state * 6364136223846793005u + 1442695040888963407u;
-            values[i] = state;
-            back[i] = mode == 1 ? pattern_back64(state, k) : state;
+            values[i] = mode == 1 && i % 3 == 0 ? (state & 0x8000000000000000) + pattern_of(64, (state >> 11) | 1, k) : state;
+            back[i] = mode == 1 ? pattern_back64(values[i], k, halves_at(level)) : state;
         }
         uint64_t packed = gwz_pack64(level, mode, k, group, values, MIXED, stream, sizeof stream);
         size_t length = gwz_answer(packed);
@@ -1803,6 +2068,7 @@ int main(void)
         {"probe of 32 bits", test_probe32},
         {"probe of 64 bits", test_probe64},
         {"levels", test_levels},
+        {"levels that there are not", test_unknown_levels},
         {"differences", test_differences},
         {"differences of a walk", test_differences_of_a_walk},
         {"packing refused", test_packing_refused},
@@ -1822,6 +2088,10 @@ int main(void)
         {"a summary of six chunks", test_six_chunks},
         {"summaries beside other parts", test_beside_others},
         {"order of refusals of summaries", test_order_of_summaries},
+        {"halves", test_halves},
+        {"halves as each level writes them", test_written_halves},
+        {"halves as they are printed", test_printed_halves},
+        {"halves of no bits", test_halves_of_no_bits},
         {"lengths", test_lengths},
         {"the limit of 1,048,576 values", test_limit},
         {"mixed patterns of 32 bits", test_mixed32},
