@@ -95,7 +95,8 @@ extern "C" {
  *
  * Nothing needs level 14: what a writer does there is read by each level that reads the same setting written at an older one. Within
  * a tolerance it sends halves to even (GWZ_HALVES_TO_EVEN); at the levels 8 to 13 they go away from zero. It is the level told to
- * gwz_pack that decides. Who compares files with older ones byte for byte writes at the older level.
+ * gwz_pack that decides. Who compares files with older ones byte for byte writes at the older level and names it, as
+ * GWZ_LEVEL_13: GWZ_HIGHEST_LEVEL moves on with the release.
  */
 enum gwz_level {
     GWZ_LEVEL_8 = 8,   /* width 32, GWZ_LOSSLESS */
@@ -191,7 +192,7 @@ uint32_t gwz_highest_level(void);
  * behind them nothing is altered. Enough room is what gwz_length answers, or GWZ_LONGEST_STREAM, with which
  * there is no measuring pass over the values.
  *
- * level    8, 9, 10, 11, 12, 13 or 14; which allows which setting stands with enum gwz_level
+ * level    8, 9, 10, 11, 12, 13 or 14; which allows which setting, and where halves go, stands with enum gwz_level
  * mode     GWZ_LOSSLESS, GWZ_WITHIN_TOLERANCE or GWZ_DIFFERENCES
  * k        within a tolerance its exponent, which gwz_bound finds: -150 to 103 for width 32, -1075 to 970 for
  *          width 64; else 0
@@ -204,7 +205,7 @@ uint64_t gwz_pack32(uint32_t level, uint32_t mode, int32_t k, uint32_t group, co
 uint64_t gwz_pack64(uint32_t level, uint32_t mode, int32_t k, uint32_t group, const uint64_t *values, size_t n,
                     uint8_t *out, size_t room);
 
-/* Answers the bytes that gwz_pack would write for the same values and setting. Refusals, in order: 1 2 3. */
+/* Answers the bytes that gwz_pack would write for the same level, setting and values. Refusals, in order: 1 2 3. */
 uint64_t gwz_length32(uint32_t level, uint32_t mode, int32_t k, uint32_t group, const uint32_t *values, size_t n);
 uint64_t gwz_length64(uint32_t level, uint32_t mode, int32_t k, uint32_t group, const uint64_t *values, size_t n);
 

@@ -85,13 +85,14 @@ enum gwz_exponent_limit {
 };
 
 /*
- * Where a value goes within a tolerance that lies halfway between two multiples of 2^(k+1). The tolerance is kept by both. Away
- * from zero, values that are all positive come back a little too high on the average where many of them are such halves, as the
- * readings of a gauge that counts in steps of 2^k are; to even, as IEEE 754 rounds, about half of them go up and half down.
+ * Where, within a tolerance, a value goes that lies halfway between two multiples of 2^(k+1): an odd multiple of 2^k. The
+ * tolerance is kept by both rules. Away from zero, positive values come back too high on the average if many of them are such
+ * halves, as every second reading of a gauge that counts in steps of 2^k is. To even, as IEEE 754 rounds, halves that are
+ * spread evenly go up as often as down; a value that is always the same half still goes one way.
  */
 enum gwz_halves {
     GWZ_HALVES_AWAY = 0,   /* away from zero: what gwz_pack does at the levels 8 to 13 */
-    GWZ_HALVES_TO_EVEN = 1 /* to the even multiple: what it does at level 14 */
+    GWZ_HALVES_TO_EVEN = 1 /* to the even multiple: what it does from level 14 on */
 };
 
 /* ---- Taking a result apart */
@@ -196,7 +197,8 @@ uint64_t gwz_lossless_restored64(uint64_t code);
 
 /*
  * Writes the code of a pattern under the tolerance 2^k, and answers 0. `halves` is GWZ_HALVES_AWAY or GWZ_HALVES_TO_EVEN.
- * Refused with 2 where it is another number or k is not allowed; *code is then as it was.
+ * Refused with 2 where it is another number or k is not allowed; *code is then as it was. Releases before 0.13.0 had no
+ * `halves`: a caller that is not compiled with this header, as one in Python or Fortran, has to be amended.
  */
 uint64_t gwz_tolerance_code32(uint32_t halves, int32_t k, uint32_t pattern, uint32_t *code);
 uint64_t gwz_tolerance_code64(uint32_t halves, int32_t k, uint64_t pattern, uint64_t *code);

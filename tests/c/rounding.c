@@ -87,8 +87,8 @@ static int find_codes(unsigned width, uint32_t halves, int32_t k, uint64_t *code
 static uint64_t codes[ALONE], other_codes[ALONE];
 
 /*
- * The stream of the drawn values, then its values unpacked behind it, then codes alone: all that a setting of the processor could change.
- * 0 where a call is refused, or the length is another.
+ * The stream of the drawn values, then its values unpacked behind it, then codes alone: all that a setting of the processor could
+ * change. 0 where a call is refused, or the length is another.
  */
 static size_t result_of(unsigned width, uint32_t halves, int32_t k, uint8_t *result)
 {

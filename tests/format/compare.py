@@ -1,14 +1,15 @@
 #!/usr/bin/env python3
 """That docs/FORMAT.md is complete: reader.py was written from that page alone, with nothing else seen, but for what it says
-that the writers of the page added.
+that others added.
 
     tests/format/compare.py STREAMS SEED COMMAND...      COMMAND starts the library behind a pipe (tests/caller)
 
 It and the library get the same streams, clean and damaged, and have to answer the same: check, unpack and probe with
-number, detail and every value; and pack, length and bound. Half of the streams have groups of 128. One stream in fourteen
-has up to three chunks, most of them damaged within, for the place that refusal 10 names. Two in fourteen have side parts,
-for the high ids, the need and the order 9 8 15 10. Two in fourteen have a summary or are to get one: added, tested and
-listed from, true and false. The last line is 'N passed, M failed', a stream each.
+number, detail and every value; and pack, length, bound and the codes of values alone. Half of the streams have groups of
+128. Within a tolerance many of the values are halves, which are written by the rule of the level. One stream in fourteen has
+up to three chunks, most of them damaged within, for the place that refusal 10 names. Two in fourteen have side parts, for
+the high ids, the need and the order 9 8 15 10. Two in fourteen have a summary or are to get one: added, tested and listed
+from, true and false. The last line is 'N passed, M failed', a stream each.
 """
 
 import itertools
@@ -23,7 +24,7 @@ from caller import Caller  # noqa: E402  the folder has to be named first
 
 HEADER_WORDS = 12
 LEVEL = reader.LEVELS[-1]
-INTERESTING = [0, 1, 2, 3, 7, 8, 9, 10, 11, 12, 13, 14, 31, 32, 33, 48, 52, 63, 64, 65, 128, 255, 256, 257, 258, 259, 512, 1023,
+INTERESTING = [0, 1, 2, 3, 7, 8, 9, 10, 11, 12, 13, 14, 15, 31, 32, 33, 48, 52, 63, 64, 65, 128, 255, 256, 257, 258, 259, 512, 1023,
                1024, 1025, 1048576, 1048577, 2**31 - 1, 2**31, 2**32 - 2, 2**32 - 1]
 
 
@@ -74,13 +75,22 @@ def some_walk(pick, width):
     return values[:count]
 
 
+def some_half(pick, width, k):
+    """An odd number of 2^k, which is a half of bins up to the threshold, with either sign; at the smallest k any number of bins.
+    At times what is next to it."""
+    m, j = reader.FRACTION_BITS[width], max(k + reader.BIN_OFFSET[width] - 1, 0)
+    odd = 2 * pick.randrange(1 << pick.randrange(m + 1)) + 1
+    return (reader.ordinal_of_multiple(m, j, odd) + pick.choice([-1, 0, 0, 0, 0, 0, 0, 1])) % 2**(width - 1) + 2**(width - 1) * pick.randrange(2)
+
+
 def some_field(pick, width, k):
-    """Patterns of one kind: any, special, alike, or around the threshold and the bins."""
+    """Patterns of one kind: any, special, alike, around the threshold and the bins, or halves, which two lists in six are of."""
     m, half, special = reader.FRACTION_BITS[width], 1 << (width - 1), special_patterns(width)
     bins = k + reader.BIN_OFFSET[width]
     middle = pick.randrange(half)
     kinds = [lambda: pick.randrange(2 * half), lambda: pick.choice(special), lambda: (middle + pick.randrange(5000)) % (2 * half),
-             lambda: (max(bins + pick.choice([1 - m, 0, 1, 1, 1]), 0) * (1 << m) + pick.randrange(-3, 4)) % half + half * pick.randrange(2)]
+             lambda: (max(bins + pick.choice([1 - m, 0, 1, 1, 1]), 0) * (1 << m) + pick.randrange(-3, 4)) % half + half * pick.randrange(2),
+             lambda: some_half(pick, width, k), lambda: some_half(pick, width, k)]
     kind = pick.choice(kinds)
     return [kind() if pick.random() < 0.95 else pick.choice(special) for _ in range(some_count(pick))]
 
@@ -298,7 +308,15 @@ def calls_of_any(pick, library):
     other = width if pick.random() < 0.95 else 96 - width
     calls += [("check", acting, data), ("unpack", other, acting, data, max(n + pick.choice([0, 0, 0, 1, -1]), 0))]
     calls += [("probe", other, acting, data, index) for index in (pick.randrange(n + 1), pick.choice([0, n, 1023, 1024, 2**64 - 1]))]
-    return calls
+    return calls + calls_of_codes(pick, width, k)
+
+
+def calls_of_codes(pick, width, k):
+    """The calls for the code of a half alone: by each rule and at times by one that there is not, at times under a k that is not allowed."""
+    low, high = reader.ALLOWED_K[width]
+    asked = pick.choice([k] * 12 + [low - 1, high + 1, -2**31, 2**31 - 1])
+    half = some_half(pick, width, k)
+    return [("tolerance_code", width, rule, asked, half) for rule in [*reader.HALVES, pick.choice([*reader.HALVES] * 4 + [2, 2**31, 2**32 - 1])]]
 
 
 def calls_of_chunks(pick, library):

@@ -1,5 +1,6 @@
 """A reader and a writer of packed streams, written from FORMAT.md alone;
-what concerns summaries and groups of 128 was added by the writers of that page.
+what concerns summaries, groups of 128 and halves to even was added by others,
+who wrote that page or had seen more than it.
 
 Whole numbers only, standard library only. Names in quotes are the page's own.
 No function raises on any level, bytes or index, and the work is bounded by
@@ -8,7 +9,9 @@ the bytes at hand and by the page's limits, never by what a header claims.
 
 from collections import namedtuple
 
-LEVELS = (8, 9, 10, 11, 12, 13)               # "knownLevel"
+LEVELS = (8, 9, 10, 11, 12, 13, 14)           # "knownLevel"
+EVEN_LEVEL = 14                               # "halvesAt": writers from here on send halves to even
+AWAY, TO_EVEN = HALVES = (0, 1)               # "knownHalves": the numbers of the rules
 WIDTHS = (32, 64)                             # "knownWidth"
 FRACTION_BITS = {32: 23, 64: 52}              # "fractionBits": m
 BIN_OFFSET = {32: 150, 64: 1075}              # "binOf": j = k + this
@@ -70,8 +73,13 @@ def lossless_restored(width, q):
 
 # --- Mode 1: within a tolerance ---------------------------------------------
 
-def rounded_magnitude(m, j, o):
-    """The u of an ordinal below that of T: magnitude / E, a half going up ("near")."""
+def halves_at(level):
+    """The rule for halves of a writer's level ("halvesAt")."""
+    return TO_EVEN if level >= EVEN_LEVEL else AWAY
+
+
+def rounded_magnitude(m, halves, j, o):
+    """The u of an ordinal below that of T: magnitude / E, a half going by the rule ("near")."""
     e, f = o >> m, o % (1 << m)
     if e == 0:
         a, r = f, j
@@ -81,18 +89,34 @@ def rounded_magnitude(m, j, o):
         return a
     if r > m + 1:
         return 0
-    return (a + (1 << (r - 1))) >> r
+    t = a + (1 << (r - 1))
+    v = t >> r                                # "upper"
+    if t % (1 << r) == 0 and halves == TO_EVEN:   # "halfway"
+        v -= v % 2
+    return v
 
 
-def tolerance_code(width, k, p):
-    """Code of the pattern p ("toleranceCode")."""
+def code_within(width, halves, k, p):
+    """Code of the pattern p by a rule for halves ("toleranceCode")."""
     m, j = FRACTION_BITS[width], k + BIN_OFFSET[width]
     sign, o = p >> (width - 1), p % (1 << (width - 1))
     if o >= (j + 1) << m:                     # from T on: kept as it is
         u = o - (j << m)
     else:
-        u = rounded_magnitude(m, j, o)
+        u = rounded_magnitude(m, halves, j, o)
     return 2 * u + sign
+
+
+def allowed_k(width, k):
+    low, high = ALLOWED_K[width]              # "allowedK"
+    return low <= k <= high
+
+
+def tolerance_code(width, halves, k, p):
+    """The solver's function. Gives (0, 0, code), or (2, 0, None) ("codeAnswer")."""
+    if halves not in HALVES or not allowed_k(width, k):
+        return 2, 0, None
+    return 0, 0, code_within(width, halves, k, p)
 
 
 def ordinal_of_multiple(m, j, u):
@@ -139,12 +163,12 @@ def running_sums(width, codes):
 
 # --- All modes --------------------------------------------------------------
 
-def codes_of(width, mode, k, patterns):
-    """The codes of a chunk's patterns."""
+def codes_of(width, mode, k, halves, patterns):
+    """The codes of a chunk's patterns, in mode 1 by a rule for halves."""
     if mode == 0:
         return [lossless_code(width, p) for p in patterns]
     if mode == 1:
-        return [tolerance_code(width, k, p) for p in patterns]
+        return [code_within(width, halves, k, p) for p in patterns]
     return difference_codes(width, patterns)
 
 
@@ -173,8 +197,7 @@ def allowed_setting(width, mode, k, size):
         return False
     if mode in (0, 2):
         return k == 0
-    low, high = ALLOWED_K[width]
-    return mode == 1 and low <= k <= high
+    return mode == 1 and allowed_k(width, k)
 
 
 def need(width, mode, size):
@@ -569,7 +592,7 @@ def chunk_bytes(size, codes):
 
 def stream(width, level, mode, k, size, values):
     """The only stream of a level, an allowed setting and the values ("stream")."""
-    chunks = [chunk_bytes(size, codes_of(width, mode, k, values[i:i + CHUNK]))
+    chunks = [chunk_bytes(size, codes_of(width, mode, k, halves_at(level), values[i:i + CHUNK]))
               for i in range(0, len(values), CHUNK)]
     starts, total = [], 0
     for chunk in chunks:

@@ -1,6 +1,6 @@
 /*
- * A small field through the installed library, by C and by C++: packed at both sizes of groups, read back, cut, summed up, and the helpers. Prints what it saw;
- * status 0 is all well.
+ * A small field through the installed library, by C and by C++: packed at both sizes of groups, read back, cut, summed up, and the helpers; and half a bin by
+ * both rules. Prints what it saw; status 0 is all well.
  */
 #include <gwizdorad.h>
 
@@ -26,6 +26,7 @@ int main(void)
     uint32_t back[CELLS] = {0}, chunk = 9;
     uint8_t stream[LONGEST], copy[LONGEST + ADDED];
     uint64_t pattern, result;
+    const uint32_t quarter = 0x3E800000u; /* 0.25 */
     const double tolerance = 0.005;
     size_t length;
 
@@ -46,6 +47,10 @@ int main(void)
     expect("in groups of 128", gwz_refusal(result) == GWZ_DONE && stream[8] == GWZ_LEVEL_13 && stream[17] == 1);
     expect("and unpacked", gwz_unpack32(GWZ_HIGHEST_LEVEL, stream, gwz_answer(result), back, CELLS) == CELLS);
     expect("the same again", memcmp(cells, back, sizeof cells) == 0);
+    result = gwz_pack32(GWZ_LEVEL_13, GWZ_WITHIN_TOLERANCE, -2, GWZ_GROUPS_OF_32, &quarter, 1, stream, LONGEST);
+    expect("half a bin away from zero", gwz_unpack32(GWZ_LEVEL_9, stream, gwz_answer(result), back, 1) == 1 && back[0] == 0x3F000000u);
+    result = gwz_pack32(GWZ_LEVEL_14, GWZ_WITHIN_TOLERANCE, -2, GWZ_GROUPS_OF_32, &quarter, 1, stream, LONGEST);
+    expect("and to even", gwz_unpack32(GWZ_LEVEL_9, stream, gwz_answer(result), back, 1) == 1 && back[0] == 0);
     expect("the longest stream", gwz_longest_stream(32, GWZ_GROUPS_OF_32, CELLS) == LONGEST);
     expect("the bytes of a summary", gwz_summary_bytes(32, CELLS) == ADDED);
     expect("header and library have one version", strcmp(GWZ_VERSION, gwz_version()) == 0);

@@ -49,6 +49,12 @@ module gwizdorad
             integer(c_int32_t), intent(inout) :: out(room)
             integer(c_int64_t) :: r
         end function
+        function gwz_tolerance_code32(halves, k, pattern, code) bind(c) result(r)
+            import
+            integer(c_int32_t), value :: halves, k, pattern
+            integer(c_int32_t), intent(inout) :: code
+            integer(c_int64_t) :: r
+        end function
         function gwz_bound(width, tolerance) bind(c) result(r)
             import
             integer(c_int32_t), value :: width
@@ -119,9 +125,9 @@ program field
     use gwizdorad
     implicit none
     integer, parameter :: cells = 5
-    integer(c_int32_t), parameter :: lossless = 0, no_k = 0, groups_of_32 = 32, groups_of_128 = 128
+    integer(c_int32_t), parameter :: lossless = 0, no_k = 0, groups_of_32 = 32, groups_of_128 = 128, away = 0, to_even = 1
     real(c_float) :: levels(cells) = [1.8125, 1.8203, -0.0, 0.0, 1.8295]
-    integer(c_int32_t) :: patterns(cells), back(cells), level, chunks(1) = 9
+    integer(c_int32_t) :: patterns(cells), back(cells), level, chunks(1) = 9, code = 9
     integer(c_int8_t), allocatable :: stream(:), copy(:)
     integer(c_int64_t) :: answer
     integer(c_size_t) :: length
@@ -153,6 +159,10 @@ program field
     call expect('and unpacked', answer == cells .and. all(patterns == back))
     answer = gwz_bound(32_c_int32_t, transfer(0.005_c_double, answer))
     call expect('the exponent of 0.005 is -8', gwz_exponent(answer) == -8)
+    answer = gwz_tolerance_code32(away, -2_c_int32_t, transfer(0.25, level), code)
+    call expect('half a bin away from zero', answer == 0 .and. code == 2)
+    answer = gwz_tolerance_code32(to_even, -2_c_int32_t, transfer(0.25, level), code)
+    call expect('and to even', answer == 0 .and. code == 0)
     print '(i0, a, i0, a, a)', cells, ' cells in ', length, ' bytes and back, version ', text_of(gwz_version())
     if (failures /= 0) error stop 1
 contains

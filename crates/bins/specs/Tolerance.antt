@@ -1,4 +1,4 @@
--- Document 01, "Tolerance code (mode 1)". W is the width and m the number of fraction bits.
+-- Document 01, "Tolerance code (mode 1)", with the two rules for halves of document 02, R-7. W is the width and m the number of fraction bits.
 -- "Distances are stated over whole numbers: finite values count in units of 2^-149 or 2^-1074." In that unit the bin E = 2^(k+1)
 -- is 2 ^ j with j = k + 150 (k + 1075), a natural number for every allowed k. The definitions use j, and k meets them at `binOf`.
 use Prim.Native.Nat.{ℕ, suc, _+_, _-_, _*_, _/_, _%_, _^_}
@@ -70,6 +70,7 @@ halfway a b = eqb ((2 * a + b) % (2 * b)) 0
 unfoldable pub knownHalves : ℕ → Bool
 knownHalves halves = leb halves 1
 
+-- a / b rounded by a rule; another number than 1 counts as 0, and `numbers` refuses it
 unfoldable pub nearest : ℕ → ℕ → ℕ → ℕ
 nearest halves a b = cond (eqb halves 1 && halfway a b) (upper a b - upper a b % 2) (upper a b)
 

@@ -53,8 +53,8 @@ pub fn clipped64(bin: u32) -> u64
     if bin < 2045 { bin as u64 } else { 2045 }
 }
 
-// The tolerance code of a binary32 pattern at a bin, by the rule for halves: 1 is to even, and any other number away from zero. The test is of the bin alone,
-// so that a loop over values can do it once.
+// The tolerance code of a binary32 pattern at a bin, by the rule for halves: 1 is to even, and any other number away from zero. Which way it is computed is told by the
+// bin alone, so that a loop over values can do that test once.
 pub fn code_at_bin32(halves: u32, bin: u32, p: u32) -> u32
     ensures { λ c. ⌜ c ≡ toleranceCode 32 23 halves (min bin (lastBin 32 23)) p ⌝ }
 {

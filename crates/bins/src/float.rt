@@ -28,7 +28,11 @@ fn near32(halves: u32, j: u32, o: u32) -> u32
     let r = q + 8388607.5;
     let t = r - 8388607.5;
     let next = f32::to_bits(r) - 0x4AFF_FFFF;
-    if q < f32::from_bits(f32::to_bits(t) + halves::odd32(halves, f32::to_bits(r) + 1)) { next - 1 } else { next }
+    if q < f32::from_bits(f32::to_bits(t) + halves::odd32(halves, f32::to_bits(r) + 1)) {
+        next - 1
+    } else {
+        next
+    }
 }
 
 fn near64(halves: u32, j: u64, o: u64) -> u64
@@ -39,7 +43,11 @@ fn near64(halves: u32, j: u64, o: u64) -> u64
     let r = q + 4503599627370495.5;
     let t = r - 4503599627370495.5;
     let next = f64::to_bits(r) - 0x432F_FFFF_FFFF_FFFF;
-    if q < f64::from_bits(f64::to_bits(t) + halves::odd64(halves, f64::to_bits(r) + 1)) { next - 1 } else { next }
+    if q < f64::from_bits(f64::to_bits(t) + halves::odd64(halves, f64::to_bits(r) + 1)) {
+        next - 1
+    } else {
+        next
+    }
 }
 
 // o where it is below t, and else nothing.

@@ -32,7 +32,7 @@ use Rattle.gwizdorad_numbers.proofs.Theorems.{a-refused-code-is-not-written, a-
 use Rattle.gwizdorad.specs.Result.{probeOut32, probeOut64}
 use Rattle.gwizdorad.specs.Demands.{Demand1, ComesBack, Packed, Demand2, Offered, ReadBack, given-back, too-new, Demand3, WithMinors, RightNeed, NotSkipped, SummaryBeside}
 use Rattle.gwizdorad.proofs.Theorems.{probe32-leaves-what-unpack-leaves, probe64-leaves-what-unpack-leaves}
-use Rattle.gwizdorad.proofs.Law.Demand.{coded-at, code-refused, pattern-refused, pattern-above, bound-detail, unknown-width, lossless-at, differences-at, within-at, nearest-at, rule-at, ruled-at, needs-13, bound-at, offered, is-sent, as-many, come-back}
+use Rattle.gwizdorad.proofs.Law.Demand.{coded-at, code-refused, pattern-refused, pattern-above, bound-detail, unknown-width, lossless-at, differences-at, within-at, nearest-at, beyond-at, signed-at, rule-at, minors-are, by-the-rule, needs-13, bound-at, offered, is-sent, as-many, come-back}
 
 pub demand-1 : Demand1
 unfolding probeOut32 probeOut64
@@ -69,8 +69,11 @@ pub demand-2 : Demand2
 demand-2 =
     record {
       layout = accepted-leaves;
+      minors = minors-are;
       rule = rule-at;
-      ruled = ruled-at;
+      ruled = λ W level k group vs s width patterns packed L n back done i below.
+          written-values W L s back n done .1 i below
+          ∙ by-the-rule W level 1 k group vs s width patterns packed refl i (omega (arith, counted W level 1 k group vs s width patterns packed L n back done));
       values = λ W level mode k group vs s width patterns packed L n back done.
           (counted W level mode k group vs s width patterns packed L n back done, unpacked W level mode k group vs s width patterns packed L n back done);
       probe32 = λ L s back n i old bytes done below.
@@ -82,6 +85,8 @@ demand-2 =
       coded = coded-at;
       within = within-at;
       nearest = nearest-at;
+      beyond = beyond-at;
+      signed = signed-at;
       bound = λ W t. bound-at t W;
     }
 

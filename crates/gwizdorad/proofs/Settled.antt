@@ -89,11 +89,11 @@ module _ (W m : ℕ) where
   pub gwz-lossless-restored-is-settled : (c r r′ : ℕ) → r ≡ losslessRestored W m c → r′ ≡ losslessRestored W m c → r ≡ r′
   gwz-lossless-restored-is-settled c r r′ = one
 
-  pub gwz-tolerance-code-is-settled : (k : ℤ) (p old r r′ now now′ : ℕ)
-      → Promised (codeResult (codeAnswer W m k p)) (codeOut (codeAnswer W m k p) old) r now
-      → Promised (codeResult (codeAnswer W m k p)) (codeOut (codeAnswer W m k p) old) r′ now′
+  pub gwz-tolerance-code-is-settled : (halves : ℕ) (k : ℤ) (p old r r′ now now′ : ℕ)
+      → Promised (codeResult (codeAnswer W m halves k p)) (codeOut (codeAnswer W m halves k p) old) r now
+      → Promised (codeResult (codeAnswer W m halves k p)) (codeOut (codeAnswer W m halves k p) old) r′ now′
       → (r ≡ r′) × (now ≡ now′)
-  gwz-tolerance-code-is-settled k p old r r′ now now′ = both
+  gwz-tolerance-code-is-settled halves k p old r r′ now now′ = both
 
   pub gwz-tolerance-restored-is-settled : (k : ℤ) (c old r r′ now now′ : ℕ)
       → Promised (patternResult (patternAnswer W m k c)) (patternOut (patternAnswer W m k c) old) r now

@@ -7,23 +7,23 @@
 -- reader's.
 use mathlib.Core.Path.{_≡_}
 use mathlib.Core.Logic.{_⊎_, _↔_}
-use mathlib.Core.Bool.{true, false}
+use mathlib.Core.Bool.{Bool, true, false}
 use mathlib.Core.List.{List, [], _∷_, _++_}
-use Prim.Native.Nat.{ℕ, suc, _+_, _-_, _*_, _/_, _^_, _≤_, _<_}
+use Prim.Native.Nat.{ℕ, suc, _+_, _-_, _*_, _/_, _%_, _^_, _≤_, _<_}
 use lib.IntN.{ℤ, pos}
 use lib.Ieee.{ofBits, nan}
 use lib.ListN.{length, take, drop, getD, replicate}
-use Rattle.bins.specs.Tolerance.{allowedK, binOf, ordinal, magnitude, threshold, toleranceCode, largestU}
+use Rattle.bins.specs.Tolerance.{allowedK, binOf, sign, ordinal, magnitude, threshold, thresholdOrdinal, toleranceCode, toleranceRestored, largestU}
 use Rattle.numbers.specs.Lossless.{losslessCode, losslessRestored}
 use Rattle.numbers.specs.Difference.{differenceCodes, runningSums}
 use Rattle.numbers.specs.Answers.{codeAnswer, codeNumber, patternAnswer, patternNumber}
 use Rattle.numbers.specs.Bound.{boundAnswer, boundNumber, boundDetail}
-use Rattle.numbers.specs.Theorem.{Nearest, Returned, BoundFor}
+use Rattle.numbers.specs.Theorem.{Reads, Nearest, Returned, BoundFor}
 use Rattle.numbers.specs.declared.bound.BoundAnswer.the-variants.{UnknownWidth}
 use Rattle.numbers.specs.declared.tolerance.CodeAnswer.the-variants as code
 use Rattle.numbers.specs.declared.tolerance.PatternAnswer.the-variants as pattern
 use Rattle.blocks.specs.Bytes.{Below}
-use Rattle.stream.specs.Setting.{knownLevel, knownWidth, fractionBits, losslessMode, allowedSetting, settingOf, halvesAt, settingAt, codeAt, need, streamNeed}
+use Rattle.stream.specs.Setting.{knownLevel, knownWidth, fractionBits, losslessMode, allowedSetting, settingOf, halvesAt, settingAt, need, streamNeed}
 use Rattle.stream.specs.Rows.{Decides, numbersOf}
 use Rattle.stream.specs.Header.{headerOf, chunksIn}
 use Rattle.stream.specs.Tables.{sideId, sidePlace, sideLength, idsIn, highId, someHigh, firstHigh}
@@ -134,10 +134,16 @@ pub record Demand2 : Type 0 where
   -- written level", which is part of the writer's setting (`settingAt`).
   pub layout : (W level mode : ℕ) (k : ℤ) (group : ℕ) (vs out : List ℕ) (size : ℕ) → packAnswer W level mode k group vs (length out) ≡ Done size
       → (size ≡ length (stream level (settingAt level W mode k group) vs)) × (packOut W level mode k group vs out ≡ stream level (settingAt level W mode k group) vs ++ drop size out)
-  -- "Writers at level 14 and later" send halves to even (1), "writers at 8 to 13 keep the old rule", away from zero (0)
+  -- "Pack at level L writes L as written minor and the exact need as needed minor"
+  pub minors : (W level mode : ℕ) (k : ℤ) (group : ℕ) (vs s : List ℕ) → knownWidth W ≡ true → Below (2 ^ W) vs → Packed W level mode k group vs s
+      → (headerOf s .written ≡ level) × (headerOf s .needed ≡ need (settingOf W mode k group))
+  -- "Writers at level 14 and later" send halves to even (1), "writers at 8 to 13 keep the old rule", away from zero (0); and in mode 1 what comes back is the pattern
+  -- of the code by the rule of the level that packed it
   pub rule : (level : ℕ) → (level < 14 → halvesAt level ≡ 0) × (14 ≤ level → halvesAt level ≡ 1)
-  pub ruled : (W level : ℕ) (k : ℤ) (group p : ℕ) → allowedSetting W 1 k group ≡ true → knownWidth W ≡ true
-      → codeAt (settingAt level W 1 k group) p ≡ toleranceCode W (fractionBits W) (halvesAt level) (binOf W (fractionBits W) k) p
+  pub ruled : (W level : ℕ) (k : ℤ) (group : ℕ) (vs s : List ℕ) → knownWidth W ≡ true → Below (2 ^ W) vs → Packed W level 1 k group vs s
+      → (L n : ℕ) (back : List ℕ) → unpackAnswer W L s (length back) ≡ Done n → (i : ℕ) → i < n
+      → getD (unpackOut W L s back) i 0
+      ≡ toleranceRestored W (fractionBits W) (binOf W (fractionBits W) k) (toleranceCode W (fractionBits W) (halvesAt level) (binOf W (fractionBits W) k) (getD vs i 0))
   -- what was packed and is unpacked, whatever the levels
   pub values : (W level mode : ℕ) (k : ℤ) (group : ℕ) (vs s : List ℕ) → knownWidth W ≡ true → Below (2 ^ W) vs → Packed W level mode k group vs s
       → (L n : ℕ) (back : List ℕ) → unpackAnswer W L s (length back) ≡ Done n
@@ -152,13 +158,20 @@ pub record Demand2 : Type 0 where
   pub lossless : (W p : ℕ) → knownWidth W ≡ true → p < 2 ^ W → losslessRestored W (fractionBits W) (losslessCode W (fractionBits W) p) ≡ p
   pub differences : (W before : ℕ) (ps : List ℕ) → knownWidth W ≡ true → before < 2 ^ W → Below (2 ^ W) ps
       → runningSums W before (differenceCodes W before ps) ≡ ps
-  pub coded : (W m halves : ℕ) (k : ℤ) (p : ℕ) → halves ≤ 1 → allowedK W m k ≡ true → codeAnswer W m halves k p ≡ code.Code (toleranceCode W m halves (binOf W m k) p)
+  pub coded : (W m halves : ℕ) (k : ℤ) (p old : ℕ) → halves ≤ 1 → allowedK W m k ≡ true
+      → (codeAnswer W m halves k p ≡ code.Code (toleranceCode W m halves (binOf W m k) p)) × (codeOut (codeAnswer W m halves k p) old ≡ toleranceCode W m halves (binOf W m k) p)
   pub within : (W halves : ℕ) (k : ℤ) (p c : ℕ) → knownWidth W ≡ true → p < 2 ^ W → codeAnswer W (fractionBits W) halves k p ≡ code.Code c
       → (q : ℕ) × (patternAnswer W (fractionBits W) k c ≡ pattern.Pattern q) × Returned (formatOf W) (binOf W (fractionBits W) k) p q
-  -- below the threshold the magnitude code is the number of bins nearest to the magnitude, and where a half goes is the rule (`Nearest`)
+  -- a number of size x below the threshold has as its magnitude code the number of bins nearest to x, and where a half goes is the rule (`Nearest`); from the
+  -- threshold on the code counts ordinals; and its lowest bit is the sign
   pub nearest : (W halves : ℕ) (k : ℤ) (p : ℕ) → knownWidth W ≡ true → p < 2 ^ W → allowedK W (fractionBits W) k ≡ true
-      → magnitude (fractionBits W) (ordinal W p) < threshold (fractionBits W) (binOf W (fractionBits W) k)
-      → Nearest halves (magnitude (fractionBits W) (ordinal W p)) (2 ^ binOf W (fractionBits W) k) (toleranceCode W (fractionBits W) halves (binOf W (fractionBits W) k) p / 2)
+      → (negative : Bool) (x : ℕ) → Reads (formatOf W) p negative x → x < threshold (fractionBits W) (binOf W (fractionBits W) k)
+      → Nearest halves x (2 ^ binOf W (fractionBits W) k) (toleranceCode W (fractionBits W) halves (binOf W (fractionBits W) k) p / 2)
+  pub beyond : (W halves : ℕ) (k : ℤ) (p : ℕ) → knownWidth W ≡ true → p < 2 ^ W → allowedK W (fractionBits W) k ≡ true
+      → threshold (fractionBits W) (binOf W (fractionBits W) k) ≤ magnitude (fractionBits W) (ordinal W p)
+      → toleranceCode W (fractionBits W) halves (binOf W (fractionBits W) k) p / 2 + thresholdOrdinal (fractionBits W) (binOf W (fractionBits W) k) ≡ ordinal W p + 2 ^ fractionBits W
+  pub signed : (W halves : ℕ) (k : ℤ) (p : ℕ) → knownWidth W ≡ true → p < 2 ^ W → allowedK W (fractionBits W) k ≡ true
+      → toleranceCode W (fractionBits W) halves (binOf W (fractionBits W) k) p % 2 ≡ sign W p
   pub bound : (W t : ℕ) → knownWidth W ≡ true → BoundFor W (fractionBits W) t (boundAnswer W t)
 
 -- ---- Demand 3: "Pack a list within the limit at level 8, 9 or 10, with a setting that level allows and enough room, and give the stream any

@@ -21,10 +21,10 @@ use Rattle.numbers.specs.Answers.{codeAnswer, patternAnswer}
 use Rattle.numbers.specs.Signed.{signedView}
 use Rattle.numbers.specs.Lossless.{field, stepped, losslessCode, unstepped, losslessRestored}
 use Rattle.numbers.specs.Difference.{differenceCode, differenceCodes, differenceRestored, runningSums, lastOf}
-use Rattle.bins.specs.Tolerance.{kOffset, lastBin, allowedK, binOf, knownHalves, sign, ordinal, magnitude, threshold, near, restoredOrdinal, toleranceCode, toleranceRestored, largestU}
+use Rattle.bins.specs.Tolerance.{kOffset, lastBin, allowedK, binOf, knownHalves, sign, ordinal, magnitude, threshold, thresholdOrdinal, near, restoredOrdinal, toleranceCode, toleranceRestored, largestU}
 use Rattle.bins.specs.Answers.{binAnswer}
 use Rattle.numbers.specs.Bound.{isTolerance, exponentOf, notAbove, boundAt}
-use Rattle.numbers.specs.Theorem.{Format, Nearest, distance, Within, IsBound, Returned, BoundFor}
+use Rattle.numbers.specs.Theorem.{Format, Reads, Nearest, distance, Within, IsBound, Returned, BoundFor}
 use Rattle.numbers.proofs.Law.Lossless as Lossless
 use Rattle.numbers.proofs.Law.Difference as Difference
 use Rattle.bins.proofs.Law.Tolerance as Tolerance
@@ -283,6 +283,17 @@ module _ (W m : ℕ) (format : Format W m) where
         let j = binOf W m k in
         rw (Tolerance.code-half W m (format .room) j an-allowed-k-has-a-bin rule p h, Tolerance.code-below m rule j (ordinal W p) l) (nearest-is rule (magnitude m (ordinal W p)) (2 ^ j) (pow-pos j))
 
+    -- from the threshold on it counts ordinals
+    pub the-code-beyond : (rule p : ℕ) → p < 2 ^ W → threshold m (binOf W m k) ≤ magnitude m (ordinal W p)
+        → toleranceCode W m rule (binOf W m k) p / 2 + thresholdOrdinal m (binOf W m k) ≡ ordinal W p + 2 ^ m
+    the-code-beyond rule p h l =
+        let j = binOf W m k in
+        rw (Tolerance.code-half W m (format .room) j an-allowed-k-has-a-bin rule p h, Tolerance.code-from m rule j (ordinal W p) l) (omega (arith, Tolerance.ordinal-from m j (ordinal W p) l))
+
+    -- and its lowest bit is the sign
+    pub the-code-has-the-sign : (rule p : ℕ) → p < 2 ^ W → toleranceCode W m rule (binOf W m k) p % 2 ≡ sign W p
+    the-code-has-the-sign = Tolerance.code-parity W m (format .room) (binOf W m k) an-allowed-k-has-a-bin
+
     -- so of the answers for a k: a pattern's code is restored within the tolerance
     pub a-code-is-restored : (rule p c : ℕ) → p < 2 ^ W → codeAnswer W m rule k p ≡ code.Code c
         → (q : ℕ) × (patternAnswer W m k c ≡ pattern.Pattern q) × Within W m (binOf W m k) p q
@@ -368,6 +379,15 @@ unfolding ordinal
 binary64-special = Ieee.special-value binary64
 
 -- ---- demand 2 and bound in the words of IEEE 754: what our magnitudes say, said of the numbers that patterns are read as
+
+-- what a pattern is read as has that magnitude
+pub binary32-magnitude : (p : ℕ) (negative : Bool) (x : ℕ) → Reads binary32 p negative x → x ≡ magnitude 23 (ordinal 32 p)
+unfolding ordinal
+binary32-magnitude p negative x reads = Read.read-as binary32 p negative x reads .1
+
+pub binary64-magnitude : (p : ℕ) (negative : Bool) (x : ℕ) → Reads binary64 p negative x → x ≡ magnitude 52 (ordinal 64 p)
+unfolding ordinal
+binary64-magnitude p negative x reads = Read.read-as binary64 p negative x reads .1
 
 pub binary32-returned : (j : ℕ) → j ≤ lastBin 32 23 → (p q : ℕ) → Within 32 23 j p q → Returned binary32 j p q
 binary32-returned = Read.returned binary32 32 refl refl (lit≤ tt)

@@ -7,11 +7,11 @@ use mathlib.Core.List.{List, [], _∷_, _++_, map}
 use Prim.Native.Nat.{ℕ, _+_, _-_, _*_, _/_, _^_, _≤_, _<_}
 use native.Mathlib.Omega.{arith}
 use borrow.Author.Tests.{eq-eqb, lt-ltb, le-ltb}
-use lib.Dec.{leb, ltb, eqb}
+use lib.Dec.{leb, ltb, eqb, lit<}
 use lib.IntN.{ℤ}
 use lib.ListN.{length, take, drop, getD}
 use lib.Seq.{take-at}
-use Rattle.bins.specs.Tolerance.{binOf, ordinal}
+use Rattle.bins.specs.Tolerance.{binOf, ordinal, toleranceCode, toleranceRestored}
 use Rattle.numbers.specs.Theorem.{Within}
 use Rattle.blocks.specs.Bytes.{Below}
 use Rattle.stream.specs.Setting.{knownLevel, knownWidth, fractionBits, losslessMode, binFor, settingOf, ruled, settingAt, need, streamNeed}
@@ -37,7 +37,7 @@ use Rattle.stream.proofs.Law.Written.Pieces.{end-most}
 use Rattle.stream.proofs.Law.Rows.Packing.{Passed, length-passed, rows-pass, room-enough, length-stream, length-done, pack-done}
 use Rattle.stream.proofs.Law.ReadBack.Readers.{same-need, rewritten, sided-sent, plain-sent, bytes-sent, header-words, header-read, setting-kept, layout-kept, chunk-table-kept, side-table-kept, ids-kept, chunks-kept, values-read, told-low, told-high, told-wrong, check-read, check-stop, unpack-read, unpack-stop, probe-read, probe-stop}
 use Rattle.stream.proofs.Law.Setting.Allowed.{level-small, group-size-is, size-cases, size-known, mode-allowed, mode-small, made-allowed, ruled-allowed, storable}
-use Rattle.stream.proofs.Law.ReadBack.Values.{lossless-back, length-back, tolerance-back, special-back}
+use Rattle.stream.proofs.Law.ReadBack.Values.{lossless-back, length-back, ruled-back, tolerance-back, special-back}
 
 -- Demand 1: a refused pack leaves its output as it was.
 pub refused-pack-untouched : (W level mode : ℕ) (k : ℤ) (size : ℕ) (vs out : List ℕ) (number detail : ℕ)
@@ -198,6 +198,11 @@ module _ (rule W level mode : ℕ) (k : ℤ) (size : ℕ) (vs : List ℕ) (p : P
         ≡ getD (1 ∷ level ∷ needed ∷ drop 3 (headerNumbers level (ruled rule (settingOf W mode k size)) (length vs) (length ps) (endOf (ruled rule (settingOf W mode k size)) vs (chunksIn (length vs))))) j 0
     the-header-is-read = header-words level (ruled rule (settingOf W mode k size)) vs (storable rule W level mode k size vs p) ps needed s sent
 
+    -- "Pack at level L writes L as written minor"
+    pub the-minors-are-read : (headerOf s .written ≡ level) × (headerOf s .needed ≡ needed)
+    unfolding headerOf
+    the-minors-are-read = (the-header-is-read 1 (lit< tt), the-header-is-read 2 (lit< tt))
+
     -- no rule of the refusals 8 (but for the needed minor's own), 9 and 10 is broken
     pub every-rule-is-kept :
         (need (settingOf W mode k size) ≤ needed → needed ≤ level → settingRight (headerOf s) ≡ true) × (layoutRight (length s) (headerOf s) ≡ true)
@@ -237,6 +242,13 @@ module _ (rule W level mode : ℕ) (k : ℤ) (size : ℕ) (vs : List ℕ) (p : P
     tolerance-values e i h = rw the-values-are-read
         (subst (λ (j : ℕ). Within W (fractionBits W) j (getD vs i 0) (getD (comingBack (ruled rule (settingOf W mode k size)) vs) i 0)) (bin-is e)
         (tolerance-back (ruled rule (settingOf W mode k size)) (ruled-allowed rule (settingOf W mode k size) (made-allowed W mode k size (p .width) (p .allowed))) vs (p .patterns) e i h))
+
+    -- and "the code is the rule's"
+    pub ruled-values : mode ≡ 1 → (i : ℕ) → i < length vs
+        → getD (values s) i 0 ≡ toleranceRestored W (fractionBits W) (binOf W (fractionBits W) k) (toleranceCode W (fractionBits W) rule (binOf W (fractionBits W) k) (getD vs i 0))
+    ruled-values e i h = rw the-values-are-read
+        (ruled-back (ruled rule (settingOf W mode k size)) (ruled-allowed rule (settingOf W mode k size) (made-allowed W mode k size (p .width) (p .allowed))) vs (p .patterns) e i h
+        ∙ ap (λ (j : ℕ). toleranceRestored W (fractionBits W) j (toleranceCode W (fractionBits W) rule j (getD vs i 0))) (bin-is e))
 
     -- "infinities and not-a-numbers too": their ordinals are those from the largest exponent on
     pub special-values : mode ≡ 1 → (i : ℕ) → i < length vs

@@ -54,7 +54,7 @@ allowedSetting W mode k size = allowedMode W mode k && knownSize size
 unfoldable pub binFor : ℕ → ℕ → ℤ → ℕ
 binFor W mode k = cond (eqb mode 1) (binOf W (fractionBits W) k) 0
 
--- as a reader has it: the rule for halves is the writer's alone, and stays 0
+-- as a reader has it, and for what does not depend on the rule for halves, which is 0 here whatever wrote the stream: no writer codes by this one
 abbrev pub settingOf : ℕ → ℕ → ℤ → ℕ → Setting
 settingOf W mode k size = record { width = W; mode = mode; bin = binFor W mode k; size = size; halves = 0 }
 

@@ -83,7 +83,7 @@ fn bin_for(width: usize, mode: usize, k: i32) -> u32
     }
 }
 
-// The one place where a setting is made, of a call's numbers or a header's. A reader has no use for the rule for halves.
+// Where a setting is made, of a call's numbers or a header's. A reader has no use for the rule for halves, and a writer gets it from `setting_at`.
 pub(crate) fn setting_of(width: usize, mode: usize, k: i32, size: usize) -> Setting
     requires { ⌜ (knownWidth width ≡ true) × (allowedSetting width mode k size ≡ true) ⌝ }
     ensures { λ r. ⌜ (r ≡ settingOf width mode k size) × Allowed r ⌝ }

@@ -3,7 +3,7 @@ use mathlib.Core.Path.{_≡_, refl, sym, ap, ap₂, _∙_, subst}
 use mathlib.Core.Logic.{_⊎_, inl, inr}
 use mathlib.Core.Bool.{Bool, true, false, _&&_, cond}
 use Prim.Native.Nat.{ℕ, suc, _+_, _-_, _*_, _/_, _%_, _≤_, _<_}
-use native.Mathlib.Nat.{mul-left-comm, mul-assoc, add-zero, add-mul, suc-mul, zero-mul, mul-pos, mod-lt, mod-le, div-add-mod', div-eq-of-lt, mul-lt-mul-of-pos-right, lt-of-lt-of-le, le-of-eq}
+use native.Mathlib.Nat.{mul-left-comm, mul-assoc, add-zero, add-mul, suc-mul, zero-mul, mul-pos, mod-lt, mod-le, div-add-mod', div-eq-of-lt, mul-lt-mul-of-pos-right, lt-of-lt-of-le, le-of-eq, le-div-iff-mul-le}
 use native.Mathlib.Omega.{arith}
 use borrow.Author.Tests.{eq-eqb, ne-eqb, eqb-true, eqb-false}
 use lib.Arith.{digits-div, digits-mod}
@@ -16,6 +16,13 @@ pub nearest-by : (rule a b u r : ℕ) → u * (2 * b) + r ≡ 2 * a + b → r < 
 unfolding nearest upper halfway
 nearest-by rule a b u r e l =
     ap₂ (λ (n k : ℕ). cond (eqb rule 1 && eqb k 0) (n - n % 2) n) (ap (λ (n : ℕ). n / (2 * b)) (sym e) ∙ digits-div u l) (ap (λ (n : ℕ). n % (2 * b)) (sym e) ∙ digits-mod u l)
+
+-- What it is, in full: not halfway, or halfway and the upper one, or halfway and the lower one.
+abbrev pub Found : ℕ → ℕ → ℕ → ℕ → Type 0
+Found rule a b n =
+    ((r : ℕ) × (n * (2 * b) + r ≡ 2 * a + b) × (0 < r) × (r < 2 * b))
+    ⊎ ((n * (2 * b) ≡ 2 * a + b) × (rule ≡ 1 → n % 2 ≡ 0))
+    ⊎ ((suc n * (2 * b) ≡ 2 * a + b) × (rule ≡ 1) × (n % 2 ≡ 0))
 
 module _ (rule a b : ℕ) (some : 0 < b) where
   abbrev u : ℕ
@@ -30,38 +37,45 @@ module _ (rule a b : ℕ) (some : 0 < b) where
   rest : r < 2 * b
   rest = mod-lt (2 * a + b) (omega arith)
 
-  -- It is the upper one, or that less 1: then the upper one is half of b too large.
-  abbrev Either : ℕ → Type 0
-  Either n = (n ≡ u) ⊎ ((suc n ≡ u) × (r ≡ 0))
-
-  either : Either (nearest rule a b)
-  either = subst Either (sym (nearest-by rule a b u r parts rest)) (go (eqb rule 1) (eqb r 0) refl)
+  pub nearest-found : Found rule a b (nearest rule a b)
+  nearest-found = subst (Found rule a b) (sym (nearest-by rule a b u r parts rest)) (go (eqb rule 1) refl (le-or-lt r 0) (le-or-lt (u % 2) 0))
     where
-      parity : r ≡ 0 → (u % 2 ≤ 0) ⊎ (0 < u % 2) → Either (u - u % 2)
-      parity z (inl e) = inl (omega arith)
-      parity z (inr e) = inr (omega arith, z)
+      whole : r ≤ 0 → u * (2 * b) ≡ 2 * a + b
+      whole z = omega (arith, parts)
 
-      go : (even half : Bool) → eqb r 0 ≡ half → Either (cond (even && half) (u - u % 2) u)
-      go true true e = parity (eqb-true r 0 e) (le-or-lt (u % 2) 0)
-      go true false e = inl refl
-      go false half e = inl refl
+      at : (even : Bool) → r ≤ 0 → cond (even && eqb r 0) (u - u % 2) u ≡ cond even (u - u % 2) u
+      at true z = ap (λ (half : Bool). cond half (u - u % 2) u) (eq-eqb r 0 (omega arith))
+      at false z = refl
+
+      off : (even : Bool) → 0 < r → cond (even && eqb r 0) (u - u % 2) u ≡ u
+      off true z = ap (λ (half : Bool). cond half (u - u % 2) u) (ne-eqb r 0 (λ (e : r ≡ 0). omega arith))
+      off false z = refl
+
+      go : (even : Bool) → eqb rule 1 ≡ even → (r ≤ 0) ⊎ (0 < r) → (u % 2 ≤ 0) ⊎ (0 < u % 2) → Found rule a b (cond (even && eqb r 0) (u - u % 2) u)
+      go even is (inr z) p = subst (Found rule a b) (sym (off even z)) (inl (r, parts, z, rest))
+      go true is (inl z) (inl p) = subst (Found rule a b) (sym (at true z)) (inr (inl (rw (let e : u - u % 2 ≡ u = omega arith in e) (whole z), λ _. rw (let e : u - u % 2 ≡ u = omega arith in e) (omega arith))))
+      go true is (inl z) (inr p) = subst (Found rule a b) (sym (at true z)) (inr (inr (rw (let e : suc (u - u % 2) ≡ u = omega arith in e) (whole z), eqb-true rule 1 is, omega arith)))
+      go false is (inl z) p = subst (Found rule a b) (sym (at false z)) (inr (inl (whole z, λ e. absurd (eqb-false rule 1 is e))))
 
   -- twice the distance between a and so many b is at most b
   pub nearest-close : (2 * a ≤ 2 * (nearest rule a b * b) + b) × (2 * (nearest rule a b * b) ≤ 2 * a + b)
-  nearest-close = go (nearest rule a b) either
+  nearest-close = go (nearest rule a b) nearest-found
     where
-      go : (n : ℕ) → Either n → (2 * a ≤ 2 * (n * b) + b) × (2 * (n * b) ≤ 2 * a + b)
-      go n (inl e) = let p : n * (2 * b) + r ≡ 2 * a + b = rw e parts in (omega (arith, p, rest, mul-left-comm n 2 b), omega (arith, p, mul-left-comm n 2 b))
-      go n (inr e) =
-          let p : suc n * (2 * b) + r ≡ 2 * a + b = rw (e .0) parts in
-          (omega (arith, p, e .1, suc-mul n (2 * b), mul-left-comm n 2 b), omega (arith, p, suc-mul n (2 * b), mul-left-comm n 2 b))
+      go : (n : ℕ) → Found rule a b n → (2 * a ≤ 2 * (n * b) + b) × (2 * (n * b) ≤ 2 * a + b)
+      go n (inl f) = (omega (arith, f .1, f .3, mul-left-comm n 2 b), omega (arith, f .1, mul-left-comm n 2 b))
+      go n (inr (inl f)) = (omega (arith, f .0, mul-left-comm n 2 b), omega (arith, f .0, mul-left-comm n 2 b))
+      go n (inr (inr f)) = (omega (arith, f .0, suc-mul n (2 * b), mul-left-comm n 2 b), omega (arith, f .0, suc-mul n (2 * b), mul-left-comm n 2 b))
 
   pub nearest-most : nearest rule a b ≤ u
-  nearest-most = go (nearest rule a b) either
+  nearest-most = go (nearest rule a b) nearest-found
     where
-      go : (n : ℕ) → Either n → n ≤ u
-      go n (inl e) = omega arith
-      go n (inr e) = omega (arith, e .0)
+      most : (n : ℕ) → n * (2 * b) ≤ 2 * a + b → n ≤ u
+      most n h = le-div-iff-mul-le (let e : 0 < 2 * b = omega arith in e) .1 h
+
+      go : (n : ℕ) → Found rule a b n → n ≤ u
+      go n (inl f) = most n (omega (arith, f .1))
+      go n (inr (inl f)) = most n (le-of-eq (f .0))
+      go n (inr (inr f)) = omega (arith, most (suc n) (le-of-eq (f .0)))
 
   -- less than a half is nearest to 0
   pub nearest-none : 2 * a < b → nearest rule a b ≡ 0
@@ -112,43 +126,3 @@ nearest-other rule a b u r e some l = sym (nearest-by rule a b u r e l ∙ rw (n
 -- u whole b are nearest to u
 pub nearest-exact : (rule b u : ℕ) → 0 < b → nearest rule (u * b) b ≡ u
 nearest-exact rule b u some = sym (nearest-other rule (u * b) b u b (ap (λ (n : ℕ). n + b) (mul-left-comm u 2 b)) some (omega arith))
-
--- ---- what it is, in full: not halfway, or halfway and the upper one, or halfway and the lower one
-
-abbrev pub Found : ℕ → ℕ → ℕ → ℕ → Type 0
-Found rule a b n =
-    ((r : ℕ) × (n * (2 * b) + r ≡ 2 * a + b) × (0 < r) × (r < 2 * b))
-    ⊎ ((n * (2 * b) ≡ 2 * a + b) × (rule ≡ 1 → n % 2 ≡ 0))
-    ⊎ ((suc n * (2 * b) ≡ 2 * a + b) × (rule ≡ 1) × (n % 2 ≡ 0))
-
-pub nearest-found : (rule a b : ℕ) → 0 < b → Found rule a b (nearest rule a b)
-nearest-found rule a b some = subst (Found rule a b) (sym (nearest-by rule a b u r parts rest)) (go (eqb rule 1) refl (le-or-lt r 0) (le-or-lt (u % 2) 0))
-  where
-    u : ℕ
-    u = (2 * a + b) / (2 * b)
-
-    r : ℕ
-    r = (2 * a + b) % (2 * b)
-
-    parts : u * (2 * b) + r ≡ 2 * a + b
-    parts = div-add-mod' (2 * a + b) (2 * b)
-
-    rest : r < 2 * b
-    rest = mod-lt (2 * a + b) (omega arith)
-
-    whole : r ≤ 0 → u * (2 * b) ≡ 2 * a + b
-    whole z = omega (arith, parts)
-
-    at : (even : Bool) → r ≤ 0 → cond (even && eqb r 0) (u - u % 2) u ≡ cond even (u - u % 2) u
-    at true z = ap (λ (half : Bool). cond half (u - u % 2) u) (eq-eqb r 0 (omega arith))
-    at false z = refl
-
-    off : (even : Bool) → 0 < r → cond (even && eqb r 0) (u - u % 2) u ≡ u
-    off true z = ap (λ (half : Bool). cond half (u - u % 2) u) (ne-eqb r 0 (λ (e : r ≡ 0). omega arith))
-    off false z = refl
-
-    go : (even : Bool) → eqb rule 1 ≡ even → (r ≤ 0) ⊎ (0 < r) → (u % 2 ≤ 0) ⊎ (0 < u % 2) → Found rule a b (cond (even && eqb r 0) (u - u % 2) u)
-    go even is (inr z) p = subst (Found rule a b) (sym (off even z)) (inl (r, parts, z, rest))
-    go true is (inl z) (inl p) = subst (Found rule a b) (sym (at true z)) (inr (inl (rw (let e : u - u % 2 ≡ u = omega arith in e) (whole z), λ _. rw (let e : u - u % 2 ≡ u = omega arith in e) (omega arith))))
-    go true is (inl z) (inr p) = subst (Found rule a b) (sym (at true z)) (inr (inr (rw (let e : suc (u - u % 2) ≡ u = omega arith in e) (whole z), eqb-true rule 1 is, omega arith)))
-    go false is (inl z) p = subst (Found rule a b) (sym (at false z)) (inr (inl (whole z, λ e. absurd (eqb-false rule 1 is e))))

@@ -257,7 +257,7 @@ module _ (m : ℕ) where
           ap (magnitude m) (restored-bins j u g ∙ ordinal-shifted u j z fits) ∙ magnitude-shifted u j z fits
 
   -- an ordinal's side of the threshold, from its magnitude's
-  ordinal-from : (j o : ℕ) → threshold m j ≤ magnitude m o → thresholdOrdinal m j ≤ o
+  pub ordinal-from : (j o : ℕ) → threshold m j ≤ magnitude m o → thresholdOrdinal m j ≤ o
   ordinal-from j o h = go (le-or-lt (thresholdOrdinal m j) o)
     where
       go : (thresholdOrdinal m j ≤ o) ⊎ (o < thresholdOrdinal m j) → thresholdOrdinal m j ≤ o
@@ -369,7 +369,7 @@ module _ (W m : ℕ) (room : m + 3 ≤ W) (j : ℕ) (allowed : j ≤ lastBin W m
   unfolding toleranceCode
   code-half rule p h = ap (λ (n : ℕ). (n + sign W p) / 2) (mul-comm 2 (magnitudeCode m rule j (ordinal W p))) ∙ digits-div (magnitudeCode m rule j (ordinal W p)) (sign-small p h)
 
-  code-parity : (rule p : ℕ) → p < 2 ^ W → toleranceCode W m rule j p % 2 ≡ sign W p
+  pub code-parity : (rule p : ℕ) → p < 2 ^ W → toleranceCode W m rule j p % 2 ≡ sign W p
   unfolding toleranceCode
   code-parity rule p h = ap (λ (n : ℕ). (n + sign W p) % 2) (mul-comm 2 (magnitudeCode m rule j (ordinal W p))) ∙ digits-mod (magnitudeCode m rule j (ordinal W p)) (sign-small p h)
 

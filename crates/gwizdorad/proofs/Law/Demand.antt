@@ -3,27 +3,28 @@ use mathlib.Core.Path.{_≡_, refl, sym, ap, subst, _∙_}
 use mathlib.Core.Logic.{_⊎_, inl, inr, _↔_}
 use mathlib.Core.Bool.{Bool, true, false, _&&_, cond}
 use mathlib.Core.List.{List, []}
-use Prim.Native.Nat.{ℕ, _+_, _*_, _/_, _^_, _≤_, _<_}
-use native.Mathlib.Nat.{min-eq-left, max-le}
+use Prim.Native.Nat.{ℕ, _+_, _*_, _/_, _%_, _^_, _≤_, _<_}
+use native.Mathlib.Nat.{max-le}
 use native.Mathlib.Omega.{arith}
 use borrow.Author.Tests.{leb-false, le-leb, lt-leb, eqb-true}
 use lib.Dec.{leb, eqb, lit≤}
 use lib.IntN.{ℤ, pos}
 use lib.ListN.{length, take, getD}
-use Rattle.bins.specs.Tolerance.{allowedK, binOf, knownHalves, ordinal, magnitude, threshold, toleranceCode, toleranceRestored, largestU}
+use Rattle.bins.specs.Tolerance.{allowedK, binOf, knownHalves, sign, ordinal, magnitude, threshold, thresholdOrdinal, toleranceCode, toleranceRestored, largestU}
 use Rattle.numbers.specs.Lossless.{losslessCode, losslessRestored}
 use Rattle.numbers.specs.Difference.{differenceCodes, runningSums}
 use Rattle.numbers.specs.Answers.{codeAnswer, patternAnswer}
 use Rattle.numbers.specs.Bound.{boundAnswer, boundNumber, boundDetail}
-use Rattle.numbers.specs.Theorem.{Format, Nearest, Within, Returned, BoundFor}
+use Rattle.numbers.specs.Theorem.{Format, Reads, Nearest, Within, Returned, BoundFor}
 use Rattle.numbers.specs.declared.bound.BoundAnswer.{BoundAnswer}
 use Rattle.numbers.specs.declared.bound.BoundAnswer.the-variants.{Exponent, UnknownWidth, NoTolerance, TooSmall}
 use Rattle.numbers.specs.declared.tolerance.CodeAnswer.the-variants as code
 use Rattle.numbers.specs.declared.tolerance.PatternAnswer.the-variants as pattern
-use Rattle.numbers.proofs.Theorems.{format-32, format-64, every-pattern-is-restored, every-list-is-restored, a-coded-k-is-allowed, an-allowed-k-has-a-bin, a-code-is-restored, the-code-is-the-nearest, binary32-returned, binary64-returned, bound-for-binary32, bound-for-binary64}
+use Rattle.numbers.proofs.Theorems.{format-32, format-64, every-pattern-is-restored, every-list-is-restored, a-coded-k-is-allowed, an-allowed-k-has-a-bin, a-code-is-restored, the-code-is-the-nearest, the-code-beyond, the-code-has-the-sign, binary32-magnitude, binary64-magnitude, binary32-returned, binary64-returned, bound-for-binary32, bound-for-binary64}
 use Rattle.blocks.specs.Bytes.{Below}
-use Rattle.stream.specs.Setting.{knownWidth, fractionBits, allowedMode, allowedSetting, binFor, settingOf, halvesAt, settingAt, clipped, codeAt, widthNeed, modeNeed, sizeNeed, need}
+use Rattle.stream.specs.Setting.{knownWidth, fractionBits, allowedMode, allowedSetting, settingOf, halvesAt, settingAt, widthNeed, modeNeed, sizeNeed, need}
 use Rattle.stream.specs.Tables.{someHigh}
+use Rattle.stream.specs.Header.{headerOf}
 use Rattle.stream.specs.Stream.{values}
 use Rattle.stream.specs.Writing.{Side, idsOf, WellFormedSides}
 use Rattle.stream.specs.Packing.{Packable, Sent}
@@ -31,8 +32,9 @@ use Rattle.stream.specs.Operations.{packAnswer, packOut}
 use Rattle.stream.specs.declared.answers.Answer.the-variants.{Done}
 use Rattle.stream.proofs.Law.Plain.Truth.{either, or-false}
 use Rattle.stream.proofs.Law.Setting.Allowed.{level-small, width-some, mode-allowed}
-use Rattle.stream.proofs.Written.{accepted-list, accepted-bytes, accepted-leaves, accepted-is-sent, the-plain-stream, as-many-values, lossless-values, tolerance-values}
+use Rattle.stream.proofs.Written.{accepted-list, accepted-bytes, accepted-leaves, accepted-is-sent, the-plain-stream, the-minors-are-read, as-many-values, lossless-values, tolerance-values, ruled-values}
 use Rattle.summary.specs.Theorem.{formatOf}
+use Rattle.gwizdorad_numbers.specs.Result.{codeOut}
 use Rattle.gwizdorad.specs.Demands.{ComesBack, Sided, plain, with-parts, Packed, Offered}
 
 -- ---- demand 2: a known width is 32 or 64
@@ -82,16 +84,33 @@ within-at W halves k p c width h e =
     let r = a-code-is-restored W (fractionBits W) (format-at W width) k allowed halves p c h e in
     (r .0, r .1, returned k p (r .0) W width allowed (r .2))
 
-pub nearest-at : (W halves : ℕ) (k : ℤ) (p : ℕ) → knownWidth W ≡ true → p < 2 ^ W → allowedK W (fractionBits W) k ≡ true
-    → magnitude (fractionBits W) (ordinal W p) < threshold (fractionBits W) (binOf W (fractionBits W) k)
-    → Nearest halves (magnitude (fractionBits W) (ordinal W p)) (2 ^ binOf W (fractionBits W) k) (toleranceCode W (fractionBits W) halves (binOf W (fractionBits W) k) p / 2)
-nearest-at W halves k p width h allowed l = the-code-is-the-nearest W (fractionBits W) (format-at W width) k allowed halves p h l
+-- what a pattern is read as
+magnitude-at : (p : ℕ) (negative : Bool) (x W : ℕ) → knownWidth W ≡ true → Reads (formatOf W) p negative x → x ≡ magnitude (fractionBits W) (ordinal W p)
+unfolding fractionBits formatOf
+magnitude-at p negative x =
+    of-a-width (λ (W : ℕ). Reads (formatOf W) p negative x → x ≡ magnitude (fractionBits W) (ordinal W p)) (binary32-magnitude p negative x) (binary64-magnitude p negative x)
+
+module _ (W halves : ℕ) (k : ℤ) (p : ℕ) (width : knownWidth W ≡ true) (small : p < 2 ^ W) (allowed : allowedK W (fractionBits W) k ≡ true) where
+  pub nearest-at : (negative : Bool) (x : ℕ) → Reads (formatOf W) p negative x → x < threshold (fractionBits W) (binOf W (fractionBits W) k)
+      → Nearest halves x (2 ^ binOf W (fractionBits W) k) (toleranceCode W (fractionBits W) halves (binOf W (fractionBits W) k) p / 2)
+  nearest-at negative x reads below =
+      let is = magnitude-at p negative x W width reads in
+      subst (λ (z : ℕ). Nearest halves z (2 ^ binOf W (fractionBits W) k) (toleranceCode W (fractionBits W) halves (binOf W (fractionBits W) k) p / 2)) (sym is)
+      (the-code-is-the-nearest W (fractionBits W) (format-at W width) k allowed halves p small (rw is at below))
+
+  pub beyond-at : threshold (fractionBits W) (binOf W (fractionBits W) k) ≤ magnitude (fractionBits W) (ordinal W p)
+      → toleranceCode W (fractionBits W) halves (binOf W (fractionBits W) k) p / 2 + thresholdOrdinal (fractionBits W) (binOf W (fractionBits W) k) ≡ ordinal W p + 2 ^ fractionBits W
+  beyond-at = the-code-beyond W (fractionBits W) (format-at W width) k allowed halves p small
+
+  pub signed-at : toleranceCode W (fractionBits W) halves (binOf W (fractionBits W) k) p % 2 ≡ sign W p
+  signed-at = the-code-has-the-sign W (fractionBits W) (format-at W width) k allowed halves p small
 
 -- when the number rules refuse
 module _ (W m halves : ℕ) (k : ℤ) (p : ℕ) where
-  pub coded-at : halves ≤ 1 → allowedK W m k ≡ true → codeAnswer W m halves k p ≡ code.Code (toleranceCode W m halves (binOf W m k) p)
-  unfolding codeAnswer knownHalves
-  coded-at known e = rw (le-leb halves 1 known, e)
+  pub coded-at : (old : ℕ) → halves ≤ 1 → allowedK W m k ≡ true
+      → (codeAnswer W m halves k p ≡ code.Code (toleranceCode W m halves (binOf W m k) p)) × (codeOut (codeAnswer W m halves k p) old ≡ toleranceCode W m halves (binOf W m k) p)
+  unfolding codeAnswer knownHalves codeOut
+  coded-at old known e = (rw (le-leb halves 1 known, e), rw (le-leb halves 1 known, e))
 
   pub code-refused : codeAnswer W m halves k p ≡ code.NotAllowed ↔ (1 < halves) ⊎ (allowedK W m k ≡ false)
   unfolding codeAnswer knownHalves
@@ -100,10 +119,9 @@ module _ (W m halves : ℕ) (k : ℤ) (p : ℕ) where
       go : (a : Bool) → leb halves 1 ≡ a → (b : Bool) → allowedK W m k ≡ b → codeAnswer W m halves k p ≡ code.NotAllowed → (1 < halves) ⊎ (allowedK W m k ≡ false)
       go false known b is e = inl (leb-false halves 1 known)
       go true known false is e = inr is
-      go true known true is e = absurd (no-code (rw (known, is) at e))
-        where
-          no-code : {c : ℕ} → code.Code c ≡ code.NotAllowed → ⊥
-          no-code {c} z = let q : 0 ≡ 1 = cc in omega arith
+      go true known true is e =
+          let z : code.Code (toleranceCode W m halves (binOf W m k) p) ≡ code.NotAllowed = rw (known, is) at e in
+          inr (let none : allowedK W m k ≡ false = cc in none)
 
       back : (1 < halves) ⊎ (allowedK W m k ≡ false) → codeAnswer W m halves k p ≡ code.NotAllowed
       back (inl unknown) = rw (lt-leb halves 1 unknown)
@@ -172,13 +190,6 @@ pub rule-at : (level : ℕ) → (level < 14 → halvesAt level ≡ 0) × (14 ≤
 unfolding halvesAt
 rule-at level = (λ h. rw (lt-leb 14 level h), λ h. rw (le-leb 14 level h))
 
-pub ruled-at : (W level : ℕ) (k : ℤ) (group p : ℕ) → allowedSetting W 1 k group ≡ true → knownWidth W ≡ true
-    → codeAt (settingAt level W 1 k group) p ≡ toleranceCode W (fractionBits W) (halvesAt level) (binOf W (fractionBits W) k) p
-unfolding codeAt clipped binFor
-ruled-at W level k group p allowed width =
-    ap (λ (j : ℕ). toleranceCode W (fractionBits W) (halvesAt level) j p)
-    (min-eq-left (an-allowed-k-has-a-bin W (fractionBits W) (format-at W width) k (allowed-in-mode-1 W 1 k group refl allowed)))
-
 pub needs-13 : (W mode : ℕ) (k : ℤ) (group : ℕ) → need (settingOf W mode k group) ≤ 13
 unfolding need widthNeed modeNeed sizeNeed
 needs-13 W mode k group = max-le (max-le (one (eqb W 64) 10 8 (lit≤ tt) (lit≤ tt)) (one (eqb mode 1) 9 (cond (eqb mode 2) 11 8) (lit≤ tt) (one (eqb mode 2) 11 8 (lit≤ tt) (lit≤ tt)))) (one (eqb group 128) 13 8 (lit≤ tt) (lit≤ tt))
@@ -225,3 +236,10 @@ module _ (W level mode : ℕ) (k : ℤ) (group : ℕ) (vs s : List ℕ) (width :
         lossless = λ e. ap (λ (l : List ℕ). getD l i 0) (lossless-values (halvesAt level) W level mode k group vs packable (is-sent .0) (need (settingOf W mode k group)) s (is-sent .2) e);
         within = λ e. returned k (getD vs i 0) (getD (values s) i 0) W width (allowed-in-mode-1 W mode k group e (packable .allowed)) (tolerance-values (halvesAt level) W level mode k group vs packable (is-sent .0) (need (settingOf W mode k group)) s (is-sent .2) e i below);
       }
+
+  pub minors-are : (headerOf s .written ≡ level) × (headerOf s .needed ≡ need (settingOf W mode k group))
+  minors-are = the-minors-are-read (halvesAt level) W level mode k group vs packable (is-sent .0) (need (settingOf W mode k group)) s (is-sent .2)
+
+  pub by-the-rule : mode ≡ 1 → (i : ℕ) → i < length vs
+      → getD (values s) i 0 ≡ toleranceRestored W (fractionBits W) (binOf W (fractionBits W) k) (toleranceCode W (fractionBits W) (halvesAt level) (binOf W (fractionBits W) k) (getD vs i 0))
+  by-the-rule e i below = ruled-values (halvesAt level) W level mode k group vs packable (is-sent .0) (need (settingOf W mode k group)) s (is-sent .2) e i below

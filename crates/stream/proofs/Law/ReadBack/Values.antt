@@ -98,6 +98,10 @@ module _ (t : Setting) (allowed : Allowed t) (vs : List ℕ) (below : Below (2 ^
       unfolding codeAt patternAt
       restored-at = rw each-back (rw (map-at (patternAt t) (map (codeAt t) vs) i (rw (length-map vs (codeAt t)) h), map-at (codeAt t) vs i h) (rw (bin-is, lossy)))
 
+      -- the code is that of the setting's rule for halves
+      pub ruled-back : getD (comingBack t vs) i 0 ≡ toleranceRestored W m (t .bin) (toleranceCode W m (t .halves) (t .bin) (getD vs i 0))
+      ruled-back = restored-at ∙ ap (λ (j : ℕ). toleranceRestored W m j (toleranceCode W m (t .halves) j (getD vs i 0))) (the-bin-of-its-k W m format (t .bin))
+
       pub tolerance-back : Within W m (t .bin) (getD vs i 0) (getD (comingBack t vs) i 0)
       tolerance-back =
           subst (λ (j : ℕ). Within W m j (getD vs i 0) (getD (comingBack t vs) i 0)) (the-bin-of-its-k W m format (t .bin))
