@@ -23,12 +23,16 @@ import reader  # noqa: E402  its folder has to be named first
 from caller import Caller  # noqa: E402
 
 # Width, mode, k, group size, and the levels that write it.
-SETTINGS = [(32, 0, 0, 32, (8, 9, 10, 11, 12, 13)), (32, 1, -8, 32, (9, 10, 11, 12, 13)), (64, 0, 0, 32, (10, 11, 12, 13)),
-            (64, 1, -8, 32, (10, 11, 12, 13)), (32, 2, 0, 32, (11, 12, 13)), (64, 2, 0, 32, (11, 12, 13))]
-SETTINGS += [(width, mode, k, 128, (13,)) for width, mode, k, _, _ in SETTINGS]
+SETTINGS = [(32, 0, 0, 32, (8, 9, 10, 11, 12, 13, 14)), (32, 1, -8, 32, (9, 10, 11, 12, 13, 14)), (64, 0, 0, 32, (10, 11, 12, 13, 14)),
+            (64, 1, -8, 32, (10, 11, 12, 13, 14)), (32, 2, 0, 32, (11, 12, 13, 14)), (64, 2, 0, 32, (11, 12, 13, 14))]
+SETTINGS += [(width, mode, k, 128, (13, 14)) for width, mode, k, _, _ in SETTINGS]
 FULLY_128 = [(32, 0), (64, 1)]  # width and mode: in groups of 128 these have all kinds of streams, the others less of what is alike
 LIMITS = [(32, 1, -150, 32, 9), (32, 1, 103, 32, 9), (64, 1, -1075, 32, 10), (64, 1, 970, 32, 10)]
 LIMITS += [(width, mode, k, 128, 13) for width, mode, k, _, _ in LIMITS]
+# Width, k, group size, and the levels that write lists of halves: the oldest, the last that sends them away from zero, and the first that
+# sends them to even. The smallest k has no halves; the one after it is here.
+HALVES = [(32, -8, 32, (9, 13, 14)), (64, -8, 32, (10, 13, 14)), (32, -8, 128, (13, 14)), (64, -8, 128, (13, 14))]
+HALVES_AT_LIMITS = [(32, -149, 32, (13, 14)), (32, 103, 32, (13, 14)), (64, -1074, 32, (13, 14)), (64, 970, 32, (13, 14))]
 
 # The places of the header's numbers.
 MAJOR, WRITTEN, NEEDED, WIDTH, MODE, K, COUNT, CHUNKS, TABLE, START, SIDES, END = range(0, 48, 4)
@@ -104,6 +108,33 @@ def thirty_three(width):
 def rough(width, count):
     """Water with a dry cell as its last value, which widens the group that holds it: it shows where the groups begin."""
     return [water(width, i) for i in range(count - 1)] + [dry(width, 2)]
+
+
+def multiple(width, k, number):
+    """The pattern of a number of 2^k."""
+    return reader.ordinal_of_multiple(reader.FRACTION_BITS[width], k + reader.BIN_OFFSET[width] - 1, number)
+
+
+def halves(width, k):
+    """Two chunks of halves, each some bins of 2^(k+1) and half of one. Stretches of 128 by turns: of no bin, and in the middle of the list of up
+    to 3, so that groups have more bits by one rule than by the other; of a gauge that counts in steps of 2^k; around powers of two, as far as
+    the threshold; and with what is just below and above a half. With both signs. And two dry cells."""
+    _, _, sign = parts_of(width)
+    most, values = 1 << reader.FRACTION_BITS[width], []
+    for i in range(LONG):
+        stretch = i // 128 % 4
+        bins = [i // 512 % 2 * (i % 4), 200 + i % 7 * (i % 11), max((most >> i % 29) - 1 - i % 3, 0), i % 32][stretch]
+        beside = i % 3 - 1 if stretch == 3 else 0
+        negative = (i // 64 if stretch == 0 else i // 3) % 2
+        values.append(multiple(width, k, 2 * bins + 1) + beside + negative * sign)
+    values[700], values[-1] = dry(width, 0), dry(width, 3)
+    return values
+
+
+def quarters(width):
+    """0.25, -0.75, 4194303.75 and -1.25: halves of k = -2."""
+    _, _, sign = parts_of(width)
+    return [multiple(width, -2, 1), sign + multiple(width, -2, 3), multiple(width, -2, 2**24 - 1), sign + multiple(width, -2, 5)]
 
 
 def exponents(width):
@@ -242,6 +273,12 @@ def written(library):
         yield f"32-lossless-groups-of-128-{n}-zeros-by-13", packed(library, 32, 0, 0, 128, 13, [0] * n)
     for width, mode, k, size, level in LIMITS:
         yield f"{setting_name(width, mode, k, size)}-field-by-{level}", packed(library, width, mode, k, size, level, field(width))
+    for width, k, size, levels in HALVES + HALVES_AT_LIMITS:
+        for level in levels:
+            yield f"{setting_name(width, 1, k, size)}-halves-by-{level}", packed(library, width, 1, k, size, level, halves(width, k))
+    for width, _, size, levels in HALVES:
+        for level in levels:
+            yield f"{setting_name(width, 1, -2, size)}-quarters-by-{level}", packed(library, width, 1, -2, size, level, quarters(width))
 
 
 TWO_SIDES = [(1, b"Gdynia"), (9, b"")]
@@ -252,13 +289,17 @@ def edited(streams):
     """What a reader has to take besides: side parts, and a writer of a later level."""
     for name in ("32-lossless-33-by-8", "32-within-k-8-calm-by-9", "64-lossless-33-by-10", "64-within-k-8-empty-by-10",
                  "32-differences-resting-by-11", "64-differences-33-by-11", "32-lossless-groups-of-128-129-by-13",
-                 "64-within-k-8-groups-of-128-calm-by-13", "32-differences-groups-of-128-resting-by-13"):
+                 "64-within-k-8-groups-of-128-calm-by-13", "32-differences-groups-of-128-resting-by-13", "32-within-k-8-halves-by-14"):
         yield f"{name}-2-sides", with_sides(streams[name], TWO_SIDES)
     yield "32-lossless-33-by-8-64-sides", with_sides(streams["32-lossless-33-by-8"], MANY_SIDES)
     yield "32-lossless-33-by-8-written-4294967295", with_number(streams["32-lossless-33-by-8"], WRITTEN, 2**32 - 1)
     yield "64-within-k-8-33-by-10-written-11", with_number(streams["64-within-k-8-33-by-10"], WRITTEN, 11)
     yield "64-differences-33-by-11-written-12", with_number(streams["64-differences-33-by-11"], WRITTEN, 12)
     yield "32-lossless-groups-of-128-129-by-13-written-14", with_number(streams["32-lossless-groups-of-128-129-by-13"], WRITTEN, 14)
+    # The written minor does not tell a reader how halves were rounded: the values are those of the codes.
+    for name, level in (("32-within-k-8-halves-by-14", 9), ("32-within-k-8-halves-by-13", 14), ("64-within-k-8-halves-by-14", 15),
+                        ("32-within-k-8-groups-of-128-halves-by-14", 13), ("64-within-k-8-groups-of-128-halves-by-13", 14)):
+        yield f"{name}-written-{level}", with_number(streams[name], WRITTEN, level)
 
 
 def resized(streams):
@@ -276,7 +317,8 @@ def resized(streams):
 
 def later(streams):
     """What levels to come may write, as far as it concerns the levels of its day: it needs more than each of them. (The
-    streams that need 11 are from before level 11, which reads no such setting.)"""
+    streams that need 11 are from before level 11, which reads no such setting; those that need 14 are from before level 14,
+    which nothing needs.)"""
     data = with_number(with_number(streams["32-lossless-33-by-8"], WRITTEN, 11), NEEDED, 11)
     yield "32-lossless-33-need-11", data
     yield "32-lossless-33-need-11-cut-to-48", data[:48]
@@ -290,6 +332,11 @@ def later(streams):
     yield "64-differences-groups-of-128-33-need-14", data
     yield "64-differences-groups-of-128-33-need-14-cut-to-48", data[:48]
     yield "64-differences-groups-of-128-33-need-14-width-16-mode-514", with_number(with_number(data, WIDTH, 16), MODE, 514)
+    data = needing(streams["32-within-k-8-groups-of-128-33-by-14"], 15)
+    yield "32-within-k-8-groups-of-128-33-need-15", data
+    yield "32-within-k-8-groups-of-128-33-need-15-cut-to-48", data[:48]
+    yield "32-within-k-8-groups-of-128-33-need-15-width-16", with_number(data, WIDTH, 16)
+    yield "32-lossless-33-need-15-mode-3", with_number(needing(streams["32-lossless-33-by-14"], 15), MODE, 3)
 
 
 HIGH = 2**31    # the first id that must be understood
@@ -354,6 +401,8 @@ def summarised(library, streams):
         name = setting_name(width, mode, k, size)
         names += [f"{name}-33-by-{level}" for level in levels]
         names += [f"{name}-{what}-by-{levels[0]}" for what in ("empty", "one", "field", "calm", "edges")]
+    names += [f"{setting_name(width, 1, k, size)}-halves-by-{level}" for width, k, size, levels in HALVES + HALVES_AT_LIMITS for level in levels]
+    names += [f"{setting_name(width, 1, -2, size)}-quarters-by-{level}" for width, _, size, levels in HALVES for level in levels]
     names += ["32-differences-resting-by-11", "64-differences-resting-by-11"]
     for name in names + ["32-differences-groups-of-128-resting-by-13", "32-lossless-groups-of-128-1025-zeros-by-13"]:
         data = streams[name]
@@ -426,6 +475,28 @@ def beside(streams):
     # The value 0 is the largest, and the value 8 neither that nor the smallest.
     yield f"{name}-largest-altered", with_group(data, 0, 0, w, [codes[1]] + codes[1:])
     yield f"{name}-between-altered", with_group(data, 0, 0, w, codes[:8] + [codes[7]] + codes[9:])
+
+
+# ---- a need that nothing has
+
+def unneeded(streams):
+    """A need of 14 in what level 14 wrote, of every setting; and beside a written minor that is too small, low and high ids, a summary, and a
+    broken header, chunk table, side table and chunk. And a need of 15."""
+    for width, mode, k, size, _ in SETTINGS:
+        name = f"{setting_name(width, mode, k, size)}-33-by-14"
+        yield f"{name}-need-14", needing(streams[name], 14)
+    for name in ("32-within-k-8-halves-by-14", "64-within-k-8-groups-of-128-halves-by-14"):
+        data = needing(streams[name], 14)
+        yield f"{name}-need-14", data
+        yield f"{name}-need-14-written-13", with_number(data, WRITTEN, 13)
+        yield f"{name}-need-14-low-ids", with_sides(data, LOW_SIDES)
+        yield f"{name}-need-14-high-ids", with_sides(data, HIGH_SIDES)
+        yield f"{name}-need-14-k1000", with_number(data, K, 1000)
+        yield f"{name}-need-14-first-start-1", with_number(data, 48, 1)
+        yield f"{name}-need-14-added-byte", data + bytes(1)
+        yield f"{name}-need-14-w-255", with_byte(data, number_at(data, START), 255)
+        yield f"{name}-need-15", needing(streams[name], 15)
+        yield f"{name}-summary-need-14", needing(streams[f"{name}-summary"], 14)
 
 
 # Numbers of the header that are not those of the setting, or not those of 33 values: in groups of 32, and in groups of 128.
@@ -583,7 +654,7 @@ def main():
     folder, streams, status = pathlib.Path(sys.argv[1]), {}, 0
     with Caller(sys.argv[2:]) as library:
         for some in (written(library), edited(streams), resized(streams), later(streams), guarded(streams), damaged(streams),
-                     summarised(library, streams), beside(streams)):
+                     summarised(library, streams), beside(streams), unneeded(streams)):
             for name, data in some:
                 streams[name] = data
                 status |= not keep(folder / f"{name}.gwz", data)

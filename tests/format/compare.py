@@ -24,6 +24,7 @@ from caller import Caller  # noqa: E402  the folder has to be named first
 
 HEADER_WORDS = 12
 LEVEL = reader.LEVELS[-1]
+BOTH_RULES = (reader.EVEN_LEVEL - 1, LEVEL)   # levels that write every setting, one by each rule for halves
 INTERESTING = [0, 1, 2, 3, 7, 8, 9, 10, 11, 12, 13, 14, 15, 31, 32, 33, 48, 52, 63, 64, 65, 128, 255, 256, 257, 258, 259, 512, 1023,
                1024, 1025, 1048576, 1048577, 2**31 - 1, 2**31, 2**32 - 2, 2**32 - 1]
 
@@ -52,7 +53,7 @@ def other_setting(pick, width, mode, k):
 
 
 def some_level(pick):
-    return pick.choice([*reader.LEVELS] + [LEVEL] * 5 + [pick.choice([0, 7, LEVEL + 1, 2**32 - 1])])
+    return pick.choice([*reader.LEVELS] + [*BOTH_RULES] * 3 + [pick.choice([0, 7, LEVEL + 1, 2**32 - 1])])
 
 
 def special_patterns(width):
@@ -324,7 +325,7 @@ def calls_of_chunks(pick, library):
     width, mode, k, size = some_setting(pick)
     n = pick.choice([1024, 1025, 2048, pick.randrange(1, 1024), pick.randrange(1, 3072), size * pick.randrange(1, 3072 // size)])
     values = list(itertools.islice(itertools.cycle(some_values(pick, width, k) or [0]), n))
-    packing = ("pack", width, LEVEL, mode, k, size, values, 2**15)
+    packing = ("pack", width, pick.choice(BOTH_RULES), mode, k, size, values, 2**15)
     data = damaged_within(pick, width, library.pack(*packing[1:])[2])
     if pick.random() < 0.2:
         data = with_sides(pick, data)
