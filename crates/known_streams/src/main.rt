@@ -1,4 +1,4 @@
-// The known values of document 01 that concern streams, and some of mode 2 and of groups of 128 (document 02, R-2 and R-6), run through the operations; `stdout` beside this folder has what they should be.
+// The known values of document 01 that concern streams, and some of mode 2, of groups of 128 and of halves (document 02, R-2, R-6 and R-7), run through the operations; `stdout` beside this folder has what they should be.
 use libc::STDOUT_FILENO;
 use stream::answers::Answer;
 use stream::answers::Probe32;
