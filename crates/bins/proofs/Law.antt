@@ -10,5 +10,6 @@ pub mod Answers
 pub mod Ieee
 pub mod Float
 pub mod Round
+pub mod Even
 pub mod Near
 pub mod Far

@@ -54,14 +54,16 @@ pub fn clipped64(bin: u32) -> u64
 }
 
 // The tolerance code of a binary32 pattern at a bin, by the rule for halves: 1 is to even, and any other number away from zero. Which way it is computed is told by the
-// bin alone, so that a loop over values can do that test once.
+// bin, the rule and the machine alone, so that a loop over values can do these tests once: whole numbers at the lowest bins, and where floats would need a machine
+// that rounds to nearest and it does not.
 pub fn code_at_bin32(halves: u32, bin: u32, p: u32) -> u32
     ensures { λ c. ⌜ c ≡ toleranceCode 32 23 halves (min bin (lastBin 32 23)) p ⌝ }
 {
-    if bin < float::FIRST32 {
-        return whole::code32(halves, bin, p);
+    let j = clipped32(bin);
+    if (bin < float::FIRST32) | ((halves == 1) & !float::to_nearest(j)) {
+        return whole::code32(halves, j, p);
     }
-    float::code32(halves, clipped32(bin), p)
+    float::code32(halves, j, p)
 }
 
 pub fn code_at_bin64(halves: u32, bin: u32, p: u64) -> u64

@@ -1,9 +1,10 @@
 // The tolerance code by float operations that are exact, or whose rounding cannot be seen, at the bins j from 24 (53) on. What is promised is
 // whole numbers, as at the lower bins. Which side of T a pattern is on is told by ordinals, so that no infinity and no not-a-number is ever
 // computed with. No branch depends on a value: a compiler does several values side by side.
-// The proofs are of round to nearest. The forms are meant to give a caller who rounds another way, or has subnormals taken for zero, the same
-// codes and patterns (from these bins on E and half of it are normal floats, and a subnormal is nearest to no bin): tests/c/rounding.c tries it.
-ghost use mathlib.Core.Bool.{cond};
+// The proofs are of round to nearest. A caller who rounds another way, or has subnormals taken for zero, is meant to get the same codes and patterns: all forms
+// but one give them whichever way the machine rounds (from these bins on E and half of it are normal floats, and a subnormal is nearest to no bin), and that one,
+// `even32`, is left where the machine does not round to nearest (`to_nearest`). No proof says that; tests/c/rounding.c tries it.
+ghost use mathlib.Core.Bool.{cond, true};
 ghost use mathlib.Core.Path.{_≡_};
 ghost use Prim.Native.Nat.{_*_, _^_, _≤_, _<_};
 ghost use lib.Dec.{ltb};
@@ -16,25 +17,51 @@ pub(crate) const FIRST32: u32 = 24;
 
 pub(crate) const FIRST64: u32 = 53;
 
-// The bins nearest to an ordinal below that of T. q = |v| / E is exact, or so small that it is nearest to 0. Its sum r with 2^23 - 1/2 is
+// Whether the machine rounds to nearest, as the proofs take for granted: the sums with a quarter and with three quarters of a unit fall apart then, and by no
+// other way of rounding. j is there so that no compiler knows the answer beforehand.
+pub(crate) fn to_nearest(j: u32) -> bool
+    requires { ⌜ j ≤ lastBin 32 23 ⌝ }
+    ensures { λ r. ⌜ r ≡ true ⌝ }
+{
+    let whole = f32::from_bits(0x4B00_0000 + j);
+    whole + 0.25 < whole + 0.75
+}
+
+// The bins nearest to an ordinal below that of T, a half away from zero. q = |v| / E is exact, or so small that it is nearest to 0. Its sum r with 2^23 - 1/2 is
 // one of two neighbours, whichever way the machine rounds. t, what r has grown by, is exact, so that q < t tells which one it is.
-// q = t is the half. Where that is to go down from an odd `next`, q is compared with the float behind t: no other q lies between the two. (`next` is odd where
-// the pattern of r is even, which is the shorter way to tell.)
-fn near32(halves: u32, j: u32, o: u32) -> u32
+fn away32(j: u32, o: u32) -> u32
     requires { ⌜ (o < thresholdOrdinal 23 j) × (24 ≤ j) × (j ≤ lastBin 32 23) ⌝ }
-    ensures { λ u. ⌜ u ≡ near halves j (magnitude 23 o) ⌝ }
+    ensures { λ u. ⌜ u ≡ near 0 j (magnitude 23 o) ⌝ }
 {
     let q = f32::from_bits(o) * f32::from_bits((276 - j) * 0x0080_0000);
     let r = q + 8388607.5;
     let t = r - 8388607.5;
     let next = f32::to_bits(r) - 0x4AFF_FFFF;
-    if q < f32::from_bits(f32::to_bits(t) + halves::odd32(halves, f32::to_bits(r) + 1)) {
-        next - 1
-    } else {
-        next
-    }
+    if q < t { next - 1 } else { next }
 }
 
+// The same, a half to even: that is what a sum with 2^23 does by itself, where the machine rounds to nearest.
+fn even32(j: u32, o: u32) -> u32
+    requires { ⌜ (o < thresholdOrdinal 23 j) × (24 ≤ j) × (j ≤ lastBin 32 23) ⌝ }
+    ensures { λ u. ⌜ u ≡ near 1 j (magnitude 23 o) ⌝ }
+{
+    let q = f32::from_bits(o) * f32::from_bits((276 - j) * 0x0080_0000);
+    f32::to_bits(q + 8388608.0) - 0x4B00_0000
+}
+
+fn near32(halves: u32, j: u32, o: u32) -> u32
+    requires { ⌜ (o < thresholdOrdinal 23 j) × (24 ≤ j) × (j ≤ lastBin 32 23) ⌝ }
+    ensures { λ u. ⌜ u ≡ near halves j (magnitude 23 o) ⌝ }
+{
+    if halves == 1 {
+        return even32(j, o);
+    }
+    away32(j, o)
+}
+
+// At width 64 one form does both, whichever way the machine rounds (a loop over values that asked for the way would be too long for its place). q = t is the half. Where that is to go down
+// from an odd `next`, q is compared with the float behind t: no other q lies between the two. (`next` is odd where the pattern of r is even, which is the shorter
+// way to tell.)
 fn near64(halves: u32, j: u64, o: u64) -> u64
     requires { ⌜ (o < thresholdOrdinal 52 j) × (53 ≤ j) × (j ≤ lastBin 64 52) ⌝ }
     ensures { λ u. ⌜ u ≡ near halves j (magnitude 52 o) ⌝ }

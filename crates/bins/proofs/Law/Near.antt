@@ -1,4 +1,4 @@
--- |v| / E as a product of floats, once over the formats: exact, or so small that it rounds to no bin.
+-- |v| / E as a product of floats, once over the formats: exact, or so small that it rounds to no bin; and the bins nearest, by a sum with it.
 use mathlib.Core.Path.{_≡_, refl, sym, ap, _∙_, subst}
 use mathlib.Core.Logic.{_⊎_, inl, inr}
 use mathlib.Core.Bool.{Bool, true, false, not, cond}
@@ -8,10 +8,10 @@ use native.Mathlib.Omega.{arith}
 use lib.Dec.{T, eqb, leb, leb→le, not-T, lit<, lit≤}
 use lib.Pow.{pow-pos, pow-add, pow-mono, pow-lt, shl-lt}
 use lib.Ieee.{Float, Format, binary32, binary64, prec, emax, low, hid, ones, top, size, round, mul, add, sub, lt, ofBits, toBits, isNan, nanBits}
-use lib.Ieee.Bits.{is-false, nanBits-is}
+use lib.Ieee.Bits.{is-false, nanBits-is, ofBits-toBits}
 use lib.Ieee.Digits.{size-le}
 use lib.Ieee.Exact.{HasValue, round-exact}
-use lib.Ieee.Fits.{nearest-le, mul-fits}
+use lib.Ieee.Fits.{nearest-le, mul-fits, sub-fits}
 use lib.Ieee.Nearest.{closest}
 use lib.Ieee.Scale.{round-same, grid, round-val}
 use Rattle.bins.specs.Tolerance.{magnitude, significand, thresholdOrdinal, threshold, nearest, near}
@@ -19,6 +19,7 @@ use Rattle.bins.proofs.Law.Number.{le-or-lt}
 use Rattle.bins.proofs.Law.Nearest.{over, over-small, nearest-none}
 use Rattle.bins.proofs.Law.Float.{led, no-nan, mul-values, bin-value, bin-no-nan}
 use Rattle.bins.proofs.Law.Round.{Settled, settled}
+use Rattle.bins.proofs.Law.Even.{even-no-nan, even-bits}
 use Rattle.bins.proofs.Law.Tolerance.{below-threshold, significand-plain, significand-led}
 use Rattle.bins.proofs.Law.Ieee.{ordinal-value}
 
@@ -241,3 +242,41 @@ module _ {f : Format} {j o F : ℕ} (k : Asked f j o F) where
           next-is
           ∙ sym (by .if-above rule (subst (λ (n : ℕ). T (not (lt q (ofBits f (grown + n))))) d-is (subst (λ (b : Bool). T (not b)) (sym t) tt)))
           ∙ q-is .bins rule
+
+    -- away from zero nothing is added to the pattern of t, and the test is against t itself
+    abbrev away : Bool
+    away = lt q (sub f (add f q y) y)
+
+    as-tested : away ≡ lt q (ofBits f (grown + 0))
+    as-tested =
+        ap (lt q)
+        (sym (ap (ofBits f) (let e : grown + 0 ≡ grown = omega arith in e) ∙ ofBits-toBits f (sub f (add f q y) y) (sub-fits f (add f q y) y)))
+
+    pub some-away : away ≡ true → 1 ≤ sum - base
+    some-away t = some-below 0 0 refl (sym as-tested ∙ t)
+
+    pub away-below : away ≡ true → sum - base - 1 ≡ near 0 j (magnitude (prec f - 1) o)
+    away-below t = near-below 0 0 refl (sym as-tested ∙ t)
+
+    pub away-above : away ≡ false → sum - base ≡ near 0 j (magnitude (prec f - 1) o)
+    away-above t = near-above 0 0 refl (sym as-tested ∙ t)
+
+  -- What it knows of them by a sum with 2 ^ m, which sends a half to even by itself.
+  module _ (y : Float) (Y : HasValue y false (2 ^ (prec f - 1)) 1) where
+    pub even-number : T (not (isNan (add f q y)))
+    even-number = even-no-nan f (q-is .a) (q-is .c) (q-is .some) (q-is .under) q y (q-is .value) Y
+
+    even-sum : toBits f (add f q y) ≡ low f * 2 ^ (prec f - 1) + 2 ^ (prec f - 1) + nearest 1 (q-is .a) (q-is .c)
+    even-sum = even-bits f (q-is .a) (q-is .c) (q-is .some) (q-is .under) q y (q-is .value) Y
+
+    pub even-from : low f * 2 ^ (prec f - 1) + 2 ^ (prec f - 1) ≤ toBits f (add f q y)
+    even-from = omega (arith, even-sum)
+
+    pub even-near : toBits f (add f q y) - (low f * 2 ^ (prec f - 1) + 2 ^ (prec f - 1)) ≡ near 1 j (magnitude (prec f - 1) o)
+    even-near =
+        (let e : toBits f (add f q y) - (low f * 2 ^ (prec f - 1) + 2 ^ (prec f - 1)) ≡ nearest 1 (q-is .a) (q-is .c) = omega (arith, even-sum) in e) ∙ q-is .bins 1
+
+-- the rule that is none of the known ones is that of 0
+pub near-away : (rule j x : ℕ) → eqb rule 1 ≡ false → near 0 j x ≡ near rule j x
+unfolding near nearest
+near-away rule j x e = rw e refl

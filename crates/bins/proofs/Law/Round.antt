@@ -44,13 +44,13 @@ add-values f (fin s m e) (fin t n g) a c b d C D h k =
     (add-cross (m * up e) c a (down e) (n * up g) d b (down g) (h .1) (k .1))
 
 -- a difference of two numbers of c-ths
-pub sub-values : (f : Format) (x y : Float) (a b c : ℕ) → 0 < c → b ≤ a → HasValue x false a c → HasValue y false b c → sub f x y ≡ round f false (a - b) c
+pub suwhole-iss : (f : Format) (x y : Float) (a b c : ℕ) → 0 < c → b ≤ a → HasValue x false a c → HasValue y false b c → sub f x y ≡ round f false (a - b) c
 unfolding sub add neg sum
-sub-values f nan y a b c D l h k = absurd h
-sub-values f (inf s) y a b c D l h k = absurd h
-sub-values f (fin s m e) nan a b c D l h k = absurd k
-sub-values f (fin s m e) (inf t) a b c D l h k = absurd k
-sub-values f (fin s m e) (fin t n g) a b c D l h k =
+suwhole-iss f nan y a b c D l h k = absurd h
+suwhole-iss f (inf s) y a b c D l h k = absurd h
+suwhole-iss f (fin s m e) nan a b c D l h k = absurd k
+suwhole-iss f (fin s m e) (inf t) a b c D l h k = absurd k
+suwhole-iss f (fin s m e) (fin t n g) a b c D l h k =
     let C = down e * down g in
     let p = m * up e * down g in
     let q = n * up g * down e in
@@ -126,12 +126,12 @@ on-grid f x a c F X = (o % top f, go (le-or-lt (ones f) (o % top f / hid f)))
 
 -- ---- the nearest whole number is at most a half away
 
-abbrev Cmp : Ordering → ℕ → ℕ → Type 0
+abbrev pub Cmp : Ordering → ℕ → ℕ → Type 0
 Cmp Ordering·lt a b = a < b
 Cmp Ordering·eq a b = a ≡ b
 Cmp Ordering·gt a b = b < a
 
-cmp : (a b : ℕ) → Cmp (compare a b) a b
+pub cmp : (a b : ℕ) → Cmp (compare a b) a b
 cmp a b = go (compare a b) (leb→le a b) (nleb→lt a b) (eqb→eq a b) (λ (e : a ≡ b). subst (λ (x : ℕ). T (eqb a x)) e (eqb-refl a))
   where
     go : (o : Ordering) → (T (isLe o) → a ≤ b) → (T (not (isLe o)) → b < a) → (T (isEq o) → a ≡ b) → (a ≡ b → T (isEq o)) → Cmp o a b
@@ -172,7 +172,7 @@ module _ (f : Format) (n c i : ℕ) (C : 0 < c) where
   D : 0 < d
   D = mul-pos C (pow-pos i)
 
-  twice : 2 ^ prec f ≡ 2 ^ m + 2 ^ m
+  pub twice : 2 ^ prec f ≡ 2 ^ m + 2 ^ m
   twice = ap (λ (p : ℕ). 2 ^ p) (sym (led f)) ∙ two-pow-succ m
 
   module _ (lo : 2 ^ m * d ≤ n * 2 ^ l) (hi : n * 2 ^ l < 2 ^ prec f * d) where
@@ -228,7 +228,7 @@ module _ (f : Format) (n c i : ℕ) (C : 0 < c) where
 
 -- ---- whole numbers as floats, from their digits
 
-value-cancel : (x : Float) (k d b : ℕ) → 0 < b → HasValue x false (k * b) (d * b) → HasValue x false k d
+pub value-cancel : (x : Float) (k d b : ℕ) → 0 < b → HasValue x false (k * b) (d * b) → HasValue x false k d
 value-cancel nan k d b B h = h
 value-cancel (inf s) k d b B h = h
 value-cancel (fin s m e) k d b B h = (h .0, eq-of-mul-eq-mul-right b B (m * up e * d) (k * down e) (mul-assoc (m * up e) d b ∙ h .1 ∙ mul-right-comm k b (down e)))
@@ -250,8 +250,8 @@ module _ (f : Format) (u : ℕ) (small : u < 2 ^ (prec f - 1)) where
       (le-trans (mul-le-mul-right (2 ^ (prec f - 1)) (let e : suc (suc (low f)) ≤ suc (ones f) = omega (arith, middle f) in e)) (le-of-eq (mul-comm (suc (ones f)) (2 ^ (prec f - 1)))))
 
   -- u without a gap below 2 ^ m, as the digits of 2 ^ m + u
-  b-value : HasValue (ofBits f b) false (2 ^ (prec f - 1) + u) 1
-  b-value =
+  pub whole-is : HasValue (ofBits f b) false (2 ^ (prec f - 1) + u) 1
+  whole-is =
       value-cancel (ofBits f b) (2 ^ (prec f - 1) + u) 1 (2 ^ low f) (pow-pos (low f))
       (subst (λ (z : ℕ). HasValue (ofBits f b) false ((2 ^ (prec f - 1) + u) * 2 ^ low f) z) (sym (one-mul (2 ^ low f)))
       (subst (λ (z : Bool). HasValue (ofBits f b) z ((2 ^ (prec f - 1) + u) * 2 ^ low f) (2 ^ low f)) (is-false (leb (top f) b) (not-T (leb (top f) b) (λ (v : T (leb (top f) b)). omega (arith, leb→le (top f) b v, b-top))))
@@ -264,12 +264,12 @@ module _ (f : Format) (u : ℕ) (small : u < 2 ^ (prec f - 1)) where
           ∙ magnitude-at (prec f - 1) (low f) (2 ^ (prec f - 1) + u) (omega arith) (inr (let e : 2 ^ (prec f - 1) ≤ 2 ^ (prec f - 1) + u = omega arith in e))
 
   pub digits-no-nan : T (not (nanBits f b))
-  digits-no-nan = subst (λ (z : Bool). T (not z)) (sym (nanBits-is f b)) (no-nan (ofBits f b) false (2 ^ (prec f - 1) + u) 1 b-value)
+  digits-no-nan = subst (λ (z : Bool). T (not z)) (sym (nanBits-is f b)) (no-nan (ofBits f b) false (2 ^ (prec f - 1) + u) 1 whole-is)
 
   pub digits-value : (y : Float) → HasValue y false (2 ^ (prec f - 1)) 1 → HasValue (sub f (ofBits f b) y) false u 1
   digits-value y Y =
       subst (λ (z : Float). HasValue z false u 1)
-      (sym (sub-values f (ofBits f b) y (2 ^ (prec f - 1) + u) (2 ^ (prec f - 1)) 1 (lit< tt) (let e : 2 ^ (prec f - 1) ≤ 2 ^ (prec f - 1) + u = omega arith in e) b-value Y
+      (sym (suwhole-iss f (ofBits f b) y (2 ^ (prec f - 1) + u) (2 ^ (prec f - 1)) 1 (lit< tt) (let e : 2 ^ (prec f - 1) ≤ 2 ^ (prec f - 1) + u = omega arith in e) whole-is Y
       ∙ ap (λ (z : ℕ). round f false z 1) (let e : 2 ^ (prec f - 1) + u - 2 ^ (prec f - 1) ≡ u = omega arith in e)))
       (round-whole f false u (let e : u ≤ 2 ^ prec f = le-trans (le-of-lt small) (pow-mono (let q : prec f - 1 ≤ prec f = omega arith in q)) in e))
 
@@ -329,7 +329,7 @@ module _ (f : Format) (a c : ℕ) (C : 0 < c) (under : a < 2 ^ (prec f - 1) * c)
   module _ (J : ℕ) (least : M ≤ J) (few : J - M < 2 ^ prec f) (R : HasValue r false J 2) where
     t-value : HasValue (sub f r y) false (J - M) 2
     t-value =
-        subst (λ (v : Float). HasValue v false (J - M) 2) (sym (sub-values f r y J M 2 (lit< tt) least R Y))
+        subst (λ (v : Float). HasValue v false (J - M) 2) (sym (suwhole-iss f r y J M 2 (lit< tt) least R Y))
         (round-exact f false (J - M) 2 (J - M) (low f - 1) (lit< tt) few (lt-of-lt-of-le (shl-lt (prec f) (low f - 1) few) (pow-mono (room f)))
         (ap (λ (v : ℕ). (J - M) * v) (half-low f) ∙ sym (mul-assoc (J - M) (2 ^ (low f - 1)) 2)))
 
