@@ -5,7 +5,8 @@
  *
  * Each group has a byte for the width of its codes, and all its codes are as wide as the widest. In calm water the codes within a tolerance have
  * few bits or none, and these bytes are a visible share of the file: groups of 128 have a quarter as many. But one rough value widens 128 codes in place
- * of 32. And a reader of level 12 or below refuses groups of 128. So: ask who reads the file, then ask gwz_length.
+ * of 32. And a reader of level 12 or below refuses groups of 128. So: pack in both sizes (gwz_length tells the bytes alone), and ask gwz_check, at the level
+ * of the oldest reader, whether it takes the smaller stream.
  */
 #include "gwizdorad.h"
 
@@ -45,30 +46,21 @@ static uint32_t cell_at(int row, int column, int rough)
 
 /* ---- The choice */
 
-/* The bytes of the field in groups of a size, at the level of the oldest reader; 0 where that level has no such groups. */
-static uint32_t bytes_in(uint32_t level, uint32_t group, const uint32_t *cells)
+/* The smaller of the streams in groups of 32 and of 128 that the oldest reader takes, by its group size. */
+static uint32_t group_for(uint32_t oldest, uint8_t streams[2][LONGEST], const uint32_t *bytes)
 {
-    uint64_t result = gwz_length32(level, GWZ_WITHIN_TOLERANCE, K, group, cells, CELLS);
-    return gwz_refusal(result) == GWZ_NOT_ALLOWED && group == GWZ_GROUPS_OF_128 ? 0 : not_refused("length", result);
-}
-
-/* The smaller size of those that the oldest reader takes. */
-static uint32_t group_for(uint32_t level, const uint32_t *cells)
-{
-    uint32_t large = bytes_in(level, GWZ_GROUPS_OF_128, cells);
-    return large != 0 && large < bytes_in(level, GWZ_GROUPS_OF_32, cells) ? GWZ_GROUPS_OF_128 : GWZ_GROUPS_OF_32;
+    int taken = gwz_refusal(gwz_check(oldest, streams[1], bytes[1])) == GWZ_DONE;
+    return taken && bytes[1] < bytes[0] ? GWZ_GROUPS_OF_128 : GWZ_GROUPS_OF_32;
 }
 
 /* ---- Both sizes, beside each other */
 
-/* Packs the field and reads it back. Returns the bytes, with the level that a reader needs, which is the number at the place 8 of the header. */
-static uint32_t packed_in(uint32_t group, const uint32_t *cells, uint32_t *back, unsigned *need)
+/* Packs the field and reads it back. Returns the bytes. */
+static uint32_t packed_in(uint32_t group, const uint32_t *cells, uint8_t *stream, uint32_t *back)
 {
-    static uint8_t stream[LONGEST];
     uint64_t result = gwz_pack32(GWZ_HIGHEST_LEVEL, GWZ_WITHIN_TOLERANCE, K, group, cells, CELLS, stream, LONGEST);
     uint32_t length = not_refused("pack", result);
     not_refused("unpack", gwz_unpack32(GWZ_HIGHEST_LEVEL, stream, length, back, CELLS));
-    *need = stream[8];
     return length;
 }
 
@@ -76,14 +68,15 @@ static void compare_sizes(const char *what, int rough)
 {
     static const uint32_t sizes[2] = {GWZ_GROUPS_OF_32, GWZ_GROUPS_OF_128};
     static uint32_t cells[CELLS], back[2][CELLS];
+    static uint8_t streams[2][LONGEST];
     uint32_t bytes[2];
-    unsigned need;
     for (int i = 0; i < CELLS; i++)
         cells[i] = cell_at(i / COLUMNS, i % COLUMNS, rough);
     printf("%s: %d values, %d bytes raw, within 2^%d m/s\n", what, (int)CELLS, (int)RAW_BYTES, (int)K);
     for (int i = 0; i < 2; i++) {
         uint32_t width_bytes = (CELLS + sizes[i] - 1) / sizes[i]; /* one for each group */
-        bytes[i] = packed_in(sizes[i], cells, back[i], &need);
+        bytes[i] = packed_in(sizes[i], cells, streams[i], back[i]);
+        unsigned need = streams[i][8]; /* the place of the level that a reader needs */
         printf("  groups of %3lu: %5lu bytes, of which %3lu are width bytes, %4.1f %%; for readers from level %u on\n", (unsigned long)sizes[i],
                (unsigned long)bytes[i], (unsigned long)width_bytes, 100.0 * width_bytes / bytes[i], need);
     }
@@ -91,7 +84,7 @@ static void compare_sizes(const char *what, int rough)
     if (memcmp(back[0], back[1], sizeof back[0]) != 0)
         stop("comparing", "a value depends on the group size");
     printf("  to be chosen: groups of %lu if every reader is of level 13 or later, and of %lu if one is of level 12\n",
-           (unsigned long)group_for(GWZ_LEVEL_13, cells), (unsigned long)group_for(GWZ_LEVEL_12, cells));
+           (unsigned long)group_for(GWZ_LEVEL_13, streams, bytes), (unsigned long)group_for(GWZ_LEVEL_12, streams, bytes));
 }
 
 int main(void)

@@ -62,7 +62,7 @@
  * which is 2^31, may be skipped: every reader does, that of the summary too. An id from there up says that the values must not
  * be used by who does not understand it, as where a part holds a datum shift. NONE IS DEFINED YET, so at every level such a
  * stream is refused. Who adds such a part also raises the needed minor to 12 if it is below that (in groups of 128 it is 13), and
- * the written one if it is below the needed (docs/FORMAT.md has the bytes): then readers of this library refuse the stream by 7
+ * the written one to the needed if it is below that, and no higher (docs/FORMAT.md has the bytes): then readers of this library refuse the stream by 7
  * below the need and by 15, with the first such id, from it on; and older ones, which knew no such ids, by 7 too. Where the need
  * had to be raised and was not (in groups of 32), a reader that reaches it refuses the stream by 8 in this library, and skips
  * the part in releases before 0.10.0.
@@ -95,8 +95,9 @@ extern "C" {
  *
  * Nothing needs level 14: what a writer does there is read by each level that reads the same setting written at an older one. Within
  * a tolerance it sends halves to even (GWZ_HALVES_TO_EVEN); at the levels 8 to 13 they go away from zero. It is the level told to
- * gwz_pack that decides. Who compares files with older ones byte for byte writes at the older level and names it, as
- * GWZ_LEVEL_13: GWZ_HIGHEST_LEVEL moves on with the release.
+ * gwz_pack that decides, and the stream notes it at the place 4. Who compares files with older ones byte for byte writes at the
+ * older level and names it, as GWZ_LEVEL_13: GWZ_HIGHEST_LEVEL, and what gwz_highest_level answers, move on with the release.
+ * Who writes for an older reader asks gwz_check at that reader's level whether it takes the stream: 7 names the level it needs.
  */
 enum gwz_level {
     GWZ_LEVEL_8 = 8,   /* width 32, GWZ_LOSSLESS */

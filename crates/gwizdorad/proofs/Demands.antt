@@ -32,7 +32,7 @@ use Rattle.gwizdorad_numbers.proofs.Theorems.{a-refused-code-is-not-written, a-
 use Rattle.gwizdorad.specs.Result.{probeOut32, probeOut64}
 use Rattle.gwizdorad.specs.Demands.{Demand1, ComesBack, Packed, Demand2, Offered, ReadBack, given-back, too-new, Demand3, WithMinors, RightNeed, NotSkipped, SummaryBeside}
 use Rattle.gwizdorad.proofs.Theorems.{probe32-leaves-what-unpack-leaves, probe64-leaves-what-unpack-leaves}
-use Rattle.gwizdorad.proofs.Law.Demand.{coded-at, code-refused, pattern-refused, pattern-above, bound-detail, unknown-width, lossless-at, differences-at, within-at, nearest-at, beyond-at, signed-at, rule-at, minors-are, by-the-rule, needs-13, bound-at, offered, is-sent, as-many, come-back}
+use Rattle.gwizdorad.proofs.Law.Demand.{coded-at, decoded-at, code-refused, pattern-refused, pattern-above, bound-detail, unknown-width, lossless-at, differences-at, within-at, nearest-at, beyond-at, signed-at, restored-at, rule-at, alike-at, minors-are, by-the-rule, levels-at, needs-at, raised-at, needs-13, bound-at, offered, is-sent, as-many, come-back}
 
 pub demand-1 : Demand1
 unfolding probeOut32 probeOut64
@@ -74,6 +74,7 @@ demand-2 =
       ruled = λ W level k group vs s width patterns packed L n back done i below.
           written-values W L s back n done .1 i below
           ∙ by-the-rule W level 1 k group vs s width patterns packed refl i (omega (arith, counted W level 1 k group vs s width patterns packed L n back done));
+      alike = alike-at;
       values = λ W level mode k group vs s width patterns packed L n back done.
           (counted W level mode k group vs s width patterns packed L n back done, unpacked W level mode k group vs s width patterns packed L n back done);
       probe32 = λ L s back n i old bytes done below.
@@ -83,10 +84,12 @@ demand-2 =
       lossless = λ W p. lossless-at p W;
       differences = differences-at;
       coded = coded-at;
+      decoded = decoded-at;
       within = within-at;
       nearest = nearest-at;
       beyond = beyond-at;
       signed = signed-at;
+      restored = restored-at;
       bound = λ W t. bound-at t W;
     }
 
@@ -113,6 +116,7 @@ pub demand-3 : Demand3
 unfolding groupsIn
 demand-3 =
     record {
+      levels = levels-at;
       takes = accepted-setting;
       packs = λ W level mode k group vs o.
           let p = offered W level mode k group vs o in (
@@ -121,6 +125,7 @@ demand-3 =
             packed-length-bound W level mode k group vs p,
             λ out room. the-stream-is-packed W level mode k group vs p (o .known) out room .0,
           );
+      needs = needs-at;
       unneeded = needs-13;
       reads = read-back;
       higher = λ level level′ s low l known. (
@@ -185,6 +190,7 @@ pub not-skipped : NotSkipped
 not-skipped =
     record {
       high = the-high-ids;
+      raised = raised-at;
       packed = λ W level mode k group vs parts written needed s width patterns m L known. (
         older W level mode k group vs parts written needed s width patterns m L known,
         wrong W level mode k group vs parts written needed s width patterns m L known,

@@ -7,9 +7,9 @@
 -- reader's.
 use mathlib.Core.Path.{_≡_}
 use mathlib.Core.Logic.{_⊎_, _↔_}
-use mathlib.Core.Bool.{Bool, true, false}
+use mathlib.Core.Bool.{Bool, true, false, cond}
 use mathlib.Core.List.{List, [], _∷_, _++_}
-use Prim.Native.Nat.{ℕ, suc, _+_, _-_, _*_, _/_, _%_, _^_, _≤_, _<_}
+use Prim.Native.Nat.{ℕ, suc, _+_, _-_, _*_, _/_, _%_, _^_, _≤_, _<_, max}
 use lib.IntN.{ℤ, pos}
 use lib.Ieee.{ofBits, nan}
 use lib.ListN.{length, take, drop, getD, replicate}
@@ -144,6 +144,10 @@ pub record Demand2 : Type 0 where
       → (L n : ℕ) (back : List ℕ) → unpackAnswer W L s (length back) ≡ Done n → (i : ℕ) → i < n
       → getD (unpackOut W L s back) i 0
       ≡ toleranceRestored W (fractionBits W) (binOf W (fractionBits W) k) (toleranceCode W (fractionBits W) (halvesAt level) (binOf W (fractionBits W) k) (getD vs i 0))
+  -- "writers at 8 to 13 keep the old rule for clients who compare files": where two levels code alike, in the modes that lose nothing or by the same rule, their
+  -- streams of a list differ in the written minor alone, which stands at 4
+  pub alike : (W level level′ mode : ℕ) (k : ℤ) (group : ℕ) (vs : List ℕ) → (losslessMode mode ≡ true) ⊎ (halvesAt level ≡ halvesAt level′)
+      → stream level′ (settingAt level′ W mode k group) vs ≡ placed 4 level′ (stream level (settingAt level W mode k group) vs)
   -- what was packed and is unpacked, whatever the levels
   pub values : (W level mode : ℕ) (k : ℤ) (group : ℕ) (vs s : List ℕ) → knownWidth W ≡ true → Below (2 ^ W) vs → Packed W level mode k group vs s
       → (L n : ℕ) (back : List ℕ) → unpackAnswer W L s (length back) ≡ Done n
@@ -160,6 +164,8 @@ pub record Demand2 : Type 0 where
       → runningSums W before (differenceCodes W before ps) ≡ ps
   pub coded : (W m halves : ℕ) (k : ℤ) (p old : ℕ) → halves ≤ 1 → allowedK W m k ≡ true
       → (codeAnswer W m halves k p ≡ code.Code (toleranceCode W m halves (binOf W m k) p)) × (codeOut (codeAnswer W m halves k p) old ≡ toleranceCode W m halves (binOf W m k) p)
+  pub decoded : (W m : ℕ) (k : ℤ) (c old : ℕ) → allowedK W m k ≡ true → c / 2 ≤ largestU W m (binOf W m k)
+      → (patternAnswer W m k c ≡ pattern.Pattern (toleranceRestored W m (binOf W m k) c)) × (patternOut (patternAnswer W m k c) old ≡ toleranceRestored W m (binOf W m k) c)
   pub within : (W halves : ℕ) (k : ℤ) (p c : ℕ) → knownWidth W ≡ true → p < 2 ^ W → codeAnswer W (fractionBits W) halves k p ≡ code.Code c
       → (q : ℕ) × (patternAnswer W (fractionBits W) k c ≡ pattern.Pattern q) × Returned (formatOf W) (binOf W (fractionBits W) k) p q
   -- a number of size x below the threshold has as its magnitude code the number of bins nearest to x, and where a half goes is the rule (`Nearest`); from the
@@ -172,6 +178,14 @@ pub record Demand2 : Type 0 where
       → toleranceCode W (fractionBits W) halves (binOf W (fractionBits W) k) p / 2 + thresholdOrdinal (fractionBits W) (binOf W (fractionBits W) k) ≡ ordinal W p + 2 ^ fractionBits W
   pub signed : (W halves : ℕ) (k : ℤ) (p : ℕ) → knownWidth W ≡ true → p < 2 ^ W → allowedK W (fractionBits W) k ≡ true
       → toleranceCode W (fractionBits W) halves (binOf W (fractionBits W) k) p % 2 ≡ sign W p
+  -- "Restored: u·E if u < 2^m, else the ordinal u - 2^m + ordinal of T; the sign is put back, so -0 can appear": the pattern q of the code 2u + sign, up to the
+  -- largest u. E is 2 ^ j of the units that `Reads` counts in.
+  pub restored : (W : ℕ) (k : ℤ) (u : ℕ) (negative : Bool) → knownWidth W ≡ true → allowedK W (fractionBits W) k ≡ true
+      → let m = fractionBits W in
+      let j = binOf W m k in
+      let q = toleranceRestored W m j (2 * u + cond negative 1 0) in
+      (u < 2 ^ m → Reads (formatOf W) q negative (u * 2 ^ j))
+      × (2 ^ m ≤ u → u ≤ largestU W m j → (ordinal W q ≡ u - 2 ^ m + thresholdOrdinal m j) × (sign W q ≡ cond negative 1 0))
   pub bound : (W t : ℕ) → knownWidth W ≡ true → BoundFor W (fractionBits W) t (boundAnswer W t)
 
 -- ---- Demand 3: "Pack a list within the limit at level 8, 9 or 10, with a setting that level allows and enough room, and give the stream any
@@ -203,6 +217,8 @@ pub data ReadBack (W mode : ℕ) (k : ℤ) (group : ℕ) (vs s : List ℕ) (L : 
       → ReadBack W mode k group vs s L back
 
 pub record Demand3 : Type 0 where
+  -- "A level is a minor number": "8 to 11" with document 02, R-2, and "this and each later level" since, which are 12 (R-4), 13 (R-6) and 14 (R-7)
+  pub levels : (L : ℕ) → knownLevel L ≡ true ↔ (8 ≤ L) × (L ≤ 14)
   -- pack takes no other list, level and setting than demand 3 speaks of
   pub takes : (W level mode : ℕ) (k : ℤ) (group : ℕ) (vs out : List ℕ) (size : ℕ) → packAnswer W level mode k group vs (length out) ≡ Done size
       → (length vs ≤ 1048576) × (knownLevel level ≡ true) × (mode ≤ 2) × ((group ≡ 32) ⊎ (group ≡ 128)) × (need (settingOf W mode k group) ≤ level)
@@ -211,6 +227,9 @@ pub record Demand3 : Type 0 where
       → (size : ℕ) × (lengthAnswer W level mode k group vs ≡ Done size)
       × (size ≤ 48 + 4 * chunksIn (length vs) + (length vs + (group - 1)) / group + length vs * W / 8)
       × ((out : List ℕ) → size ≤ length out → packAnswer W level mode k group vs (length out) ≡ Done size)
+  -- "Width 64 needs 10; else mode 1 needs 9; else 8"; mode 2 "needs level 11", groups of 128 "level 13"; "Where several needs apply, the largest stands"
+  pub needs : (W mode : ℕ) (k : ℤ) → (need (settingOf W mode k 128) ≡ 13) × (need (settingOf W 2 k 32) ≡ 11)
+      × (need (settingOf 64 0 k 32) ≡ 10) × (need (settingOf 64 1 k 32) ≡ 10) × (need (settingOf 32 1 k 32) ≡ 9) × (need (settingOf 32 0 k 32) ≡ 8)
   -- "Nothing needs level 14 to be read"
   pub unneeded : (W mode : ℕ) (k : ℤ) (group : ℕ) → need (settingOf W mode k group) ≤ 13
   pub reads : (W level mode : ℕ) (k : ℤ) (group : ℕ) (vs s : List ℕ) → Offered W level mode k group vs → Packed W level mode k group vs s
@@ -246,6 +265,9 @@ RightNeed W mode k group parts written needed = (needed ≡ streamNeed (settingO
 pub record NotSkipped : Type 0 where
   -- "Ids from 2^31 up"
   pub high : (id : ℕ) → highId id ≡ true ↔ 2 ^ 31 ≤ id
+  -- "A stream with such an id needs level 12", and "the largest stands" here too
+  pub raised : (W mode : ℕ) (k : ℤ) (group : ℕ) → (streamNeed (settingOf W mode k group) true ≡ max (need (settingOf W mode k group)) 12)
+      × (streamNeed (settingOf W mode k group) false ≡ need (settingOf W mode k group))
   -- Below the needed minor every reader refuses such a stream by 7, with that minor (`TooNew`). From it on the readers of its width, lent room for the values,
   -- refuse it (`RefusedBy`): by 8 where the needed minor is not the right one, "compared for equality", and by 15 with the first high id where it is and some
   -- id is high. Where it is and none is, check accepts it.

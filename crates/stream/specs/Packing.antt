@@ -36,6 +36,6 @@ pub record Sent (written : ℕ) (t : Setting) (vs : List ℕ) (sides : List Side
 unfoldable pub mostBytes : Setting → ℕ → ℕ
 mostBytes t n = 48 + 4 * chunksIn n + groupsIn (groupSize t) n + n * t .width / 8
 
--- 4, with the length by its end of data: no level alters it
+-- 4, with the length by its end of data. A level alters it by the setting's rule for halves alone, and not as the written minor.
 unfoldable pub shortRow : Setting → List ℕ → ℕ → Row
 shortRow t vs room = row 4 (ltb room (endOf t vs (chunksIn (length vs)))) (endOf t vs (chunksIn (length vs)))

@@ -2,15 +2,18 @@
 use mathlib.Core.Path.{_≡_, refl, sym, ap, subst, _∙_}
 use mathlib.Core.Logic.{_⊎_, inl, inr, _↔_}
 use mathlib.Core.Bool.{Bool, true, false, _&&_, cond}
-use mathlib.Core.List.{List, []}
-use Prim.Native.Nat.{ℕ, _+_, _*_, _/_, _%_, _^_, _≤_, _<_}
-use native.Mathlib.Nat.{max-le}
+use mathlib.Core.List.{List, [], _∷_, _++_}
+use Prim.Native.Nat.{ℕ, suc, _+_, _-_, _*_, _/_, _%_, _^_, _≤_, _<_, max}
+use native.Mathlib.Nat.{max-le, le-of-lt, lt-of-lt-of-le, mul-le-mul-right, one-mul, div-lt-iff-lt-mul, le-div-iff-mul-le}
 use native.Mathlib.Omega.{arith}
-use borrow.Author.Tests.{leb-false, le-leb, lt-leb, eqb-true}
+use borrow.Author.Tests.{leb-true, leb-false, le-leb, lt-leb, eqb-true}
 use lib.Dec.{leb, eqb, lit≤}
 use lib.IntN.{ℤ, pos}
-use lib.ListN.{length, take, getD}
-use Rattle.bins.specs.Tolerance.{allowedK, binOf, knownHalves, sign, ordinal, magnitude, threshold, thresholdOrdinal, toleranceCode, toleranceRestored, largestU}
+use lib.Pow.{pow-pos}
+use lib.Ieee.{binary32, binary64}
+use lib.ListN.{length, take, drop, getD}
+use Rattle.bins.specs.Tolerance.{lastBin, allowedK, binOf, knownHalves, sign, ordinal, magnitude, threshold, thresholdOrdinal, restoredOrdinal, toleranceCode, toleranceRestored, largestU}
+use Rattle.bins.proofs.Law.Tolerance as Tolerance
 use Rattle.numbers.specs.Lossless.{losslessCode, losslessRestored}
 use Rattle.numbers.specs.Difference.{differenceCodes, runningSums}
 use Rattle.numbers.specs.Answers.{codeAnswer, patternAnswer}
@@ -20,21 +23,22 @@ use Rattle.numbers.specs.declared.bound.BoundAnswer.{BoundAnswer}
 use Rattle.numbers.specs.declared.bound.BoundAnswer.the-variants.{Exponent, UnknownWidth, NoTolerance, TooSmall}
 use Rattle.numbers.specs.declared.tolerance.CodeAnswer.the-variants as code
 use Rattle.numbers.specs.declared.tolerance.PatternAnswer.the-variants as pattern
-use Rattle.numbers.proofs.Theorems.{format-32, format-64, every-pattern-is-restored, every-list-is-restored, a-coded-k-is-allowed, an-allowed-k-has-a-bin, a-code-is-restored, the-code-is-the-nearest, the-code-beyond, the-code-has-the-sign, binary32-magnitude, binary64-magnitude, binary32-returned, binary64-returned, bound-for-binary32, bound-for-binary64}
+use Rattle.numbers.proofs.Theorems.{format-32, format-64, every-pattern-is-restored, every-list-is-restored, a-coded-k-is-allowed, an-allowed-k-has-a-bin, a-code-is-restored, the-code-is-the-nearest, the-code-beyond, the-code-has-the-sign, binary32-value, binary64-value, binary32-magnitude, binary64-magnitude, binary32-returned, binary64-returned, bound-for-binary32, bound-for-binary64}
 use Rattle.blocks.specs.Bytes.{Below}
-use Rattle.stream.specs.Setting.{knownWidth, fractionBits, allowedMode, allowedSetting, settingOf, halvesAt, settingAt, widthNeed, modeNeed, sizeNeed, need}
+use Rattle.stream.specs.Setting.{highestLevel, knownLevel, knownWidth, fractionBits, losslessMode, allowedMode, allowedSetting, settingOf, halvesAt, ruled, settingAt, widthNeed, modeNeed, sizeNeed, need, streamNeed, kBits, modeNumber, groupSize, codeAt, codesAfter}
 use Rattle.stream.specs.Tables.{someHigh}
-use Rattle.stream.specs.Header.{headerOf}
+use Rattle.stream.specs.Header.{headerOf, chunksIn}
 use Rattle.stream.specs.Stream.{values}
-use Rattle.stream.specs.Writing.{Side, idsOf, WellFormedSides}
+use Rattle.stream.specs.Writing.{pieceBytes, dataOf, startsOf, headerNumbers, endOf, body, stream, Side, placed, idsOf, WellFormedSides}
 use Rattle.stream.specs.Packing.{Packable, Sent}
 use Rattle.stream.specs.Operations.{packAnswer, packOut}
 use Rattle.stream.specs.declared.answers.Answer.the-variants.{Done}
-use Rattle.stream.proofs.Law.Plain.Truth.{either, or-false}
-use Rattle.stream.proofs.Law.Setting.Allowed.{level-small, width-some, mode-allowed}
+use Rattle.stream.proofs.Law.Plain.Truth.{and-left, and-right, either, or-false}
+use Rattle.stream.proofs.Law.Setting.Allowed.{need-128, need-mode-2, level-small, width-some, mode-allowed}
+use Rattle.stream.proofs.Law.Written.Numbers.{spell-put}
 use Rattle.stream.proofs.Written.{accepted-list, accepted-bytes, accepted-leaves, accepted-is-sent, the-plain-stream, the-minors-are-read, as-many-values, lossless-values, tolerance-values, ruled-values}
 use Rattle.summary.specs.Theorem.{formatOf}
-use Rattle.gwizdorad_numbers.specs.Result.{codeOut}
+use Rattle.gwizdorad_numbers.specs.Result.{codeOut, patternOut}
 use Rattle.gwizdorad.specs.Demands.{ComesBack, Sided, plain, with-parts, Packed, Offered}
 
 -- ---- demand 2: a known width is 32 or 64
@@ -105,6 +109,66 @@ module _ (W halves : ℕ) (k : ℤ) (p : ℕ) (width : knownWidth W ≡ true) (s
   pub signed-at : toleranceCode W (fractionBits W) halves (binOf W (fractionBits W) k) p % 2 ≡ sign W p
   signed-at = the-code-has-the-sign W (fractionBits W) (format-at W width) k allowed halves p small
 
+-- what a code restores, up to the largest u: the ordinal and the sign
+sign-bit : (negative : Bool) → cond negative 1 0 ≤ 1
+sign-bit true = lit≤ tt
+sign-bit false = lit≤ tt
+
+sign-read : (t q : ℕ) → 0 < t → (negative : Bool) → q / t ≡ cond negative 1 0 → leb t q ≡ negative
+sign-read t q some true e = le-leb t q (omega (arith, one-mul t, le-div-iff-mul-le some .0 (let z : 1 ≤ q / t = omega (arith, e) in z)))
+sign-read t q some false e = lt-leb t q (omega (arith, one-mul t, div-lt-iff-lt-mul some .0 (let z : q / t < 1 = omega (arith, e) in z)))
+
+reads-as : (q : ℕ) (negative : Bool) (W : ℕ) → knownWidth W ≡ true → ordinal W q < (2 ^ (W - 1 - fractionBits W) - 1) * 2 ^ fractionBits W → sign W q ≡ cond negative 1 0
+    → Reads (formatOf W) q negative (magnitude (fractionBits W) (ordinal W q))
+unfolding fractionBits formatOf sign
+reads-as q negative =
+    of-a-width
+    (λ (W : ℕ).
+    ordinal W q < (2 ^ (W - 1 - fractionBits W) - 1) * 2 ^ fractionBits W → sign W q ≡ cond negative 1 0
+    → Reads (formatOf W) q negative (magnitude (fractionBits W) (ordinal W q)))
+    (λ h e.
+    subst (λ (s : Bool). Reads binary32 q s (magnitude 23 (ordinal 32 q))) (sign-read (2 ^ 31) q (pow-pos 31) negative e) (binary32-value q (div-lt-iff-lt-mul (pow-pos 23) .1 h)))
+    (λ h e.
+    subst (λ (s : Bool). Reads binary64 q s (magnitude 52 (ordinal 64 q))) (sign-read (2 ^ 63) q (pow-pos 63) negative e) (binary64-value q (div-lt-iff-lt-mul (pow-pos 52) .1 h)))
+
+module _ (W : ℕ) (k : ℤ) (u : ℕ) (negative : Bool) (width : knownWidth W ≡ true) (allowed : allowedK W (fractionBits W) k ≡ true) where
+  abbrev m : ℕ
+  m = fractionBits W
+
+  abbrev j : ℕ
+  j = binOf W m k
+
+  abbrev q : ℕ
+  q = toleranceRestored W m j (2 * u + cond negative 1 0)
+
+  bin : j ≤ lastBin W m
+  bin = an-allowed-k-has-a-bin W m (format-at W width) k allowed
+
+  put-back : u ≤ largestU W m j → (ordinal W q ≡ restoredOrdinal m j u) × (sign W q ≡ cond negative 1 0)
+  put-back most =
+      let room = format-at W width .room in
+      let c = 2 * u + cond negative 1 0 in
+      let half : c / 2 ≡ u = omega (arith, sign-bit negative) in
+      let rest : c % 2 ≡ cond negative 1 0 = omega (arith, sign-bit negative) in
+      let small = Tolerance.restored-small W m room j bin u most in
+      let parts : q ≡ restoredOrdinal m j u + cond negative 1 0 * 2 ^ (W - 1) = Tolerance.restored-parts W m room j bin c (omega (arith, half)) ∙ rw (half, rest) in (
+        ap (ordinal W) parts ∙ Tolerance.joined-ordinal W m room j bin (restoredOrdinal m j u) (cond negative 1 0) small,
+        ap (sign W) parts ∙ Tolerance.joined-sign W m room j bin (restoredOrdinal m j u) (cond negative 1 0) small,
+      )
+
+  bins-at : u < 2 ^ m → Reads (formatOf W) q negative (u * 2 ^ j)
+  unfolding lastBin largestU thresholdOrdinal
+  bins-at few =
+      let room = format-at W width .room in
+      let back = put-back (omega (arith, Tolerance.threshold-room W m room j bin, Tolerance.next-bin W m room j bin)) in
+      let finite : suc j * 2 ^ m ≤ (2 ^ (W - 1 - m) - 1) * 2 ^ m = mul-le-mul-right (2 ^ m) (omega (arith, bin, format-at W width .least, format-at W width .order)) in
+      subst (λ (x : ℕ). Reads (formatOf W) q negative x) (ap (magnitude m) (back .0) ∙ Tolerance.restored-magnitude m j u (le-of-lt few))
+      (reads-as q negative W width (rw (back .0) (lt-of-lt-of-le (Tolerance.restored-under m j u few) finite)) (back .1))
+
+  pub restored-at : (u < 2 ^ m → Reads (formatOf W) q negative (u * 2 ^ j))
+      × (2 ^ m ≤ u → u ≤ largestU W m j → (ordinal W q ≡ u - 2 ^ m + thresholdOrdinal m j) × (sign W q ≡ cond negative 1 0))
+  restored-at = (bins-at, λ many most. let back = put-back most in (back .0 ∙ Tolerance.restored-above m j u many, back .1))
+
 -- when the number rules refuse
 module _ (W m halves : ℕ) (k : ℤ) (p : ℕ) where
   pub coded-at : (old : ℕ) → halves ≤ 1 → allowedK W m k ≡ true
@@ -132,6 +196,11 @@ module _ (W m halves : ℕ) (k : ℤ) (p : ℕ) where
           refused false z = refl
 
 module _ (W m : ℕ) (k : ℤ) where
+  pub decoded-at : (c old : ℕ) → allowedK W m k ≡ true → c / 2 ≤ largestU W m (binOf W m k)
+      → (patternAnswer W m k c ≡ pattern.Pattern (toleranceRestored W m (binOf W m k) c)) × (patternOut (patternAnswer W m k c) old ≡ toleranceRestored W m (binOf W m k) c)
+  unfolding patternAnswer patternOut
+  decoded-at c old e most = (rw (e, le-leb (c / 2) (largestU W m (binOf W m k)) most), rw (e, le-leb (c / 2) (largestU W m (binOf W m k)) most))
+
   pub pattern-refused : (c : ℕ) → patternAnswer W m k c ≡ pattern.NotAllowed ↔ allowedK W m k ≡ false
   unfolding patternAnswer
   pattern-refused c = (λ e. go (allowedK W m k) refl (leb (c / 2) (largestU W m (binOf W m k))) refl e, λ e. rw e)
@@ -184,11 +253,53 @@ offered W level mode k group vs o =
       patterns = o .patterns;
     }
 
+-- the levels and the needs
+pub levels-at : (L : ℕ) → knownLevel L ≡ true ↔ (8 ≤ L) × (L ≤ 14)
+unfolding knownLevel highestLevel
+levels-at L = (
+  λ e. (leb-true 8 L (and-left (leb 8 L) (leb L 14) e), leb-true L 14 (and-right (leb 8 L) (leb L 14) e)),
+  λ h. rw (le-leb 8 L (h .0), le-leb L 14 (h .1)),
+)
+
+pub needs-at : (W mode : ℕ) (k : ℤ) → (need (settingOf W mode k 128) ≡ 13) × (need (settingOf W 2 k 32) ≡ 11)
+    × (need (settingOf 64 0 k 32) ≡ 10) × (need (settingOf 64 1 k 32) ≡ 10) × (need (settingOf 32 1 k 32) ≡ 9) × (need (settingOf 32 0 k 32) ≡ 8)
+unfolding need widthNeed modeNeed sizeNeed
+needs-at W mode k = (sym (need-128 (settingOf W mode k 128) refl), sym (need-mode-2 (settingOf W 2 k 32) (λ e. omega (arith, e)) refl), refl, refl, refl, refl)
+
+pub raised-at : (W mode : ℕ) (k : ℤ) (group : ℕ) → (streamNeed (settingOf W mode k group) true ≡ max (need (settingOf W mode k group)) 12)
+    × (streamNeed (settingOf W mode k group) false ≡ need (settingOf W mode k group))
+unfolding streamNeed
+raised-at W mode k group = (refl, refl)
+
 -- ---- document 02, R-7: the rule for halves
 
 pub rule-at : (level : ℕ) → (level < 14 → halvesAt level ≡ 0) × (14 ≤ level → halvesAt level ≡ 1)
 unfolding halvesAt
 rule-at level = (λ h. rw (lt-leb 14 level h), λ h. rw (le-leb 14 level h))
+
+-- the streams of two levels that code alike
+module _ (W level level′ mode : ℕ) (k : ℤ) (group : ℕ) (vs : List ℕ) where
+  -- another written minor is put in its place
+  rewritten : placed 4 level′ (stream level (settingAt level W mode k group) vs) ≡ stream level′ (settingAt level W mode k group) vs
+  unfolding placed stream body headerNumbers
+  rewritten =
+      let t = settingAt level W mode k group in
+      let c = chunksIn (length vs) in
+      spell-put (1 ∷ []) (drop 2 (headerNumbers level t (length vs) 0 (endOf t vs c)) ++ startsOf t vs c) (dataOf t vs c) 4 refl level level′
+
+  -- in the modes that lose nothing the rule is not asked
+  unasked : losslessMode mode ≡ true → stream level′ (settingAt level′ W mode k group) vs ≡ stream level′ (settingAt level W mode k group) vs
+  unfolding losslessMode stream body headerNumbers endOf startsOf dataOf pieceBytes need modeNumber kBits groupSize codeAt codesAfter
+  unasked e = go (either (eqb mode 0) (eqb mode 2) e)
+    where
+      go : (eqb mode 0 ≡ true) ⊎ (eqb mode 2 ≡ true) → stream level′ (settingAt level′ W mode k group) vs ≡ stream level′ (settingAt level W mode k group) vs
+      go (inl is) = rw (eqb-true mode 0 is)
+      go (inr is) = rw (eqb-true mode 2 is)
+
+  pub alike-at : (losslessMode mode ≡ true) ⊎ (halvesAt level ≡ halvesAt level′)
+      → stream level′ (settingAt level′ W mode k group) vs ≡ placed 4 level′ (stream level (settingAt level W mode k group) vs)
+  alike-at (inl e) = unasked e ∙ sym rewritten
+  alike-at (inr e) = ap (λ (rule : ℕ). stream level′ (ruled rule (settingOf W mode k group)) vs) (sym e) ∙ sym rewritten
 
 pub needs-13 : (W mode : ℕ) (k : ℤ) (group : ℕ) → need (settingOf W mode k group) ≤ 13
 unfolding need widthNeed modeNeed sizeNeed
