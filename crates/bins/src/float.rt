@@ -6,8 +6,9 @@
 // `even32`, is left where the machine does not round to nearest (`to_nearest`). No proof says that; tests/c/rounding.c tries it.
 ghost use mathlib.Core.Bool.{cond, true};
 ghost use mathlib.Core.Path.{_≡_};
-ghost use Prim.Native.Nat.{_*_, _^_, _≤_, _<_};
+ghost use Prim.Native.Nat.{_-_, _*_, _^_, _≤_, _<_};
 ghost use lib.Dec.{ltb};
+ghost use lib.Ieee.{binary32, binary64, mul, ofBits};
 ghost use Rattle.bins.specs.Tolerance.{lastBin, near, magnitude, ordinalOf, thresholdOrdinal, restoredOrdinal, toleranceCode};
 use crate::halves;
 use std::num;
@@ -27,13 +28,28 @@ pub(crate) fn to_nearest(j: u32) -> bool
     whole + 0.25 < whole + 0.75
 }
 
-// The bins nearest to an ordinal below that of T, a half away from zero. q = |v| / E is exact, or so small that it is nearest to 0. Its sum r with 2^23 - 1/2 is
-// one of two neighbours, whichever way the machine rounds. t, what r has grown by, is exact, so that q < t tells which one it is.
+// |v| / E of an ordinal below that of T: exact, or so small that it is nearest to 0.
+fn quotient32(j: u32, o: u32) -> f32
+    requires { ⌜ (o < thresholdOrdinal 23 j) × (24 ≤ j) × (j ≤ lastBin 32 23) ⌝ }
+    ensures { λ q. ⌜ q ≡ mul binary32 (ofBits binary32 o) (ofBits binary32 ((276 - j) * 2 ^ 23)) ⌝ }
+{
+    f32::from_bits(o) * f32::from_bits((276 - j) * 0x0080_0000)
+}
+
+fn quotient64(j: u64, o: u64) -> f64
+    requires { ⌜ (o < thresholdOrdinal 52 j) × (53 ≤ j) × (j ≤ lastBin 64 52) ⌝ }
+    ensures { λ q. ⌜ q ≡ mul binary64 (ofBits binary64 o) (ofBits binary64 ((2097 - j) * 2 ^ 52)) ⌝ }
+{
+    f64::from_bits(o) * f64::from_bits((2097 - j) * 0x0010_0000_0000_0000)
+}
+
+// The bins nearest to an ordinal below that of T, a half away from zero. The sum r of the quotient q with 2^23 - 1/2 is one of two neighbours, whichever way the
+// machine rounds. t, what r has grown by, is exact, so that q < t tells which one it is.
 fn away32(j: u32, o: u32) -> u32
     requires { ⌜ (o < thresholdOrdinal 23 j) × (24 ≤ j) × (j ≤ lastBin 32 23) ⌝ }
     ensures { λ u. ⌜ u ≡ near 0 j (magnitude 23 o) ⌝ }
 {
-    let q = f32::from_bits(o) * f32::from_bits((276 - j) * 0x0080_0000);
+    let q = quotient32(j, o);
     let r = q + 8388607.5;
     let t = r - 8388607.5;
     let next = f32::to_bits(r) - 0x4AFF_FFFF;
@@ -45,7 +61,7 @@ fn even32(j: u32, o: u32) -> u32
     requires { ⌜ (o < thresholdOrdinal 23 j) × (24 ≤ j) × (j ≤ lastBin 32 23) ⌝ }
     ensures { λ u. ⌜ u ≡ near 1 j (magnitude 23 o) ⌝ }
 {
-    let q = f32::from_bits(o) * f32::from_bits((276 - j) * 0x0080_0000);
+    let q = quotient32(j, o);
     f32::to_bits(q + 8388608.0) - 0x4B00_0000
 }
 
@@ -66,7 +82,7 @@ fn near64(halves: u32, j: u64, o: u64) -> u64
     requires { ⌜ (o < thresholdOrdinal 52 j) × (53 ≤ j) × (j ≤ lastBin 64 52) ⌝ }
     ensures { λ u. ⌜ u ≡ near halves j (magnitude 52 o) ⌝ }
 {
-    let q = f64::from_bits(o) * f64::from_bits((2097 - j) * 0x0010_0000_0000_0000);
+    let q = quotient64(j, o);
     let r = q + 4503599627370495.5;
     let t = r - 4503599627370495.5;
     let next = f64::to_bits(r) - 0x432F_FFFF_FFFF_FFFF;

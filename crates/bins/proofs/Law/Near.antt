@@ -7,14 +7,14 @@ use native.Mathlib.Nat.{mul-one, mul-comm, mul-assoc, mul-pos, mod-eq-of-lt, div
 use native.Mathlib.Omega.{arith}
 use lib.Dec.{T, eqb, leb, leb→le, not-T, lit<, lit≤}
 use lib.Pow.{pow-pos, pow-add, pow-mono, pow-lt, shl-lt}
-use lib.Ieee.{Float, Format, binary32, binary64, prec, emax, low, hid, ones, top, size, round, mul, add, sub, lt, ofBits, toBits, isNan, nanBits}
+use lib.Ieee.{Float, Format, binary32, binary64, prec, emax, low, hid, ones, top, size, round, mul, add, sub, lt, ofBits, toBits, fits, isNan, nanBits}
 use lib.Ieee.Bits.{is-false, nanBits-is, ofBits-toBits}
 use lib.Ieee.Digits.{size-le}
 use lib.Ieee.Exact.{HasValue, round-exact}
 use lib.Ieee.Fits.{nearest-le, mul-fits, sub-fits}
 use lib.Ieee.Nearest.{closest}
 use lib.Ieee.Scale.{round-same, grid, round-val}
-use Rattle.bins.specs.Tolerance.{magnitude, significand, thresholdOrdinal, threshold, nearest, near}
+use Rattle.bins.specs.Tolerance.{lastBin, magnitude, significand, thresholdOrdinal, threshold, nearest, near}
 use Rattle.bins.proofs.Law.Number.{le-or-lt}
 use Rattle.bins.proofs.Law.Nearest.{over, over-small, nearest-none}
 use Rattle.bins.proofs.Law.Float.{led, no-nan, mul-values, bin-value, bin-no-nan}
@@ -153,7 +153,19 @@ pub record Asked (f : Format) (j o F : ℕ) : Type 0 where
   pub reciprocal : prec f - 1 + F + j ≡ suc (low f + low f)
   pub factor-field : F < ones f
 
--- What it then knows of the bins nearest, by a sum with 2 ^ m - 1/2.
+pub asked32 : (j o : ℕ) → (o < thresholdOrdinal 23 j) × (24 ≤ j) × (j ≤ lastBin 32 23) → Asked binary32 j o (276 - j)
+unfolding lastBin
+asked32 j o h =
+    let last : j ≤ 253 = h .2 in
+    record { below = h .0; bin-field = omega arith; some = omega arith; reciprocal = omega arith; factor-field = omega (arith, h .1) }
+
+pub asked64 : (j o : ℕ) → (o < thresholdOrdinal 52 j) × (53 ≤ j) × (j ≤ lastBin 64 52) → Asked binary64 j o (2097 - j)
+unfolding lastBin
+asked64 j o h =
+    let last : j ≤ 2045 = h .2 in
+    record { below = h .0; bin-field = omega arith; some = omega arith; reciprocal = omega arith; factor-field = omega (arith, h .1) }
+
+-- What it then knows: that its factors are numbers,
 module _ {f : Format} {j o F : ℕ} (k : Asked f j o F) where
   field : suc (F - 1) ≡ F
   field = omega (arith, k .some)
@@ -167,114 +179,117 @@ module _ {f : Format} {j o F : ℕ} (k : Asked f j o F) where
   pub factor-no-nan : T (not (nanBits f (F * hid f)))
   factor-no-nan = subst (λ (n : ℕ). T (not (nanBits f (n * hid f)))) field (bin-no-nan f (F - 1) under-ones)
 
-  abbrev q : Float
-  q = mul f (ofBits f o) (ofBits f (F * hid f))
+  -- and of their product q the bins nearest, by a sum with 2 ^ m - 1/2,
+  module _ (q : Float) (is : q ≡ mul f (ofBits f o) (ofBits f (F * hid f))) where
+    q-is : Scaled f j (magnitude (prec f - 1) o) q
+    q-is =
+        subst (Scaled f j (magnitude (prec f - 1) o)) (sym is)
+        (subst (λ (n : ℕ). Scaled f j (magnitude (prec f - 1) o) (mul f (ofBits f o) (ofBits f (n * hid f)))) field
+        (scaled f j o (k .below) (k .bin-field) (F - 1) (omega (arith, k .reciprocal, field)) under-ones))
 
-  q-is : Scaled f j (magnitude (prec f - 1) o) q
-  q-is =
-      subst (λ (n : ℕ). Scaled f j (magnitude (prec f - 1) o) (mul f (ofBits f o) (ofBits f (n * hid f)))) field
-      (scaled f j o (k .below) (k .bin-field) (F - 1) (omega (arith, k .reciprocal, field)) under-ones)
+    q-fits : T (fits f q)
+    q-fits = subst (λ (z : Float). T (fits f z)) (sym is) (mul-fits f (ofBits f o) (ofBits f (F * hid f)))
 
-  module _ (y : Float) (Y : HasValue y false (2 * 2 ^ (prec f - 1) - 1) 2) where
-    by : Settled f (q-is .a) (q-is .c) q y
-    by = settled f (q-is .a) (q-is .c) (q-is .some) (q-is .under) q y (mul-fits f (ofBits f o) (ofBits f (F * hid f))) (q-is .value) Y
+    module _ (y : Float) (Y : HasValue y false (2 * 2 ^ (prec f - 1) - 1) 2) where
+      by : Settled f (q-is .a) (q-is .c) q y
+      by = settled f (q-is .a) (q-is .c) (q-is .some) (q-is .under) q y q-fits (q-is .value) Y
 
-    abbrev base : ℕ
-    base = low f * 2 ^ (prec f - 1) + 2 ^ (prec f - 1) - 1
+      abbrev base : ℕ
+      base = low f * 2 ^ (prec f - 1) + 2 ^ (prec f - 1) - 1
 
-    abbrev sum : ℕ
-    sum = toBits f (add f q y)
+      abbrev sum : ℕ
+      sum = toBits f (add f q y)
 
-    abbrev grown : ℕ
-    grown = toBits f (sub f (add f q y) y)
+      abbrev grown : ℕ
+      grown = toBits f (sub f (add f q y) y)
 
-    pub sum-no-nan : T (not (isNan (add f q y)))
-    sum-no-nan = by .number
+      pub sum-no-nan : T (not (isNan (add f q y)))
+      sum-no-nan = by .number
 
-    pub grown-no-nan : T (not (isNan (sub f (add f q y) y)))
-    grown-no-nan = by .grown-number
+      pub grown-no-nan : T (not (isNan (sub f (add f q y) y)))
+      grown-no-nan = by .grown-number
 
-    pub sum-from : base ≤ sum
-    sum-from = omega (arith, by .pattern)
+      pub sum-from : base ≤ sum
+      sum-from = omega (arith, by .pattern)
 
-    pub sum-small : sum ≤ base + 2 ^ (prec f - 1)
-    sum-small = omega (arith, by .pattern, by .small)
+      pub sum-small : sum ≤ base + 2 ^ (prec f - 1)
+      sum-small = omega (arith, by .pattern, by .small)
 
-    next-is : sum - base ≡ by .next
-    next-is = omega (arith, by .pattern)
+      next-is : sum - base ≡ by .next
+      next-is = omega (arith, by .pattern)
 
-    -- the base is odd, so that one more than the sum has the next one's parity
-    parity : (sum + 1) % 2 ≡ by .next % 2
-    parity = omega (arith, by .pattern, even-base f, pow-pos (prec f - 1))
-      where
-        even-base : (f : Format) → (low f * 2 ^ (prec f - 1) + 2 ^ (prec f - 1)) % 2 ≡ 0
-        even-base binary32 = refl
-        even-base binary64 = refl
+      -- the base is odd, so that one more than the sum has the next one's parity
+      parity : (sum + 1) % 2 ≡ by .next % 2
+      parity = omega (arith, by .pattern, even-base f, pow-pos (prec f - 1))
+        where
+          even-base : (f : Format) → (low f * 2 ^ (prec f - 1) + 2 ^ (prec f - 1)) % 2 ≡ 0
+          even-base binary32 = refl
+          even-base binary64 = refl
 
-    -- d is what the pattern of t has to be more where the next one is odd and a half goes down from it
-    module _ (rule d : ℕ) (odd : d ≡ over rule (sum + 1)) where
-      d-is : d ≡ over rule (by .next)
-      d-is = odd ∙ ap (λ (n : ℕ). cond (eqb rule 1) n 0) parity
+      -- d is what the pattern of t has to be more where the next one is odd and a half goes down from it
+      module _ (rule d : ℕ) (odd : d ≡ over rule (sum + 1)) where
+        d-is : d ≡ over rule (by .next)
+        d-is = odd ∙ ap (λ (n : ℕ). cond (eqb rule 1) n 0) parity
 
-      one : d ≤ 1
-      one = rw odd (over-small rule (sum + 1) .0)
+        one : d ≤ 1
+        one = rw odd (over-small rule (sum + 1) .0)
 
-      pub half-fits : grown + d < suc (low f) * 2 ^ (prec f - 1) + 1
-      half-fits = omega (arith, by .grown-small, one)
+        pub half-fits : grown + d < suc (low f) * 2 ^ (prec f - 1) + 1
+        half-fits = omega (arith, by .grown-small, one)
 
-      pub half-no-nan : T (not (nanBits f (grown + d)))
-      half-no-nan = by .half-number d one
+        pub half-no-nan : T (not (nanBits f (grown + d)))
+        half-no-nan = by .half-number d one
 
-      abbrev test : Bool
-      test = lt q (ofBits f (grown + d))
+        abbrev test : Bool
+        test = lt q (ofBits f (grown + d))
 
-      below : test ≡ true → suc (nearest rule (q-is .a) (q-is .c)) ≡ by .next
-      below t = by .if-below rule (subst (λ (n : ℕ). T (lt q (ofBits f (grown + n)))) d-is (subst T (sym t) tt))
+        below : test ≡ true → suc (nearest rule (q-is .a) (q-is .c)) ≡ by .next
+        below t = by .if-below rule (subst (λ (n : ℕ). T (lt q (ofBits f (grown + n)))) d-is (subst T (sym t) tt))
 
-      pub some-below : test ≡ true → 1 ≤ sum - base
-      some-below t = omega (arith, next-is, below t)
+        pub some-below : test ≡ true → 1 ≤ sum - base
+        some-below t = omega (arith, next-is, below t)
 
-      pub near-below : test ≡ true → sum - base - 1 ≡ near rule j (magnitude (prec f - 1) o)
-      near-below t = (let z : sum - base - 1 ≡ nearest rule (q-is .a) (q-is .c) = omega (arith, next-is, below t) in z) ∙ q-is .bins rule
+        pub near-below : test ≡ true → sum - base - 1 ≡ near rule j (magnitude (prec f - 1) o)
+        near-below t = (let z : sum - base - 1 ≡ nearest rule (q-is .a) (q-is .c) = omega (arith, next-is, below t) in z) ∙ q-is .bins rule
 
-      pub near-above : test ≡ false → sum - base ≡ near rule j (magnitude (prec f - 1) o)
-      near-above t =
-          next-is
-          ∙ sym (by .if-above rule (subst (λ (n : ℕ). T (not (lt q (ofBits f (grown + n))))) d-is (subst (λ (b : Bool). T (not b)) (sym t) tt)))
-          ∙ q-is .bins rule
+        pub near-above : test ≡ false → sum - base ≡ near rule j (magnitude (prec f - 1) o)
+        near-above t =
+            next-is
+            ∙ sym (by .if-above rule (subst (λ (n : ℕ). T (not (lt q (ofBits f (grown + n))))) d-is (subst (λ (b : Bool). T (not b)) (sym t) tt)))
+            ∙ q-is .bins rule
 
-    -- away from zero nothing is added to the pattern of t, and the test is against t itself
-    abbrev away : Bool
-    away = lt q (sub f (add f q y) y)
+      -- away from zero nothing is added to the pattern of t, and the test is against t itself
+      abbrev away : Bool
+      away = lt q (sub f (add f q y) y)
 
-    as-tested : away ≡ lt q (ofBits f (grown + 0))
-    as-tested =
-        ap (lt q)
-        (sym (ap (ofBits f) (let e : grown + 0 ≡ grown = omega arith in e) ∙ ofBits-toBits f (sub f (add f q y) y) (sub-fits f (add f q y) y)))
+      as-tested : away ≡ lt q (ofBits f (grown + 0))
+      as-tested =
+          ap (lt q)
+          (sym (ap (ofBits f) (let e : grown + 0 ≡ grown = omega arith in e) ∙ ofBits-toBits f (sub f (add f q y) y) (sub-fits f (add f q y) y)))
 
-    pub some-away : away ≡ true → 1 ≤ sum - base
-    some-away t = some-below 0 0 refl (sym as-tested ∙ t)
+      pub some-away : away ≡ true → 1 ≤ sum - base
+      some-away t = some-below 0 0 refl (sym as-tested ∙ t)
 
-    pub away-below : away ≡ true → sum - base - 1 ≡ near 0 j (magnitude (prec f - 1) o)
-    away-below t = near-below 0 0 refl (sym as-tested ∙ t)
+      pub away-below : away ≡ true → sum - base - 1 ≡ near 0 j (magnitude (prec f - 1) o)
+      away-below t = near-below 0 0 refl (sym as-tested ∙ t)
 
-    pub away-above : away ≡ false → sum - base ≡ near 0 j (magnitude (prec f - 1) o)
-    away-above t = near-above 0 0 refl (sym as-tested ∙ t)
+      pub away-above : away ≡ false → sum - base ≡ near 0 j (magnitude (prec f - 1) o)
+      away-above t = near-above 0 0 refl (sym as-tested ∙ t)
 
-  -- What it knows of them by a sum with 2 ^ m, which sends a half to even by itself.
-  module _ (y : Float) (Y : HasValue y false (2 ^ (prec f - 1)) 1) where
-    pub even-number : T (not (isNan (add f q y)))
-    even-number = even-no-nan f (q-is .a) (q-is .c) (q-is .some) (q-is .under) q y (q-is .value) Y
+    -- or by a sum with 2 ^ m, which sends a half to even by itself.
+    module _ (y : Float) (Y : HasValue y false (2 ^ (prec f - 1)) 1) where
+      pub even-number : T (not (isNan (add f q y)))
+      even-number = even-no-nan f (q-is .a) (q-is .c) (q-is .some) (q-is .under) q y (q-is .value) Y
 
-    even-sum : toBits f (add f q y) ≡ low f * 2 ^ (prec f - 1) + 2 ^ (prec f - 1) + nearest 1 (q-is .a) (q-is .c)
-    even-sum = even-bits f (q-is .a) (q-is .c) (q-is .some) (q-is .under) q y (q-is .value) Y
+      even-sum : toBits f (add f q y) ≡ low f * 2 ^ (prec f - 1) + 2 ^ (prec f - 1) + nearest 1 (q-is .a) (q-is .c)
+      even-sum = even-bits f (q-is .a) (q-is .c) (q-is .some) (q-is .under) q y (q-is .value) Y
 
-    pub even-from : low f * 2 ^ (prec f - 1) + 2 ^ (prec f - 1) ≤ toBits f (add f q y)
-    even-from = omega (arith, even-sum)
+      pub even-from : low f * 2 ^ (prec f - 1) + 2 ^ (prec f - 1) ≤ toBits f (add f q y)
+      even-from = omega (arith, even-sum)
 
-    pub even-near : toBits f (add f q y) - (low f * 2 ^ (prec f - 1) + 2 ^ (prec f - 1)) ≡ near 1 j (magnitude (prec f - 1) o)
-    even-near =
-        (let e : toBits f (add f q y) - (low f * 2 ^ (prec f - 1) + 2 ^ (prec f - 1)) ≡ nearest 1 (q-is .a) (q-is .c) = omega (arith, even-sum) in e) ∙ q-is .bins 1
+      pub even-near : toBits f (add f q y) - (low f * 2 ^ (prec f - 1) + 2 ^ (prec f - 1)) ≡ near 1 j (magnitude (prec f - 1) o)
+      even-near =
+          (let e : toBits f (add f q y) - (low f * 2 ^ (prec f - 1) + 2 ^ (prec f - 1)) ≡ nearest 1 (q-is .a) (q-is .c) = omega (arith, even-sum) in e) ∙ q-is .bins 1
 
 -- the rule that is none of the known ones is that of 0
 pub near-away : (rule j x : ℕ) → eqb rule 1 ≡ false → near 0 j x ≡ near rule j x

@@ -1,13 +1,9 @@
 -- `bins::float::away32` meets its contract, by the laws over the formats.
 use mathlib.Core.Path.{refl}
 use mathlib.Core.Bool.{false}
-use Prim.Native.Nat.{_-_, _≤_}
-use native.Mathlib.Omega.{arith}
 use lib.Ieee.{Float, binary32, ofBits}
 use lib.Ieee.Exact.{HasValue}
-use Rattle.bins.specs.Tolerance.{lastBin}
-use Rattle.bins.proofs.Law.Near.{Asked, ordinal-no-nan, factor-no-nan, sum-no-nan, sum-from, some-away, away-below, away-above}
-use borrow.Author.Needs.{needs}
+use Rattle.bins.proofs.Law.Near.{asked32, sum-no-nan, sum-from, some-away, away-below, away-above}
 use Rattle.bins.proofs.float.away32.Statement.{statement}
 use Rattle.bins.proofs.float.away32.Tie as tie
 
@@ -19,56 +15,23 @@ value : HasValue y false 16777215 2
 unfolding ofBits
 value = (refl, refl)
 
-last : (c : tie.Start) → c .args .j ≤ 253
-unfolding lastBin
-last c = c .pre .2
-
-asked : (c : tie.Start) → Asked binary32 (c .args .j) (c .args .o) (276 - c .args .j)
-asked c = record {
-  below = c .pre .0;
-  bin-field = omega (arith, last c);
-  some = omega (arith, last c);
-  reciprocal = omega (arith, last c);
-  factor-field = omega (arith, c .pre .1);
-}
-
-float-from-bits-q : tie.Need-float-from-bits-q
-float-from-bits-q c = ordinal-no-nan (asked c)
-
-sub-q : tie.Need-sub-q
-sub-q c = omega (arith, last c)
-
-mul-q : tie.Need-mul-q
-mul-q c = search needs
-
-float-from-bits-q-2 : tie.Need-float-from-bits-q-2
-float-from-bits-q-2 c = factor-no-nan (asked c)
+quotient32-requires : tie.Need-quotient32-requires
+quotient32-requires c κs = c .pre
 
 float-to-bits-next : tie.Need-float-to-bits-next
-float-to-bits-next c = sum-no-nan (asked c) y value
+float-to-bits-next c = sum-no-nan (asked32 _ _ (c .before .pre)) _ (c .quotient32 .ensures) y value
 
 sub-next : tie.Need-sub-next
-sub-next c = sum-from (asked c) y value
+sub-next c = sum-from (asked32 _ _ (c .before .pre)) _ (c .quotient32 .ensures) y value
 
 sub-result : tie.Need-sub-result
-sub-result c = some-away (asked (c .before)) y value (c .if1 .taken)
+sub-result c = let f = c .before in some-away (asked32 _ _ (f .before .pre)) _ (f .quotient32 .ensures) y value (c .if1 .taken)
 
 returns : tie.Need-returns
-returns c = away-below (asked (c .before)) y value (c .if1 .taken)
+returns c = let f = c .before in away-below (asked32 _ _ (f .before .pre)) _ (f .quotient32 .ensures) y value (c .if1 .taken)
 
 returns-2 : tie.Need-returns-2
-returns-2 c = away-above (asked (c .before)) y value (c .if1 .left)
+returns-2 c = let f = c .before in away-above (asked32 _ _ (f .before .pre)) _ (f .quotient32 .ensures) y value (c .if1 .left)
 
 pub away32-spec : {M : Type 1} → statement M
-away32-spec =
-    tie.close
-    (tie.spec
-    float-from-bits-q
-    sub-q
-    mul-q
-    float-from-bits-q-2
-    float-to-bits-next
-    sub-next
-    sub-result
-    returns
-    returns-2)
+away32-spec = tie.close (tie.spec quotient32-requires float-to-bits-next sub-next sub-result returns returns-2)

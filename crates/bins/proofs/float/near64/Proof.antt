@@ -1,12 +1,10 @@
 -- `bins::float::near64` meets its contract, by the laws over the formats.
 use mathlib.Core.Path.{refl}
 use mathlib.Core.Bool.{false}
-use Prim.Native.Nat.{_-_, _≤_}
 use native.Mathlib.Omega.{arith}
 use lib.Ieee.{Float, binary64, ofBits}
 use lib.Ieee.Exact.{HasValue}
-use Rattle.bins.specs.Tolerance.{lastBin}
-use Rattle.bins.proofs.Law.Near.{Asked, ordinal-no-nan, factor-no-nan, sum-no-nan, grown-no-nan, sum-from, sum-small, half-fits, half-no-nan, some-below, near-below, near-above}
+use Rattle.bins.proofs.Law.Near.{asked64, sum-no-nan, grown-no-nan, sum-from, sum-small, half-fits, half-no-nan, some-below, near-below, near-above}
 use borrow.Author.Needs.{needs}
 use Rattle.bins.proofs.float.near64.Statement.{statement}
 use Rattle.bins.proofs.float.near64.Tie as tie
@@ -19,72 +17,60 @@ value : HasValue y false 9007199254740991 2
 unfolding ofBits
 value = (refl, refl)
 
-last : (c : tie.Start) → c .args .j ≤ 2045
-unfolding lastBin
-last c = c .pre .2
-
-asked : (c : tie.Start) → Asked binary64 (c .args .j) (c .args .o) (2097 - c .args .j)
-asked c = record {
-  below = c .pre .0;
-  bin-field = omega (arith, last c);
-  some = omega (arith, last c);
-  reciprocal = omega (arith, last c);
-  factor-field = omega (arith, c .pre .1);
-}
-
-float-from-bits-q : tie.Need-float-from-bits-q
-float-from-bits-q c = ordinal-no-nan (asked c)
-
-sub-q : tie.Need-sub-q
-sub-q c = omega (arith, last c)
-
-mul-q : tie.Need-mul-q
-mul-q c = search needs
-
-float-from-bits-q-2 : tie.Need-float-from-bits-q-2
-float-from-bits-q-2 c = factor-no-nan (asked c)
+quotient64-requires : tie.Need-quotient64-requires
+quotient64-requires c κs = c .pre
 
 float-to-bits-next : tie.Need-float-to-bits-next
-float-to-bits-next c = sum-no-nan (asked c) y value
+float-to-bits-next c = sum-no-nan (asked64 _ _ (c .before .pre)) _ (c .quotient64 .ensures) y value
 
 sub-next : tie.Need-sub-next
-sub-next c = sum-from (asked c) y value
+sub-next c = sum-from (asked64 _ _ (c .before .pre)) _ (c .quotient64 .ensures) y value
 
 float-to-bits-if1 : tie.Need-float-to-bits-if1
-float-to-bits-if1 c = grown-no-nan (asked c) y value
+float-to-bits-if1 c = grown-no-nan (asked64 _ _ (c .before .pre)) _ (c .quotient64 .ensures) y value
 
 float-to-bits-odd64 : tie.Need-float-to-bits-odd64
-float-to-bits-odd64 c = sum-no-nan (asked c) y value
+float-to-bits-odd64 c = sum-no-nan (asked64 _ _ (c .before .pre)) _ (c .quotient64 .ensures) y value
 
 add-odd64 : tie.Need-add-odd64
-add-odd64 c = omega (arith, sum-small (asked c) y value)
+add-odd64 c = omega (arith, sum-small (asked64 _ _ (c .before .pre)) _ (c .quotient64 .ensures) y value)
 
 odd64-requires : tie.Need-odd64-requires
 odd64-requires c κs = search needs
 
 add-if1 : tie.Need-add-if1
-add-if1 c = omega (arith, half-fits (asked (c .before)) y value (c .before .args .halves) (c .odd64 .result) (c .odd64 .ensures))
+add-if1 c =
+    let f = c .before in
+    omega (arith, half-fits (asked64 _ _ (f .before .pre)) _ (f .quotient64 .ensures) y value (f .before .args .halves) (c .odd64 .result) (c .odd64 .ensures))
 
 float-from-bits-if1 : tie.Need-float-from-bits-if1
-float-from-bits-if1 c = half-no-nan (asked (c .before)) y value (c .before .args .halves) (c .odd64 .result) (c .odd64 .ensures)
+float-from-bits-if1 c =
+    let f = c .before in
+    half-no-nan (asked64 _ _ (f .before .pre)) _ (f .quotient64 .ensures) y value (f .before .args .halves) (c .odd64 .result) (c .odd64 .ensures)
 
 sub-result : tie.Need-sub-result
-sub-result c = let k = c .before in some-below (asked (k .before)) y value (k .before .args .halves) (k .odd64 .result) (k .odd64 .ensures) (c .if1 .taken)
+sub-result c =
+    let d = c .before in
+    let f = d .before in
+    some-below (asked64 _ _ (f .before .pre)) _ (f .quotient64 .ensures) y value (f .before .args .halves) (d .odd64 .result) (d .odd64 .ensures) (c .if1 .taken)
 
 returns : tie.Need-returns
-returns c = let k = c .before in near-below (asked (k .before)) y value (k .before .args .halves) (k .odd64 .result) (k .odd64 .ensures) (c .if1 .taken)
+returns c =
+    let d = c .before in
+    let f = d .before in
+    near-below (asked64 _ _ (f .before .pre)) _ (f .quotient64 .ensures) y value (f .before .args .halves) (d .odd64 .result) (d .odd64 .ensures) (c .if1 .taken)
 
 returns-2 : tie.Need-returns-2
-returns-2 c = let k = c .before in near-above (asked (k .before)) y value (k .before .args .halves) (k .odd64 .result) (k .odd64 .ensures) (c .if1 .left)
+returns-2 c =
+    let d = c .before in
+    let f = d .before in
+    near-above (asked64 _ _ (f .before .pre)) _ (f .quotient64 .ensures) y value (f .before .args .halves) (d .odd64 .result) (d .odd64 .ensures) (c .if1 .left)
 
 pub near64-spec : {M : Type 1} → statement M
 near64-spec =
     tie.close
     (tie.spec
-    float-from-bits-q
-    sub-q
-    mul-q
-    float-from-bits-q-2
+    quotient64-requires
     float-to-bits-next
     sub-next
     float-to-bits-if1
