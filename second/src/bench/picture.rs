@@ -71,7 +71,7 @@ const HEIGHT: f64 = 1230.0;
 const PANEL_WIDTH: f64 = 400.0;
 const PANEL_HEIGHT: f64 = 290.0;
 const SLOWEST: f64 = 30.0;
-const FASTEST: f64 = 12_000.0;
+const FASTEST: f64 = 40_000.0;
 const LEAST_SHARE: f64 = -0.04;
 const LARGEST_SHARE: f64 = 1.06;
 
@@ -172,7 +172,7 @@ impl Panel {
 
     fn axes(&self, svg: &mut String) {
         let (right, bottom) = (self.left + PANEL_WIDTH, self.top + PANEL_HEIGHT);
-        for speed in [30.0, 100.0, 300.0, 1000.0, 3000.0, 10000.0] {
+        for speed in [30.0, 100.0, 300.0, 1000.0, 3000.0, 10000.0, 30000.0] {
             let y = self.y(speed);
             line(svg, (self.left, y), (right, y), "stroke=\"#ddd\"");
             let attributes = "text-anchor=\"end\" fill=\"#555\"";
