@@ -61,11 +61,11 @@
  * the id GWZ_SUMMARY_ID, which is 1; others put the rest there, and this library hands none out. Ids below GWZ_FIRST_HIGH_ID,
  * which is 2^31, may be skipped: every reader does, that of the summary too. An id from there up says that the values must not
  * be used by who does not understand it, as where a part holds a datum shift. NONE IS DEFINED YET, so at every level such a
- * stream is refused. Who adds such a part also raises the needed minor to 12 if it is below that (in groups of 128 it is 13), and
- * the written one to the needed if it is below that, and no higher (docs/FORMAT.md has the bytes): then readers of this library refuse the stream by 7
- * below the need and by 15, with the first such id, from it on; and older ones, which knew no such ids, by 7 too. Where the need
- * had to be raised and was not (in groups of 32), a reader that reaches it refuses the stream by 8 in this library, and skips
- * the part in releases before 0.10.0.
+ * stream is refused. Who adds such a part also raises the needed minor to 12 if it is below that (in groups of 128 it is 13),
+ * and the written one to the needed if it is below that, and no higher (docs/FORMAT.md has the bytes): then readers of this
+ * library refuse the stream by 7 below the need and by 15, with the first such id, from it on; and older ones, which knew no
+ * such ids, by 7 too. Where the need had to be raised and was not (in groups of 32), a reader that reaches it refuses the stream
+ * by 8 in this library, and skips the part in releases before 0.10.0.
  *
  *
  * PATTERNS, NOT FLOATS
