@@ -5,9 +5,10 @@
  *     cc -std=c99 -I include examples/tide_mean.c target/lib/libgwizdorad.a -lm -o tide_mean
  *
  * Within a tolerance 2^k a value becomes the nearest multiple of 2^(k+1). This gauge counts in steps of 2^k, so every odd reading lies halfway
- * between two of them. Written at the levels 8 to 13 such a half goes away from zero: up, where all readings are above chart datum (and down below it), and
- * the mean goes up with them, by 2^k times the share of halves. Written at level 14 it goes to the even multiple, and about half of them go up and half down. No reader has to be newer for that. So:
- * write at level 14, unless the file is compared byte for byte with one of an older writer.
+ * between two of them. Written at the levels 8 to 13 such a half goes away from zero: up, where all readings are above chart datum (and down below
+ * it), and the mean goes up with them, by 2^k times the share of halves. Written at level 14 it goes to the even multiple, and about half of them
+ * go up and half down. No reader has to be newer for that. So: write at level 14, unless the file is compared byte for byte with one of an older
+ * writer.
  */
 #include "gwizdorad.h"
 
