@@ -86,8 +86,8 @@ enum gwz_exponent_limit {
 
 /*
  * Where, within a tolerance, a value goes that lies halfway between two multiples of 2^(k+1): an odd multiple of 2^k. The
- * tolerance is kept by both rules. Away from zero, positive values come back too high on the average, by 2^k times the share
- * of such halves among them, and negative ones too low; of the readings of a gauge that counts in steps of 2^k those of an odd
+ * tolerance is kept by both rules. Away from zero, such halves raise the mean of positive values by 2^k times their share
+ * among them, and lower that of negative ones; of the readings of a gauge that counts in steps of 2^k those of an odd
  * count are halves. To even, as IEEE 754 rounds, halves that are spread evenly go up as often as down; a value that is always
  * the same half still goes one way.
  */

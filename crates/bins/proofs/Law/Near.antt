@@ -153,17 +153,30 @@ pub record Asked (f : Format) (j o F : ℕ) : Type 0 where
   pub reciprocal : prec f - 1 + F + j ≡ suc (low f + low f)
   pub factor-field : F < ones f
 
-pub asked32 : (j o : ℕ) → (o < thresholdOrdinal 23 j) × (24 ≤ j) × (j ≤ lastBin 32 23) → Asked binary32 j o (276 - j)
-unfolding lastBin
-asked32 j o h =
-    let last : j ≤ 253 = h .2 in
-    record { below = h .0; bin-field = omega arith; some = omega arith; reciprocal = omega arith; factor-field = omega (arith, h .1) }
+-- Its contract says it: below T, and from the bin prec on, where half of E is a normal float, to the last. What is left is of the formats alone.
+abbrev pub width : Format → ℕ
+width binary32 = 32
+width binary64 = 64
 
-pub asked64 : (j o : ℕ) → (o < thresholdOrdinal 52 j) × (53 ≤ j) × (j ≤ lastBin 64 52) → Asked binary64 j o (2097 - j)
+last-field : (f : Format) → suc (lastBin (width f) (prec f - 1)) < ones f
 unfolding lastBin
-asked64 j o h =
-    let last : j ≤ 2045 = h .2 in
-    record { below = h .0; bin-field = omega arith; some = omega arith; reciprocal = omega arith; factor-field = omega (arith, h .1) }
+last-field binary32 = lit< tt
+last-field binary64 = lit< tt
+
+fields : (f : Format) → (ones f + prec f ≤ low f + low f) × (suc (low f + low f) < ones f + prec f + (prec f - 1))
+fields binary32 = (lit≤ tt, lit< tt)
+fields binary64 = (lit≤ tt, lit< tt)
+
+pub asked : (f : Format) (j o : ℕ) → (o < thresholdOrdinal (prec f - 1) j) × (prec f ≤ j) × (j ≤ lastBin (width f) (prec f - 1)) → Asked f j o (suc (low f + low f) - (prec f - 1) - j)
+asked f j o h =
+    let under : suc j < ones f = omega (arith, h .2, last-field f) in
+    record {
+      below = h .0;
+      bin-field = omega (arith, under);
+      some = omega (arith, under, fields f .0);
+      reciprocal = omega (arith, under, fields f .0);
+      factor-field = omega (arith, h .1, fields f .1);
+    }
 
 -- What it then knows: that its factors are numbers,
 module _ {f : Format} {j o F : ℕ} (k : Asked f j o F) where

@@ -1,27 +1,23 @@
 -- `bins::float::quotient64` meets its contract.
 use mathlib.Core.Path.{refl}
-use Prim.Native.Nat.{_-_}
 use native.Mathlib.Omega.{arith}
 use lib.Ieee.{binary64}
-use Rattle.bins.proofs.Law.Near.{Asked, asked64, ordinal-no-nan, factor-no-nan}
+use Rattle.bins.proofs.Law.Near.{asked, ordinal-no-nan, factor-no-nan}
 use borrow.Author.Needs.{needs}
 use Rattle.bins.proofs.float.quotient64.Statement.{statement}
 use Rattle.bins.proofs.float.quotient64.Tie as tie
 
-asked : (c : tie.Start) → Asked binary64 (c .args .j) (c .args .o) (2097 - c .args .j)
-asked c = asked64 _ _ (c .pre)
-
 float-from-bits-result : tie.Need-float-from-bits-result
-float-from-bits-result c = ordinal-no-nan (asked c)
+float-from-bits-result c = ordinal-no-nan (asked binary64 _ _ (c .pre))
 
 sub-result : tie.Need-sub-result
-sub-result c = omega (arith, asked c .some)
+sub-result c = omega (arith, asked binary64 _ _ (c .pre) .some)
 
 mul-result : tie.Need-mul-result
 mul-result c = search needs
 
 float-from-bits-result-2 : tie.Need-float-from-bits-result-2
-float-from-bits-result-2 c = factor-no-nan (asked c)
+float-from-bits-result-2 c = factor-no-nan (asked binary64 _ _ (c .pre))
 
 returns : tie.Need-returns
 returns c = refl
