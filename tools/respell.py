@@ -38,7 +38,7 @@ def files(ending):
 
 def snake(name):
     if name[0].islower():
-        name = re.sub(r"(?<=[a-z0-9])[A-Z]", lambda m: "_" + m[0].lower(), name)
+        name = re.sub(r"(?<=[a-z0-9])[A-Z]|(?<=[A-Z])[A-Z](?=[a-z])", lambda m: "_" + m[0].lower(), name)
     return re.sub(r"(?<=\w)-(?=\w)", "_", name)
 
 

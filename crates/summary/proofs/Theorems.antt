@@ -37,7 +37,7 @@ use Rattle.stream.proofs.Law.Accepted.{side_inside}
 use Rattle.summary.specs.Summary.{summary_id, summary, with_summary, same, summary_true, holds_in, chunks_from}
 use Rattle.summary.specs.Private.{Accepted, ListOpened}
 use Rattle.summary.specs.Theorem.{counted, ReadAs, TrueSummary, Says, format_of, HoldsSome}
-use Rattle.summary.specs.Order.{not_aNumber, at_least}
+use Rattle.summary.specs.Order.{not_a_number, at_least}
 use Rattle.summary.specs.Entry.{holds, entry_length}
 use Rattle.summary.specs.Operations.{sides_row, summary_row, room_for, x_row, add_rows, add_answer, add_out, test_rows, test_answer, list_rows, list_answer, list_out}
 use Rattle.summary.proofs.Law.Part.{same_refl, same_equal, length_summary, entry_stands, entry_says_lem}
@@ -398,7 +398,7 @@ module _ (W level x : ℕ) (s out : List ℕ) (k : ℕ) (done : list_answer W le
         )
 
 -- and where a test of a stream of the width accepts, and x is a number, it is given in room for what it names, and else refused by 4 with their number
-pub a_list_is_given : (W level x : ℕ) (s : List ℕ) (n : ℕ) → test_answer level s ≡ Done n → (header_of s).width ≡ W → not_aNumber W (fraction_bits W) x ≡ false
+pub a_list_is_given : (W level x : ℕ) (s : List ℕ) (n : ℕ) → test_answer level s ≡ Done n → (header_of s).width ≡ W → not_a_number W (fraction_bits W) x ≡ false
     → (k : ℕ) × ((out : List ℕ) → (k ≤ length out → list_answer W level x s (length out) ≡ Done k) × (length out < k → list_answer W level x s (length out) ≡ Refused 4 k))
 unfolding test_answer test_rows summary_row
 a_list_is_given W level x s n e width number =
@@ -417,7 +417,7 @@ a_list_is_given W level x s n e width number =
     )
 
 -- 2, in plain words, whatever the bytes are
-pub a_not_a_number_is_refused_by_2 : (W level x : ℕ) (s out : List ℕ) → known_level level ≡ true → not_aNumber W (fraction_bits W) x ≡ true → list_answer W level x s (length out) ≡ Refused 2 0
+pub a_not_a_number_is_refused_by_2 : (W level x : ℕ) (s out : List ℕ) → known_level level ≡ true → not_a_number W (fraction_bits W) x ≡ true → list_answer W level x s (length out) ≡ Refused 2 0
 a_not_a_number_is_refused_by_2 W level x s out known e = sym (x_no_number W level x s out known e).0
 
 -- "a chunk of not-a-numbers only is never listed"

@@ -2,17 +2,17 @@
 -- and 0 if none; -0 stands below 0)", and its bytes: "the count takes 4 bytes, each pattern W/8, little-endian, with no gaps".
 use Rattle.std.specs.Prelude.{ℕ, suc, ◌+◌, ◌*◌, ◌/◌, Bool, false, ◌||◌, cond, List, [], ◌∷◌, ◌++◌, ltb}
 use Rattle.blocks.specs.Bytes.{digits}
-use Rattle.summary.specs.Order.{not_aNumber, rank, at_least}
+use Rattle.summary.specs.Order.{not_a_number, rank, at_least}
 
 -- "a count of not-a-numbers"
 unfoldable pub nans_in : ℕ → ℕ → List ℕ → ℕ
 nans_in W m [] = 0
-nans_in W m (p ∷ ps) = cond (not_aNumber W m p) (suc (nans_in W m ps)) (nans_in W m ps)
+nans_in W m (p ∷ ps) = cond (not_a_number W m p) (suc (nans_in W m ps)) (nans_in W m ps)
 
 -- the "other" values, in their order
 unfoldable pub others : ℕ → ℕ → List ℕ → List ℕ
 others W m [] = []
-others W m (p ∷ ps) = cond (not_aNumber W m p) (others W m ps) (p ∷ others W m ps)
+others W m (p ∷ ps) = cond (not_a_number W m p) (others W m ps) (p ∷ others W m ps)
 
 -- the smallest of p and what follows it, and the largest
 unfoldable pub smallest_from : ℕ → ℕ → List ℕ → ℕ

@@ -5,7 +5,7 @@ use Rattle.stream.specs.Rows.{Row, row, first, answer, after}
 use Rattle.stream.specs.Header.{header_of}
 use Rattle.stream.specs.Operations.{header_rows, content_rows, width_row, check_rows}
 use Rattle.stream.specs.declared.answers.Answer.{Answer}
-use Rattle.summary.specs.Order.{not_aNumber}
+use Rattle.summary.specs.Order.{not_a_number}
 use Rattle.summary.specs.Summary.{with_summary, summary_true, chunks_from}
 
 -- ---- rows that these operations have behind the check's
@@ -46,7 +46,7 @@ test_answer level s = answer (first (test_rows level s)) (header_of s).count
 
 -- "an x that is a not-a-number is 2, after 1 and before 5"
 unfoldable pub x_row : ℕ → ℕ → Row
-x_row W x = row 2 (not_aNumber W (fraction_bits W) x) 0
+x_row W x = row 2 (not_a_number W (fraction_bits W) x) 0
 
 unfoldable pub list_rows : ℕ → ℕ → ℕ → List ℕ → ℕ → List Row
 list_rows W level x s room =

@@ -9,8 +9,8 @@ unfoldable pub infinity_ordinal : ℕ → ℕ → ℕ
 infinity_ordinal W m = (2 ^ (W - 1 - m) - 1) * 2 ^ m
 
 -- a not-a-number: its ordinal lies above theirs. Infinities are values.
-unfoldable pub not_aNumber : ℕ → ℕ → ℕ → Bool
-not_aNumber W m p = ltb (infinity_ordinal W m) (ordinal W p)
+unfoldable pub not_a_number : ℕ → ℕ → ℕ → Bool
+not_a_number W m p = ltb (infinity_ordinal W m) (ordinal W p)
 
 -- The place of a pattern in the order of the summary: those with the sign from the largest ordinal down to -0, and right behind it 0 and the others up.
 unfoldable pub rank : ℕ → ℕ → ℕ
@@ -23,5 +23,5 @@ zero_or_minus_zero W p = eqb (ordinal W p) 0
 -- the value p is at least x: both are numbers, and p stands at x or behind it, or both are zeros
 unfoldable pub at_least : ℕ → ℕ → ℕ → ℕ → Bool
 at_least W m x p =
-    not (not_aNumber W m x) && not (not_aNumber W m p)
+    not (not_a_number W m x) && not (not_a_number W m p)
     && (leb (rank W x) (rank W p) || (zero_or_minus_zero W x && zero_or_minus_zero W p))

@@ -11,7 +11,7 @@ use Rattle.stream.specs.declared.answers.ChunkRead.TheVariants.{Read, NotThere}
 use Rattle.stream.specs.declared.answers.Step.TheVariants.{Pass}
 use Rattle.stream.specs.declared.header.Header.{Header}
 use Rattle.summary.specs.declared.entry.Entry.{Entry}
-use Rattle.summary.specs.Order.{not_aNumber, rank}
+use Rattle.summary.specs.Order.{not_a_number, rank}
 use Rattle.summary.specs.Entry.{nans_in, smallest, largest, entry_length}
 use Rattle.summary.specs.Summary.{summary_in}
 
@@ -26,11 +26,11 @@ floor_rank W x = rank W (cond (eqb (ordinal W x) 0) (2 ^ (W - 1)) x)
 -- the lowest and the highest place of a value that is no not-a-number; of none, the end from which the search starts
 unfoldable pub low_rank : ℕ → ℕ → List ℕ → ℕ
 low_rank W m [] = 2 ^ W - 1
-low_rank W m (p ∷ ps) = cond (not_aNumber W m p) (low_rank W m ps) (min (rank W p) (low_rank W m ps))
+low_rank W m (p ∷ ps) = cond (not_a_number W m p) (low_rank W m ps) (min (rank W p) (low_rank W m ps))
 
 unfoldable pub high_rank : ℕ → ℕ → List ℕ → ℕ
 high_rank W m [] = 0
-high_rank W m (p ∷ ps) = cond (not_aNumber W m p) (high_rank W m ps) (max (rank W p) (high_rank W m ps))
+high_rank W m (p ∷ ps) = cond (not_a_number W m p) (high_rank W m ps) (max (rank W p) (high_rank W m ps))
 
 -- h is the header of bytes that a check has accepted, at some level
 pub record Accepted (h : Header) (s : List ℕ) : Type 0 where
@@ -56,11 +56,11 @@ pub record Summarised (h : Header) (s : List ℕ) (place : ℕ) : Type 0 where
 -- x is a number of the width of the header
 pub record Comparable (h : Header) (x : ℕ) : Type 0 where
   pub fits : x < 2 ^ h.width
-  pub number : not_aNumber h.width (fraction_bits h.width) x ≡ false
+  pub number : not_a_number h.width (fraction_bits h.width) x ≡ false
 
 -- 1 2 5 6 7 8 14, the list's rows in front of the tables': none of them is given
 pub record ListOpened (W level x : ℕ) (s : List ℕ) : Type 0 where
   pub known : known_level level ≡ true
-  pub number : not_aNumber W (fraction_bits W) x ≡ false
+  pub number : not_a_number W (fraction_bits W) x ≡ false
   pub opening : first (opening_rows level s) ≡ Pass
   pub width : (header_of s).width ≡ W

@@ -2,18 +2,18 @@
 // a loop over values needs no branch.
 ghost use Rattle.std.specs.Prelude.{◌≡◌, true, ◌^◌, ◌<◌};
 ghost use Rattle.stream.specs.Setting.{known_width, fraction_bits};
-ghost use Rattle.summary.specs.Order.{not_aNumber, rank};
+ghost use Rattle.summary.specs.Order.{not_a_number, rank};
 ghost use Rattle.summary.specs.Private.{pattern_of, floor_rank};
 
 // Infinities are numbers here.
 pub(crate) fn not_a_number32(p: u32) -> bool
-    ensures { result ≡ not_aNumber 32 23 p }
+    ensures { result ≡ not_a_number 32 23 p }
 {
     0x7F80_0000 < p % 0x8000_0000
 }
 
 pub(crate) fn not_a_number64(p: u64) -> bool
-    ensures { result ≡ not_aNumber 64 52 p }
+    ensures { result ≡ not_a_number 64 52 p }
 {
     0x7FF0_0000_0000_0000 < p % 0x8000_0000_0000_0000
 }
@@ -84,7 +84,7 @@ pub(crate) fn floor_rank64(x: u64) -> u64
 // The same by the width, of a pattern in a word of either.
 pub(crate) fn not_a_number(width: usize, p: u64) -> bool
     requires { (known_width width ≡ true) × (p < 2 ^ width) }
-    ensures { result ≡ not_aNumber width (fraction_bits width) p }
+    ensures { result ≡ not_a_number width (fraction_bits width) p }
 {
     if width == 32 {
         return not_a_number32(p as u32);

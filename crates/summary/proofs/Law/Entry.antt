@@ -12,7 +12,7 @@ use lib.Pow.{pow_pos}
 use Rattle.blocks.specs.Bytes.{Below}
 use Rattle.blocks.proofs.Law.Digits.{length_digits}
 use Rattle.bins.proofs.Law.Number.{le_or_lt}
-use Rattle.summary.specs.Order.{not_aNumber, rank, at_least}
+use Rattle.summary.specs.Order.{not_a_number, rank, at_least}
 use Rattle.summary.specs.Entry.{nans_in, others, smallest_from, largest_from, smallest_in, largest_in, smallest, largest, entry_length, entry_bytes, holds}
 use Rattle.summary.specs.Private.{pattern_of, floor_rank, low_rank, high_rank}
 use Rattle.summary.proofs.Law.Order.{at_least_floor}
@@ -43,7 +43,7 @@ module _ (W : ℕ) where
 module _ (W m : ℕ) where
   -- p stands in vs, and is no not-a-number
   abbrev pub Among : List ℕ → ℕ → Type 0
-  Among vs p = (i : ℕ) × (i < length vs) × (get_or vs i 0 ≡ p) × (not_aNumber W m p ≡ false)
+  Among vs p = (i : ℕ) × (i < length vs) × (get_or vs i 0 ≡ p) × (not_a_number W m p ≡ false)
 
   -- ---- the others are the values that count
 
@@ -54,20 +54,20 @@ module _ (W m : ℕ) where
   pub others_among : (vs : List ℕ) (j : ℕ) → j < length (others W m vs) → Among vs (get_or (others W m vs) j 0)
   unfolding others
   others_among [] j l = absurd (omega (arith, l))
-  others_among (p ∷ ps) j l = go (not_aNumber W m p) refl j l (λ k h. later p ps (get_or (others W m ps) k 0) (others_among ps k h))
+  others_among (p ∷ ps) j l = go (not_a_number W m p) refl j l (λ k h. later p ps (get_or (others W m ps) k 0) (others_among ps k h))
     where
-      go : (b : Bool) → not_aNumber W m p ≡ b → (j : ℕ) → j < length (cond b (others W m ps) (p ∷ others W m ps))
+      go : (b : Bool) → not_a_number W m p ≡ b → (j : ℕ) → j < length (cond b (others W m ps) (p ∷ others W m ps))
           → ((k : ℕ) → k < length (others W m ps) → Among (p ∷ ps) (get_or (others W m ps) k 0)) → Among (p ∷ ps) (get_or (cond b (others W m ps) (p ∷ others W m ps)) j 0)
       go true e j h rest = rest j h
       go false e zero h rest = (0, omega arith, refl, e)
       go false e (suc j) h rest = rest j (omega (arith, h))
 
-  pub among_others : (vs : List ℕ) (i : ℕ) → i < length vs → not_aNumber W m (get_or vs i 0) ≡ false
+  pub among_others : (vs : List ℕ) (i : ℕ) → i < length vs → not_a_number W m (get_or vs i 0) ≡ false
       → (j : ℕ) × (j < length (others W m vs)) × (get_or (others W m vs) j 0 ≡ get_or vs i 0)
   unfolding others
   among_others [] i l e = absurd (omega (arith, l))
   among_others (p ∷ ps) zero l e = rw e (0, omega arith, refl)
-  among_others (p ∷ ps) (suc i) l e = go (not_aNumber W m p) (among_others ps i (omega (arith, l)) e)
+  among_others (p ∷ ps) (suc i) l e = go (not_a_number W m p) (among_others ps i (omega (arith, l)) e)
     where
       go : (b : Bool) → (j : ℕ) × (j < length (others W m ps)) × (get_or (others W m ps) j 0 ≡ get_or ps i 0)
           → (j : ℕ) × (j < length (cond b (others W m ps) (p ∷ others W m ps))) × (get_or (cond b (others W m ps) (p ∷ others W m ps)) j 0 ≡ get_or ps i 0)
@@ -142,10 +142,10 @@ module _ (W m : ℕ) where
 
   -- ---- one value more
 
-  pub low_snoc : (vs : List ℕ) (p : ℕ) → low_rank W m (vs ++ (p ∷ [])) ≡ cond (not_aNumber W m p) (low_rank W m vs) (min (low_rank W m vs) (rank W p))
+  pub low_snoc : (vs : List ℕ) (p : ℕ) → low_rank W m (vs ++ (p ∷ [])) ≡ cond (not_a_number W m p) (low_rank W m vs) (min (low_rank W m vs) (rank W p))
   low_snoc = walk.place_snoc W m low
 
-  pub high_snoc : (vs : List ℕ) (p : ℕ) → high_rank W m (vs ++ (p ∷ [])) ≡ cond (not_aNumber W m p) (high_rank W m vs) (max (high_rank W m vs) (rank W p))
+  pub high_snoc : (vs : List ℕ) (p : ℕ) → high_rank W m (vs ++ (p ∷ [])) ≡ cond (not_a_number W m p) (high_rank W m vs) (max (high_rank W m vs) (rank W p))
   high_snoc = walk.place_snoc W m high
 
   -- ---- the two patterns, by places
@@ -192,11 +192,11 @@ module _ (W m : ℕ) where
 
     -- every value that counts has its place between the two
     pub smallest_least : (vs : List ℕ) → Below (2 ^ W) vs → nans_in W m vs < length vs
-        → (k : ℕ) → k < length vs → not_aNumber W m (get_or vs k 0) ≡ false → rank W (smallest W m vs) ≤ rank W (get_or vs k 0)
+        → (k : ℕ) → k < length vs → not_a_number W m (get_or vs k 0) ≡ false → rank W (smallest W m vs) ≤ rank W (get_or vs k 0)
     smallest_least vs all l k h e = omega (arith, rank_smallest vs all l, walk.place_holds W m low vs k h e)
 
     pub largest_most : (vs : List ℕ) → Below (2 ^ W) vs → nans_in W m vs < length vs
-        → (k : ℕ) → k < length vs → not_aNumber W m (get_or vs k 0) ≡ false → rank W (get_or vs k 0) ≤ rank W (largest W m vs)
+        → (k : ℕ) → k < length vs → not_a_number W m (get_or vs k 0) ≡ false → rank W (get_or vs k 0) ≤ rank W (largest W m vs)
     largest_most vs all l k h e = omega (arith, rank_largest vs all l, walk.place_holds W m high vs k h e)
 
     pub smallest_is : (vs : List ℕ) → Below (2 ^ W) vs → nans_in W m vs < length vs → smallest W m vs ≡ pattern_of W (low_rank W m vs)
@@ -209,8 +209,8 @@ module _ (W m : ℕ) where
 
     -- ---- "some value at least x" is a question to the largest
 
-    module _ (x : ℕ) (hx : x < 2 ^ W) (number : not_aNumber W m x ≡ false) where
-      never : (p : ℕ) → not_aNumber W m p ≡ true → at_least W m x p ≡ false
+    module _ (x : ℕ) (hx : x < 2 ^ W) (number : not_a_number W m x ≡ false) where
+      never : (p : ℕ) → not_a_number W m p ≡ true → at_least W m x p ≡ false
       unfolding at_least
       never p e = rw (number, e)
 
@@ -237,9 +237,9 @@ module _ (W m : ℕ) where
       pub holds_by_rank : (vs : List ℕ) → Below (2 ^ W) vs → holds W m x vs ≡ (ltb (nans_in W m vs) (length vs) && leb (floor_rank W x) (high_rank W m vs))
       unfolding holds nans_in high_rank
       holds_by_rank [] all = refl
-      holds_by_rank (p ∷ ps) all = rw (holds_by_rank ps (λ i. all (suc i))) (go (not_aNumber W m p) refl)
+      holds_by_rank (p ∷ ps) all = rw (holds_by_rank ps (λ i. all (suc i))) (go (not_a_number W m p) refl)
         where
-          go : (b : Bool) → not_aNumber W m p ≡ b
+          go : (b : Bool) → not_a_number W m p ≡ b
               → (at_least W m x p || (ltb (nans_in W m ps) (length ps) && leb (floor_rank W x) (high_rank W m ps)))
               ≡ (ltb (cond b (suc (nans_in W m ps)) (nans_in W m ps)) (suc (length ps)) && leb (floor_rank W x) (cond b (high_rank W m ps) (max (rank W p) (high_rank W m ps))))
           go true e = rw (never p e, leb-suc-suc (suc (nans_in W m ps)) (length ps))

@@ -15,7 +15,7 @@ use Rattle.stream.specs.declared.answers.Step.{Step}
 use Rattle.stream.specs.declared.answers.Step.TheVariants.{Pass, Stop}
 use Rattle.stream.specs.declared.header.Header.{Header}
 use Rattle.stream.proofs.Law.Rows.First.{opened, opened_both, shut}
-use Rattle.summary.specs.Order.{not_aNumber}
+use Rattle.summary.specs.Order.{not_a_number}
 use Rattle.summary.specs.Summary.{summary_true, chunks_from}
 use Rattle.summary.specs.Operations.{summary_row, room_for, x_row, list_rows, list_answer, list_out}
 use Rattle.summary.specs.Private.{Comparable, ListOpened}
@@ -65,11 +65,11 @@ module _ (W level x : ℕ) (s out : List ℕ) where
   level_unknown e = refused 1 0 (rw e)
 
   module _ (known : known_level level ≡ true) where
-    pub x_no_number : not_aNumber W (fraction_bits W) x ≡ true → ListSays (Refused 2 0) out
+    pub x_no_number : not_a_number W (fraction_bits W) x ≡ true → ListSays (Refused 2 0) out
     unfolding list_rows x_row first
     x_no_number e = refused 2 0 (rw (known, e))
 
-    module _ (number : not_aNumber W (fraction_bits W) x ≡ false) where
+    module _ (number : not_a_number W (fraction_bits W) x ≡ false) where
       -- without row 2, the list begins with the opening's rows
       without_two : first (list_rows W level x s (length out))
           ≡ first (opening_rows level s ++ (width_row W (header_of s) ∷ content_rows (header_of s) s) ++ last_rows x s (length out))
@@ -125,5 +125,5 @@ bound_of W level x s o fits h is =
     let w : W ≡ h.width = sym (ap (λ (g : Header). g.width) is ∙ o.width) in
     record {
       fits = subst (λ (v : ℕ). x < 2 ^ v) w fits;
-      number = subst (λ (v : ℕ). not_aNumber v (fraction_bits v) x ≡ false) w o.number;
+      number = subst (λ (v : ℕ). not_a_number v (fraction_bits v) x ≡ false) w o.number;
     }

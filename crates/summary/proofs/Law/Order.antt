@@ -10,7 +10,7 @@ use lib.Dec.{leb, eqb}
 use lib.Pow.{pow_pos}
 use Rattle.bins.specs.Tolerance.{ordinal}
 use Rattle.bins.proofs.Law.Number.{le_or_lt, mod_once, twice_half}
-use Rattle.summary.specs.Order.{not_aNumber, rank, zero_or_minus_zero, at_least}
+use Rattle.summary.specs.Order.{not_a_number, rank, zero_or_minus_zero, at_least}
 use Rattle.summary.specs.Private.{pattern_of, floor_rank}
 
 module _ (W : ℕ) (some : 1 ≤ W) where
@@ -134,6 +134,6 @@ module _ (W : ℕ) (some : 1 ≤ W) where
             let n : ordinal W x ≡ 0 → ⊥ = λ e. omega (arith, e, s) in
             rw (ne_eqb (ordinal W x) 0 n, floor_some x n) (or-false (leb (rank W x) (rank W p)))
 
-    pub at_least_floor : (m : ℕ) → not_aNumber W m x ≡ false → not_aNumber W m p ≡ false → at_least W m x p ≡ leb (floor_rank W x) (rank W p)
+    pub at_least_floor : (m : ℕ) → not_a_number W m x ≡ false → not_a_number W m p ≡ false → at_least W m x p ≡ leb (floor_rank W x) (rank W p)
     unfolding at_least
     at_least_floor m a b = rw (a, b) floor_is

@@ -8,7 +8,7 @@ use native.Mathlib.Omega.{arith}
 use lib.ListN.{length, take, get_or}
 use lib.Seq.{take-suc, take_all}
 use Rattle.blocks.specs.Bytes.{Below}
-use Rattle.summary.specs.Order.{not_aNumber, rank}
+use Rattle.summary.specs.Order.{not_a_number, rank}
 use Rattle.summary.specs.Entry.{nans_in, smallest, largest}
 use Rattle.summary.specs.Private.{pattern_of, low_rank, high_rank}
 use Rattle.summary.proofs.Law.Entry.{low_snoc, high_snoc, nans_snoc, nans_most, smallest_is, largest_is, smallest_none, largest_none}
@@ -42,7 +42,7 @@ module _ {W m : ℕ} {vs : List ℕ} {nans low high i : ℕ} (so_far : Passed W 
     one_more : take (i + 1) vs ≡ take i vs ++ (p ∷ [])
     one_more = ap (λ (k : ℕ). take k vs) (add-one i) ∙ take-suc vs i 0 h
 
-    pub passed_nan : not_aNumber W m p ≡ true → Passed W m vs (nans + 1) low high (i + 1)
+    pub passed_nan : not_a_number W m p ≡ true → Passed W m vs (nans + 1) low high (i + 1)
     passed_nan t =
         record {
           within = omega arith;
@@ -52,7 +52,7 @@ module _ {W m : ℕ} {vs : List ℕ} {nans low high i : ℕ} (so_far : Passed W 
           high_is = rw (one_more, high_snoc W m (take i vs) p, t) so_far.high_is;
         }
 
-    pub passed_number : {r l g : ℕ} → not_aNumber W m p ≡ false → r ≡ rank W p → l ≡ min low r → g ≡ max high r → Passed W m vs nans l g (i + 1)
+    pub passed_number : {r l g : ℕ} → not_a_number W m p ≡ false → r ≡ rank W p → l ≡ min low r → g ≡ max high r → Passed W m vs nans l g (i + 1)
     passed_number f is is-low is-high =
         record {
           within = omega arith;

@@ -9,7 +9,7 @@ use Rattle.stream.specs.Rows.{first}
 use Rattle.stream.specs.Operations.{opening_rows}
 use Rattle.stream.specs.declared.answers.Step.TheVariants.{Pass}
 use Rattle.stream.proofs.Law.Header.Opening.{open_is, shut_is}
-use Rattle.summary.specs.Order.{not_aNumber}
+use Rattle.summary.specs.Order.{not_a_number}
 use Rattle.summary.proofs.Law.ListRows.{level_unknown, x_no_number, list_shut, list_width, list_opened}
 use Rattle.summary.proofs.listed.list.Statement.{statement}
 use Rattle.summary.proofs.listed.list.Tie as tie
@@ -19,7 +19,7 @@ level_known : (c : tie.Else1) → known_level c.before.before.before.before.args
 level_known c = sym c.before.known-level.ensures ∙ not-false c.before.known-level.result c.if1.false
 
 -- the bound is a number
-numbered : (c : tie.Else2) → let a = c.before.before.before.before.before.before.args in not_aNumber a.width (fraction_bits a.width) a.x ≡ false
+numbered : (c : tie.Else2) → let a = c.before.before.before.before.before.before.args in not_a_number a.width (fraction_bits a.width) a.x ≡ false
 numbered c = sym c.before.not-a-number.ensures ∙ c.if2.false
 
 -- the opening passed, and its header

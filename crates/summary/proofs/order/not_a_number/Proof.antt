@@ -5,7 +5,7 @@ use native.Mathlib.Omega.{arith}
 use borrow.Author.Rules.{rules}
 use Rattle.stream.specs.Setting.{fraction_bits}
 use Rattle.stream.proofs.Law.Setting.Allowed.{width_other}
-use Rattle.summary.specs.Order.{not_aNumber}
+use Rattle.summary.specs.Order.{not_a_number}
 use Rattle.summary.proofs.order.not_a_number.Statement.{statement}
 use Rattle.summary.proofs.order.not_a_number.Tie as tie
 
@@ -22,7 +22,7 @@ returns : tie.Need-returns
 unfolding fraction_bits
 returns c =
     c.not-a-number32.ensures
-    ∙ ap (λ (w : ℕ). not_aNumber w (fraction_bits w) c.before.before.args.p) (sym c.before.if1.true)
+    ∙ ap (λ (w : ℕ). not_a_number w (fraction_bits w) c.before.before.args.p) (sym c.before.if1.true)
 
 not-a-number64-requires : tie.Need-not-a-number64-requires
 not-a-number64-requires c κs = search rules
@@ -32,7 +32,7 @@ unfolding fraction_bits
 returns-2 c =
     let s = c.before.before in
     c.not-a-number64.ensures
-    ∙ ap (λ (w : ℕ). not_aNumber w (fraction_bits w) s.args.p) (sym (width_other s.args.width s.requires.0 c.before.if1.false))
+    ∙ ap (λ (w : ℕ). not_a_number w (fraction_bits w) s.args.p) (sym (width_other s.args.width s.requires.0 c.before.if1.false))
 
 pub not_a_number_spec : {M : Type 1} → statement M
 not_a_number_spec =
