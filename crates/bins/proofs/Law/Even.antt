@@ -2,7 +2,7 @@
 use Rattle.std.proofs.Common.{◌≡◌, ℕ, suc, ◌+◌, ◌-◌, ◌*◌, ◌/◌, ◌%◌, ◌^◌, ◌<◌, ◌≤◌, Bool, true, false, not, T, sym, refl, ap, ◌∙◌, subst, ap₂, le_trans, le_of_eq, le_refl, lt_of_lt_of_le, mul-le-mul_right, mod-lt, mul_assoc, suc-mul, mul_comm, add-mul, mul-lt-mul_of_pos_right, mul-pos, one-mul, div-add-mod', mul-one, mul_left_comm, arith, lit<, pow_pos}
 use Prim.Native.Nat.{compare, Ordering}
 use lib.Arith.{digits_div, digits_mod}
-use lib.Ieee.{Float, Format, binary32, binary64, prec, low, nearest as ieee-nearest, round, add, lt, of_bits, to_bits, is_nan}
+use lib.Ieee.{Float, Format, binary32, binary64, prec, low, nearest as ieee-nearest, round, add, lt, to_bits, is_nan}
 use lib.Ieee.Exact.{HasValue}
 use lib.Ieee.Nearest.{closest, closest_same}
 use Rattle.bins.specs.Tolerance.{nearest}

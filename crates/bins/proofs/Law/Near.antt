@@ -1,11 +1,10 @@
 -- |v| / E as a product of floats, once over the formats: exact, or so small that it rounds to no bin; and the bins nearest, by a sum with it.
-use Rattle.std.proofs.Common.{◌≡◌, ℕ, suc, ◌+◌, ◌-◌, ◌*◌, ◌/◌, ◌%◌, ◌^◌, ◌<◌, ◌≤◌, Bool, true, false, cond, not, T, eqb, leb, ◌⊎◌, sym, refl, ap, ◌∙◌, subst, inl, inr, le_trans, le_of_eq, lt_of_lt_of_le, lt_of_le_of_lt, le_of_lt, mul-le-mul_right, mod-lt, mod-eq_of_lt, mul_assoc, mul_comm, div-lt_iff_lt-mul, mul-le-mul_left, mul-lt-mul_of_pos_right, mul-pos, one-mul, mul-one, arith, lit<, lit≤, leb→le, pow_pos, pow_mono, pow-add, shl_lt}
+use Rattle.std.proofs.Common.{◌≡◌, ℕ, suc, ◌+◌, ◌-◌, ◌*◌, ◌/◌, ◌%◌, ◌^◌, ◌<◌, ◌≤◌, Bool, true, false, cond, not, T, eqb, ◌⊎◌, sym, refl, ap, ◌∙◌, subst, inl, inr, le_trans, le_of_eq, lt_of_lt_of_le, lt_of_le_of_lt, le_of_lt, mul-le-mul_right, mod-lt, mul_assoc, mul_comm, div-lt_iff_lt-mul, mul-le-mul_left, mul-lt-mul_of_pos_right, mul-pos, one-mul, mul-one, arith, lit<, lit≤, pow_pos, pow_mono, pow-add, shl_lt}
 use Prim.Native.Nat.{compare}
-use native.Mathlib.Nat.{div-eq_of_lt, two-pow-succ}
-use lib.Dec.{not_T}
+use native.Mathlib.Nat.{two-pow-succ}
 use lib.Pow.{pow-lt}
-use lib.Ieee.{Float, Format, binary32, binary64, prec, emax, low, hid, ones, top, size, round, mul, add, sub, lt, of_bits, to_bits, fits, is_nan, nan_bits}
-use lib.Ieee.Bits.{is_false, nan_bits_is, of_bits-to_bits}
+use lib.Ieee.{Float, Format, binary32, binary64, prec, emax, low, hid, ones, size, round, mul, add, sub, lt, of_bits, to_bits, fits, is_nan, nan_bits}
+use lib.Ieee.Bits.{nan_bits_is, of_bits-to_bits}
 use lib.Ieee.Digits.{size-le}
 use lib.Ieee.Exact.{HasValue, round_exact}
 use lib.Ieee.Fits.{nearest-le, mul-fits, sub-fits}

@@ -1,7 +1,7 @@
 -- Sums, differences and comparisons of floats by their values, and a sum with 2 ^ m - 1/2, from which the nearest whole number is read, once over the formats.
 use Rattle.std.proofs.Common.{◌≡◌, ℕ, suc, ◌+◌, ◌-◌, ◌*◌, ◌/◌, ◌%◌, ◌^◌, ◌<◌, ◌≤◌, Bool, true, false, cond, not, T, eqb, ltb, leb, ◌⊎◌, sym, refl, ap, ◌∙◌, subst, ap₂, inl, inr, le_trans, le_of_eq, le_refl, lt_of_lt_of_le, lt_of_le_of_lt, le_of_lt, mul-le-mul_right, mod-lt, mod-eq_of_lt, mul_assoc, suc-mul, mul_comm, div-lt_iff_lt-mul, add-mul, lt_of_mul-lt-mul_right, mul-lt-mul_of_pos_right, mul-pos, one-mul, lt_of_not-le, div-add-mod', le-div_iff_mul-le, zero-mul, mul-one, mul_right_comm, not-le_of_lt, mul_left_comm, arith, lit<, lit≤, eqb→eq, ltb→lt, lt→ltb, leb→le, pow_pos, pow_mono, pow-add, shl_lt}
 use Prim.Native.Nat.{compare, Ordering}
-use native.Mathlib.Nat.{mul-sub, div-eq_of_lt-le, div-eq_of_lt, eq_of_mul-eq-mul_right, two-pow-succ}
+use native.Mathlib.Nat.{mul-sub, div-eq_of_lt-le, eq_of_mul-eq-mul_right, two-pow-succ}
 use lib.Arith.{lt_of_le-ne}
 use lib.Dec.{is_le, compare_is_eq, nleb→lt, eqb_refl, not_T}
 use lib.Pow.{pow-lt}

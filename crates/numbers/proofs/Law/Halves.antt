@@ -1,5 +1,5 @@
 -- The nearest whole number of `bins` is the nearest one, and of two that are as near the one that the rule for halves names.
-use Rattle.std.proofs.Common.{◌≡◌, ℕ, suc, ◌+◌, ◌-◌, ◌*◌, ◌%◌, ◌<◌, ◌≤◌, ◌⊎◌, ap, inl, inr, le_refl, mul-le-mul_right, suc-mul, mul_left_comm, arith}
+use Rattle.std.proofs.Common.{◌≡◌, ℕ, suc, ◌+◌, ◌*◌, ◌%◌, ◌<◌, ◌≤◌, ◌⊎◌, inl, inr, le_refl, mul-le-mul_right, suc-mul, mul_left_comm, arith}
 use Rattle.bins.specs.Tolerance.{nearest}
 use Rattle.bins.proofs.Law.Number.{le_or_lt}
 use Rattle.bins.proofs.Law.Nearest.{Found, nearest_found}

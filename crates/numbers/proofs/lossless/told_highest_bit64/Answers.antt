@@ -1,0 +1,10 @@
+-- `numbers::lossless::told_highest_bit64` meets its contract.
+use Rattle.std.proofs.Common.{sym, ◌∙◌, lit≤}
+use Rattle.numbers.proofs.Law.Lossless.{told_below, told_above}
+use Rattle.numbers.proofs.lossless.told_highest_bit64.Goals as goal
+
+pub returns-then-set : goal.returns-then-set
+returns-then-set c = told_below 64 52 (lit≤ tt) c.args.s c.ranges.s.fits (sym c.requires ∙ c.if-set.true)
+
+pub returns-else-set : goal.returns-else-set
+returns-else-set c = told_above 64 52 (lit≤ tt) c.args.s (sym c.requires ∙ c.if-set.false)

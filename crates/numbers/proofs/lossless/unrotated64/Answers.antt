@@ -1,0 +1,13 @@
+-- `numbers::lossless::unrotated64` meets its contract.
+use Rattle.std.proofs.Common.{refl, lit<}
+use Rattle.numbers.specs.Lossless.{unrotated}
+use Rattle.numbers.proofs.Law.Lossless.{unrotated_below}
+use Rattle.numbers.proofs.lossless.unrotated64.Goals as goal
+
+pub overflow_add-result : goal.overflow_add-result
+unfolding unrotated
+overflow_add-result c = record { fits = unrotated_below 64 (lit< tt) c.args.r c.ranges.r.fits }
+
+pub returns : goal.returns
+unfolding unrotated
+returns c = refl
