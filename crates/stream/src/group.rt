@@ -3,14 +3,14 @@ ghost use Rattle.std.specs.Prelude.{◌≡◌, ◌++◌, ◌≤◌, max, length,
 ghost use Rattle.stream.specs.Group.{width_of, group_bytes};
 
 // "a record of its count and up to 32 codes"; its codes are the first `count` of the array. A group of 128 is handled as four of them.
-#[derive(Drop)]
+#[derive(Clone, Copy)]
 pub struct Group {
     pub count: usize,
     pub codes: [u64; 32],
 }
 
 // The same of codes of 32 bits, for width 32: half the size, and a compiler handles four of its codes at a time.
-#[derive(Drop)]
+#[derive(Clone, Copy)]
 pub struct Narrow {
     pub count: usize,
     pub codes: [u32; 32],

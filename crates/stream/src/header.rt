@@ -14,7 +14,7 @@ use numbers::signed;
 
 // The numbers of the table "at | number" of document 01, in its order. `exponent` has the bits of k, and the three places are `table`,
 // `start` (of the data) and `end` (of the data). All are usize, so that no sum of places wraps.
-#[derive(Drop)]
+#[derive(Clone, Copy)]
 pub struct Header {
     pub major: usize,
     pub written: usize,

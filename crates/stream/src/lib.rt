@@ -1,4 +1,6 @@
 // The stream layout of document 01: groups, chunks, header and tables, and the operations on them. Full groups are blocks of the crate `blocks`.
+#![tactic(auto)]
+
 pub mod answers;
 mod chunk;
 mod chunks;

@@ -11,7 +11,7 @@ use bins::bin;
 use bins::bin::BinAnswer;
 
 // What everything below the header wants of a setting: natural numbers, with the bin for k. `halves` is the rule for them, which coding alone asks.
-#[derive(Drop)]
+#[derive(Clone, Copy)]
 pub(crate) struct Setting {
     pub width: u32,
     pub mode: u32,

@@ -24,6 +24,8 @@ more_in turns n l = rw (le-ltb n 10 l)
 
 -- turns that are more than the number never run out, so their count does not matter
 turns_free : (f g n : ℕ) → n < f → n < g → decimal_in f n ≡ decimal_in g n
+turns_free zero g n lf lg = elim lf [ ]
+turns_free (suc f) zero n lf lg = elim lg [ ]
 turns_free (suc f) (suc g) n lf lg =
     ⊎_elim
     (λ (l : 10 ≤ n).

@@ -11,7 +11,7 @@ use lib.ListN.{length}
 use Rattle.stream.specs.Setting.{group_size, limit_of}
 use Rattle.stream.specs.Header.{header_of, setting_in}
 use Rattle.stream.specs.Relied.{Layout}
-use Rattle.stream.specs.Rows.{Row, row, first, numbers_of}
+use Rattle.stream.specs.Rows.{Row, first, numbers_of}
 use Rattle.stream.specs.Stream.{count_of, chunk_of, chunk_state}
 use Rattle.stream.specs.Tables.{ids_in}
 use Rattle.stream.specs.Operations.{opening_rows, need_row, id_row, side_rows, table_rows, fault_detail, fault_row, chunk_row, chunk_rows, content_rows, width_row, index_row, own_rows, check_rows, unpack_rows, probe_rows}

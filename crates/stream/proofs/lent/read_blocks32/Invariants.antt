@@ -1,0 +1,14 @@
+use mathlib.Core.Path.{◌≡◌}
+use Prim.Native.Nat.{ℕ, ◌+◌, ◌-◌}
+use lib.ListN.{drop}
+use Rattle.stream.specs.Block.{block_codes}
+use Rattle.stream.proofs.Law.Plain.Appended.{Appended}
+use Rattle.stream.proofs.Law.Group.Blocks.{Along}
+use Rattle.stream.proofs.lent.read_blocks32.Given as goal
+
+abbrev pub invariant-loop-done : goal.invariant-loop-done
+invariant-loop-done l =
+    (left : ℕ) × (l.done + left ≡ l.n) × Along l.w l.s left l.from × Appended (block_codes l.w l.n l.s) (block_codes l.w left (drop l.from l.s)) l.initial.out l.out l.done
+
+abbrev pub decreases-loop-done : goal.decreases-loop-done
+decreases-loop-done l = l.n - l.done

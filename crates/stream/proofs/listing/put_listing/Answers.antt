@@ -1,0 +1,34 @@
+-- `stream::listing::put_listing` meets its contract.
+use mathlib.Core.Path.{sym, ◌∙◌}
+use native.Mathlib.Omega.{arith}
+use Rattle.stream.specs.Setting.{highest_level}
+use Rattle.stream.specs.Listing.{most_input, newline, too_long, answer_lines}
+use Rattle.stream.proofs.Law.Listing.Text.{same_piece}
+use Rattle.stream.proofs.Law.Listing.Lines.{accepted, too_long_is, answered_is}
+use Rattle.stream.proofs.listing.put_listing.Goals as goal
+
+pub returns-then-bytes-gt-MOST_INPUT : goal.returns-then-bytes-gt-MOST_INPUT
+unfolding most_input newline too_long
+returns-then-bytes-gt-MOST_INPUT c =
+    same_piece (too_long_is c.args.bytes.now c.if-bytes-gt-MOST_INPUT.true) c.put_text.ensures
+
+pub put_stream-requires : goal.put_stream-requires
+unfolding highest_level
+put_stream-requires c =
+    record {
+      opened = accepted highest_level c.args.bytes.now (λ i. (c.shared_slice_known-1.given i).fits) _ (sym c.check-found.ensures ∙
+          c.in-Done.is);
+      in_bounds = omega arith;
+    }
+
+pub returns-in-Done : goal.returns-in-Done
+unfolding most_input highest_level answer_lines
+returns-in-Done c =
+    same_piece (answered_is c.args.bytes.now c.if-bytes-gt-MOST_INPUT.false _ _ c.check-found.ensures c.in-Done.is)
+    c.put_stream.ensures
+
+pub returns-in-Refused : goal.returns-in-Refused
+unfolding most_input highest_level answer_lines
+returns-in-Refused c =
+    same_piece (answered_is c.args.bytes.now c.if-bytes-gt-MOST_INPUT.false _ _ c.check-found.ensures c.in-Refused.is)
+    c.put_refused_line.ensures

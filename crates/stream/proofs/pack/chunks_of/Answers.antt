@@ -1,0 +1,9 @@
+-- `stream::pack::chunks_of` meets its contract.
+use mathlib.Core.Path.{refl}
+use native.Mathlib.Omega.{arith}
+use Rattle.stream.specs.Header.{chunks_in}
+use Rattle.stream.proofs.pack.chunks_of.Goals as goal
+
+pub returns : goal.returns
+unfolding chunks_in
+returns c = (refl, omega arith)
