@@ -1,10 +1,9 @@
 -- Known values of the summary, computed: entries written out byte by byte, both orders on patterns that are easily mistaken, and document 01's worked stream
 -- (0, -0, 2^-149) with its summary: what is added, tested and listed, and each refusal that these operations have of their own.
 use mathlib.Core.Path.{◌≡◌, refl}
-use mathlib.Core.Bool.{Bool, true, false}
+use mathlib.Core.Bool.{true, false}
 use mathlib.Core.List.{List, [], ◌∷◌, ◌++◌, map}
 use Prim.Native.Nat.{ℕ}
-use lib.ListN.{length}
 use Rattle.bins.specs.Tolerance.{ordinal}
 use Rattle.blocks.specs.Bytes.{number, digits}
 use Rattle.numbers.specs.Lossless.{plus, raised, unstepped, unrotated, lossless_restored, field}
@@ -20,7 +19,6 @@ use Rattle.stream.specs.Tables.{some_high, every, start_at, start_right, chunk_t
 use Rattle.stream.specs.Writing.{spell, entries, parts, placed, add_sides}
 use lib.Ieee.{size}
 use Rattle.stream.specs.Access.{has_id, entry_of, place_of, length_of, side_bytes}
-use Rattle.stream.specs.declared.answers.Answer.{Answer}
 use Rattle.stream.specs.declared.answers.Answer.TheVariants.{Done, Refused}
 use Rattle.stream.specs.Group as group
 use Rattle.summary.specs.Order.{infinity_ordinal, not_a_number, rank, zero_or_minus_zero, at_least}

@@ -4,7 +4,7 @@ use Rattle.stream.specs.Setting.{fraction_bits}
 use Rattle.stream.specs.Header.{header_of}
 use Rattle.stream.specs.Tables.{ids_in}
 use Rattle.stream.specs.Stream.{joined, chunk_values}
-use Rattle.stream.specs.Writing.{Side, add_sides}
+use Rattle.stream.specs.Writing.{add_sides}
 use Rattle.stream.specs.Access.{has_id, side_bytes}
 use Rattle.stream.specs.declared.header.Header.{Header}
 use Rattle.summary.specs.Entry.{entry_bytes, holds}

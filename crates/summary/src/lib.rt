@@ -1,4 +1,6 @@
 // The summary beside the data: added to a stream, tested against its values, and the chunks that it names.
+#![tactic(auto)]
+
 pub mod adding;
 mod chunks;
 mod entry;

@@ -1,14 +1,13 @@
 -- The summary as a side part, and the copy of a stream that has it (`with_summary`).
 use mathlib.Core.Path.{◌≡◌, refl, sym, ap, ap₂, ◌∙◌, fun_ext}
 use mathlib.Core.Logic.{◌↔◌}
-use mathlib.Core.Bool.{true, false, false≢true}
+use mathlib.Core.Bool.{true, false}
 use mathlib.Core.List.{List, [], ◌∷◌, ◌++◌}
-use Prim.Native.Nat.{ℕ, zero, suc, ◌+◌, ◌*◌, ◌/◌, ◌^◌, ◌≤◌}
-use native.Mathlib.Nat.{zero-mul, suc-mul, mul-le-mul}
+use Prim.Native.Nat.{ℕ, ◌+◌, ◌*◌, ◌/◌, ◌^◌, ◌≤◌}
+use native.Mathlib.Nat.{mul-le-mul}
 use native.Mathlib.Omega.{arith}
-use borrow.Author.Tests.{eq-eqb, eqb-true}
-use lib.Dec.{eqb, lit<, lit≤}
-use lib.ListN.{length, length-append}
+use lib.Dec.{lit<, lit≤}
+use lib.ListN.{length}
 use Rattle.blocks.specs.Bytes.{Below, digits}
 use Rattle.blocks.proofs.Law.Digits.{byte, below_cons, below_append, digits_below}
 use Rattle.stream.specs.Setting.{fraction_bits}
@@ -21,7 +20,6 @@ use Rattle.stream.specs.Rows.{first}
 use Rattle.stream.specs.Operations.{check_rows}
 use Rattle.stream.specs.declared.answers.Step.TheVariants.{Pass}
 use Rattle.stream.specs.declared.header.Header.{Header}
-use Rattle.stream.proofs.Law.Plain.Truth.{and_left, and_right}
 use Rattle.stream.proofs.Law.Plain.Joined.{joined_below}
 use Rattle.stream.proofs.Law.Setting.Allowed.{settled}
 use Rattle.stream.proofs.Law.Rows.Passed.{checking}
