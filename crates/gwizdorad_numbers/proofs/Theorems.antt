@@ -10,14 +10,14 @@ use Rattle.numbers.specs.declared.tolerance.CodeAnswer.{CodeAnswer}
 use Rattle.numbers.specs.declared.tolerance.CodeAnswer.TheVariants as code
 use Rattle.numbers.specs.declared.tolerance.PatternAnswer.{PatternAnswer}
 use Rattle.numbers.specs.declared.tolerance.PatternAnswer.TheVariants as pattern
-use Rattle.gwizdorad_numbers.specs.Result.{result, bound_result, code_result, code_out, pattern_result, pattern_out}
+use Rattle.gwizdorad_numbers.specs.Result.{result_of, bound_result, code_result, code_out, pattern_result, pattern_out}
 use Rattle.gwizdorad_numbers.specs.Theorem.{Uncut}
 use Rattle.gwizdorad_numbers.proofs.Law.Spelled.{uncut, apart, signed_fits, bound_folded, bound_number_small, bound_told}
 
 -- ---- nothing is cut: a number, and the detail or the answer beside it, have 32 bits each
 
 -- whatever fits in 32 bits each is spelled whole
-pub two_that_fit_are_uncut : (number detail : ℕ) → number < 2 ^ 32 → detail < 2 ^ 32 → Uncut number detail (result number detail)
+pub two_that_fit_are_uncut : (number detail : ℕ) → number < 2 ^ 32 → detail < 2 ^ 32 → Uncut number detail (result_of number detail)
 two_that_fit_are_uncut number detail n d = uncut number detail n d
 
 -- bound's k stands in two's complement, and is read back from it

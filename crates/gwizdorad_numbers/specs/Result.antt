@@ -11,23 +11,23 @@ use Rattle.numbers.specs.declared.tolerance.PatternAnswer.{PatternAnswer}
 use Rattle.numbers.specs.declared.tolerance.PatternAnswer.TheVariants as pattern
 
 -- 32 bits each. That no number, detail or answer of an operation has more is a theorem for each (proofs/Theorems.antt, "nothing is cut").
-unfoldable pub result : ℕ → ℕ → ℕ
-result number detail = number % 2 ^ 32 * 2 ^ 32 + detail % 2 ^ 32
+unfoldable pub result_of : ℕ → ℕ → ℕ
+result_of number detail = number % 2 ^ 32 * 2 ^ 32 + detail % 2 ^ 32
 
 -- ---- the number rules
 
 unfoldable pub bound_result : BoundAnswer → ℕ
-bound_result a = result (bound_number a) (bits_of 32 (bound_detail a))
+bound_result a = result_of (bound_number a) (bits_of 32 (bound_detail a))
 
 unfoldable pub code_result : CodeAnswer → ℕ
-code_result a = result (code_number a) 0
+code_result a = result_of (code_number a) 0
 
 unfoldable pub code_out : CodeAnswer → ℕ → ℕ
 code_out (code.Code c) old = c
 code_out code.NotAllowed old = old
 
 unfoldable pub pattern_result : PatternAnswer → ℕ
-pattern_result a = result (pattern_number a) 0
+pattern_result a = result_of (pattern_number a) 0
 
 unfoldable pub pattern_out : PatternAnswer → ℕ → ℕ
 pattern_out (pattern.Pattern p) old = p

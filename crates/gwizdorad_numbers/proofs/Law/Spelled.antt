@@ -14,11 +14,11 @@ use Rattle.numbers.specs.declared.bound.BoundAnswer.{BoundAnswer}
 use Rattle.numbers.specs.declared.bound.BoundAnswer.TheVariants.{Exponent, UnknownWidth, NoTolerance, TooSmall}
 use Rattle.numbers.proofs.Law.Signed.{unfolded_folded, view_of_bits, bits_below}
 use Rattle.numbers.proofs.Theorems.{format_32, format_64, the_k_of_its_bin, an_allowed_k_has_a_bin, bound_is_the_largest}
-use Rattle.gwizdorad_numbers.specs.Result.{result}
+use Rattle.gwizdorad_numbers.specs.Result.{result_of}
 use Rattle.gwizdorad_numbers.specs.Theorem.{Uncut}
 
-pub uncut : (number detail : ℕ) → number < 2 ^ 32 → detail < 2 ^ 32 → Uncut number detail (result number detail)
-unfolding result
+pub uncut : (number detail : ℕ) → number < 2 ^ 32 → detail < 2 ^ 32 → Uncut number detail (result_of number detail)
+unfolding result_of
 uncut number detail n d =
     record {
       number_fits = n;

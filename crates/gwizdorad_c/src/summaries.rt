@@ -1,0 +1,37 @@
+// The operations on the summary beside the data, as C calls them.
+ghost use Rattle.std.specs.Prelude.{◌≡◌, length};
+ghost use Rattle.summary.specs.Operations.{add_answer, add_out, test_answer, list_answer, list_out};
+ghost use Rattle.gwizdorad.specs.Result.{answer_result};
+
+use gwizdorad::summaries;
+
+#[unsafe(no_mangle)]
+pub extern "C" fn gwz_add_summary(level: u32, bytes: &[u8], out: &mut [u8]) -> u64
+    ensures value { result ≡ answer_result (add_answer level bytes.now (length out.old)) }
+    ensures out_after { out.new ≡ add_out level bytes.now out.old }
+{
+    summaries::gwz_add_summary(level, bytes, out)
+}
+
+#[unsafe(no_mangle)]
+pub extern "C" fn gwz_test_summary(level: u32, bytes: &[u8]) -> u64
+    ensures { result ≡ answer_result (test_answer level bytes.now) }
+{
+    summaries::gwz_test_summary(level, bytes)
+}
+
+#[unsafe(no_mangle)]
+pub extern "C" fn gwz_chunks_from32(level: u32, x: u32, bytes: &[u8], out: &mut [u32]) -> u64
+    ensures value { result ≡ answer_result (list_answer 32 level x bytes.now (length out.old)) }
+    ensures out_after { out.new ≡ list_out 32 level x bytes.now out.old }
+{
+    summaries::gwz_chunks_from32(level, x, bytes, out)
+}
+
+#[unsafe(no_mangle)]
+pub extern "C" fn gwz_chunks_from64(level: u32, x: u64, bytes: &[u8], out: &mut [u32]) -> u64
+    ensures value { result ≡ answer_result (list_answer 64 level x bytes.now (length out.old)) }
+    ensures out_after { out.new ≡ list_out 64 level x bytes.now out.old }
+{
+    summaries::gwz_chunks_from64(level, x, bytes, out)
+}
