@@ -1,7 +1,7 @@
 #!/usr/bin/env python3
 """Spells the names that this repository's own antt files declare as today's Rattle does: words in snake case.
 
-usage: tools/respell.py        once, at the top of the repository, right after /opt/rattle/port/port.py (see docs/PORT.md)
+usage: tools/respell.py        once, at the top of the repository, right after port/port.py of the kit (see docs/PORT.md)
 
 Turned are the definitions, lemmas, fields and constructors of specs/ and proofs/, with camel case or dashes, wherever the crates' .rt and .antt
 files name them. Types, modules, what a Proof.antt declares only to answer a need that Rattle names, and names of the libraries stay.
