@@ -22,7 +22,7 @@ OTHER = {
     "is-nan": "is_nan_lem",
     "nan-bits": "nan_bits_lem",
     "at-least": "at_least_lem",
-    "length-of": "length_of_lem",
+    "length-of": "length_of",
     "getD-padded": "get_or_padded",
     "leZ-not": "int_le_not",
     "leZ-both": "int_le_both",

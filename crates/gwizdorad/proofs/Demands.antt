@@ -38,10 +38,10 @@ pub demand_1 : Demand1
 unfolding probe_out32 probe_out64
 demand_1 =
     record {
-      order = record { pack = pack_order; length_of_lem = length_order; check = check_order; unpack = unpack_order; probe = probe_order; add = add_order; test = test_order; list = list_order };
+      order = record { pack = pack_order; length_of = length_order; check = check_order; unpack = unpack_order; probe = probe_order; add = add_order; test = test_order; list = list_order };
       pack = λ W level mode k group vs out number detail.
           (refused_pack W level mode k group vs (length out) number detail, refused_pack_untouched W level mode k group vs out number detail);
-      length_of_lem = refused_length;
+      length_of = refused_length;
       check = refused_check;
       unpack = λ W L s out number detail. (refused_unpack W L s (length out) number detail, refused_untouched W L s out number detail);
       probe32 = λ L s i old number detail. (refused_probe32 L s i number detail, λ e. ap (λ (a : Probe32). probe_out32 a old) e);

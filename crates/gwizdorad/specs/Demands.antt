@@ -48,7 +48,7 @@ use Rattle.gwizdorad.specs.Result.{probe_out32, probe_out64}
 -- chunk, in probe for its own. Document 02, R-5: add 1 5 6 7 8 9 8 15 10 16 4, test 1 5 6 7 8 9 8 15 10 17, list 1 2 5 6 7 8 14 9 8 15 10 17 4.
 pub record StatedOrder : Type 0 where
   pub pack : (W level mode : ℕ) (k : ℤ) (group : ℕ) (vs : List ℕ) (room : ℕ) → numbers_of (pack_rows W level mode k group vs room) ≡ 1 ∷ 2 ∷ 3 ∷ 4 ∷ []
-  pub length_of_lem : (W level mode : ℕ) (k : ℤ) (group : ℕ) (n : ℕ) → numbers_of (length_rows W level mode k group n) ≡ 1 ∷ 2 ∷ 3 ∷ []
+  pub length_of : (W level mode : ℕ) (k : ℤ) (group : ℕ) (n : ℕ) → numbers_of (length_rows W level mode k group n) ≡ 1 ∷ 2 ∷ 3 ∷ []
   pub check : (L : ℕ) (s : List ℕ)
       → numbers_of (check_rows L s) ≡ 1 ∷ 5 ∷ 6 ∷ 7 ∷ 8 ∷ 9 ∷ 8 ∷ (replicate (header_of s).sides 15 ++ replicate (header_of s).chunks 10)
   pub unpack : (W L : ℕ) (s : List ℕ) (room : ℕ)
@@ -69,7 +69,7 @@ pub record Demand1 : Type 0 where
   pub pack : (W level mode : ℕ) (k : ℤ) (group : ℕ) (vs out : List ℕ) (number detail : ℕ)
       → (pack_answer W level mode k group vs (length out) ≡ Refused number detail ↔ Decides (pack_rows W level mode k group vs (length out)) number detail)
       × (pack_answer W level mode k group vs (length out) ≡ Refused number detail → pack_out W level mode k group vs out ≡ out)
-  pub length_of_lem : (W level mode : ℕ) (k : ℤ) (group : ℕ) (vs : List ℕ) (number detail : ℕ)
+  pub length_of : (W level mode : ℕ) (k : ℤ) (group : ℕ) (vs : List ℕ) (number detail : ℕ)
       → length_answer W level mode k group vs ≡ Refused number detail ↔ Decides (length_rows W level mode k group (length vs)) number detail
   pub check : (L : ℕ) (s : List ℕ) (number detail : ℕ) → check_answer L s ≡ Refused number detail ↔ Decides (check_rows L s) number detail
   pub unpack : (W L : ℕ) (s out : List ℕ) (number detail : ℕ)
