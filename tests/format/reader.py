@@ -437,7 +437,7 @@ def unpack(width, level, data, room):
 
 
 def kind_of(width, p):
-    """0 a finite number, 1 an infinity, 2 a not-a-number ("told32", "told64")."""
+    """0 a finite number, 1 an infinity, 2 a not-a-number ("told")."""
     m = FRACTION_BITS[width]
     infinity = (1 << (width - 1)) - (1 << m)  # 7F800000 or 7FF0000000000000
     o = p % (1 << (width - 1))

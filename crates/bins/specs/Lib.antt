@@ -3,3 +3,4 @@
 -- W = 32 and m = 23 is binary32, W = 64 and m = 52 binary64. Every definition is executable and total.
 pub mod Tolerance
 pub mod Answers
+pub mod Limits

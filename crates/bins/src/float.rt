@@ -12,11 +12,6 @@ ghost use Rattle.bins.specs.Tolerance.{last_bin, near, magnitude, ordinal_of, th
 use crate::halves;
 use std::num;
 
-// The first bin whose half is a normal float.
-pub(crate) const FIRST32: u32 = 24;
-
-pub(crate) const FIRST64: u32 = 53;
-
 // Whether the machine rounds to nearest, as the proofs take for granted: the sums with a quarter and with three quarters of a unit fall apart then, and by no
 // other way of rounding. j is there so that no compiler knows the answer beforehand.
 pub(crate) fn to_nearest(j: u32) -> bool
@@ -27,7 +22,7 @@ pub(crate) fn to_nearest(j: u32) -> bool
     whole + 0.25 < whole + 0.75
 }
 
-// |v| / E of an ordinal below that of T: exact, or so small that it is nearest to 0.
+// |v| / E of an ordinal below that of T: exact, or so small that it is nearest to 0. One for each float: a trait over f32 and f64 would be no plainer.
 fn quotient32(j: u32, o: u32) -> f32
     requires { (o < threshold_ordinal 23 j) × (24 ≤ j) × (j ≤ last_bin 32 23) }
     ensures { result ≡ mul binary32 (from_bits binary32 o) (from_bits binary32 ((276 - j) * 2 ^ 23)) }
@@ -85,7 +80,7 @@ fn near64(halves: u32, j: u64, o: u64) -> u64
     let r = q + 4503599627370495.5;
     let t = r - 4503599627370495.5;
     let next = f64::to_bits(r) - 0x432F_FFFF_FFFF_FFFF;
-    if q < f64::from_bits(f64::to_bits(t) + halves::odd64(halves, f64::to_bits(r) + 1)) {
+    if q < f64::from_bits(f64::to_bits(t) + halves::odd(halves, f64::to_bits(r) + 1)) {
         next - 1
     } else {
         next

@@ -5,4 +5,5 @@
 pub mod bin;
 mod float;
 mod halves;
+pub mod kernel;
 mod whole;

@@ -1,36 +1,37 @@
 // The tolerance code in whole numbers, for the bins j below 24 (53), where E or half of it is no normal float. It would serve at every bin.
-ghost use Rattle.std.specs.Prelude.{◌≡◌, ◌-◌, ◌^◌, ◌<◌, ◌≤◌};
+ghost use Rattle.std.specs.Prelude.{◌≡◌, ◌+◌, ◌-◌, ◌^◌, ◌<◌, ◌≤◌};
 ghost use Rattle.bins.specs.Tolerance.{last_bin, near, magnitude, magnitude_code, threshold_ordinal, restored_ordinal, tolerance_code};
 
 use crate::halves;
+use words::Word;
 
 // How far a goes past b.
-fn past32(a: u32, b: u32) -> u32
-    ensures { result ≡ a - b }
+fn past<T: Word>(a: T, b: T) -> T
+    ensures { T.value result ≡ T.value a - T.value b }
 {
-    if a < b { 0 } else { a - b }
+    if a < b { T::of(0) } else { a - b }
 }
 
-fn past64(a: u64, b: u64) -> u64
-    ensures { result ≡ a - b }
+// q / 2^s to the nearest whole number, for few places s: `upper` of two that are as near, less what it is above the even one if it is to be that.
+fn rounded<T: Word>(halves: u32, s: T, q: T) -> T
+    requires { (T.value q < 2 ^ (T.fraction + 1)) × (T.value s ≤ T.fraction + 2) × (T.value s + 1 < T.width) }
+    ensures { T.value result ≡ near halves (T.value s) (T.value q) }
 {
-    if a < b { 0 } else { a - b }
+    let sum = T::of(2) * q + (T::of(1) << s);
+    let upper = sum >> (s + T::of(1));
+    if sum == upper << (s + T::of(1)) {
+        upper - halves::odd(halves, upper)
+    } else {
+        upper
+    }
 }
 
-// q / 2^s to the nearest whole number: `upper` of two that are as near, less what it is above the even one if it is to be that. Past 24 places q is
-// less than a half. The shift is cut short there rather than left out, since a branch would be mispredicted on noise.
+// Past 24 places q is less than a half. The shift is cut short there rather than left out, since a branch would be mispredicted on noise.
 fn rounded32(halves: u32, s: u32, q: u32) -> u32
     requires { q < 2 ^ 24 }
     ensures { result ≡ near halves s q }
 {
-    let places = 25 - past32(25, s);
-    let sum = 2 * q + (1u32 << places);
-    let upper = sum >> (places + 1);
-    if sum == upper << (places + 1) {
-        upper - halves::odd32(halves, upper)
-    } else {
-        upper
-    }
+    rounded(halves, 25 - past(25, s), q)
 }
 
 // At width 64 the branches are the faster form: plain x86-64 compares no 64-bit lanes.
@@ -41,13 +42,7 @@ fn rounded64(halves: u32, s: u64, q: u64) -> u64
     if 53 < s {
         return 0;
     }
-    let sum = 2 * q + (1u64 << s);
-    let upper = sum >> (s + 1);
-    if sum == upper << (s + 1) {
-        upper - halves::odd64(halves, upper)
-    } else {
-        upper
-    }
+    rounded(halves, s, q)
 }
 
 // The magnitude code of an ordinal, on both sides of T at once. `some` is 1 unless the exponent is zero, and x the exponent, which counts
@@ -60,7 +55,7 @@ fn magnitude_code32(halves: u32, j: u32, o: u32) -> u32
     let some = (e + 255) / 256;
     let q = some * 0x0080_0000 + o % 0x0080_0000;
     let x = e + 1 - some;
-    rounded32(halves, past32(j + 1, x), q) + past32(x, j + 1) * 0x0080_0000
+    rounded32(halves, past(j + 1, x), q) + past(x, j + 1) * 0x0080_0000
 }
 
 // The bins nearest to the magnitude of an ordinal below that of T: its significand, moved down to the bin's place.
@@ -96,22 +91,14 @@ pub(crate) fn code64(halves: u32, j: u64, p: u64) -> u64
     2 * (o - j * 0x0010_0000_0000_0000) + sign
 }
 
-// The ordinal that u restores, on both sides of 2^23 at once: u moves up by j places as far as the significand has room, and the rest goes
+// The ordinal that u restores, on both sides of 2^23 (2^52) at once: u moves up by j places as far as the significand has room, and the rest goes
 // to the exponent. From 2^23 on there is no room. `some` is 1 unless u is zero.
-pub(crate) fn ordinal32(j: u32, u: u32) -> u32
-    requires { (u < 2 ^ 31) × (j ≤ last_bin 32 23) }
-    ensures { result ≡ restored_ordinal 23 j u }
+pub(crate) fn ordinal<T: Word>(j: T, u: T) -> T
+    requires { (T.value u < 2 ^ (T.width - 1)) × (T.value j ≤ last_bin T.width T.fraction) }
+    ensures { T.value result ≡ restored_ordinal T.fraction (T.value j) (T.value u) }
 {
-    let some = (u + 0x7FFF_FFFF) / 0x8000_0000;
-    let rest = past32(j, past32(u32::leading_zeros(u), 8));
-    some * rest * 0x0080_0000 + (u << (j - rest))
-}
-
-pub(crate) fn ordinal64(j: u64, u: u64) -> u64
-    requires { (u < 2 ^ 63) × (j ≤ last_bin 64 52) }
-    ensures { result ≡ restored_ordinal 52 j u }
-{
-    let some = (u + 0x7FFF_FFFF_FFFF_FFFF) / 0x8000_0000_0000_0000;
-    let rest = past64(j, past64(u64::leading_zeros(u) as u64, 11));
-    some * rest * 0x0010_0000_0000_0000 + (u << (j - rest))
+    let some = (u + (T::HIGHEST - T::of(1))) / T::HIGHEST;
+    let room = past(u.leading_zeros(), T::UNIT.leading_zeros());
+    let rest = past(j, T::of_u32(room));
+    some * rest * T::UNIT + (u << (j - rest))
 }

@@ -9,26 +9,30 @@ pub fn wide(x: u8) -> u64
     x as u64
 }
 
-// Two bytes, lowest first; then four and eight, side by side, so that a compiler can make one load of them.
-fn pair(s: &[u8], at: usize) -> u64
-    requires { at + 2 ≤ length s.now }
-    ensures { (result ≡ number 256 (take 2 (drop at s.now))) × (result < 65536) }
-{
-    wide(s[at]) + wide(s[at + 1]) * 256
-}
-
+// Four bytes as a number, lowest first. Each of `quad`, `load`, `store` and `half` is one call of the library: a count as a parameter would make none of
+// them shorter, and each caller would have to say it.
 pub fn quad(s: &[u8], at: usize) -> u64
     requires { at + 4 ≤ length s.now }
     ensures { (result ≡ number 256 (take 4 (drop at s.now))) × (result < 4294967296) }
 {
-    pair(s, at) + pair(s, at + 2) * 65536
+    u32::from_le_bytes([s[at], s[at + 1], s[at + 2], s[at + 3]]) as u64
 }
 
+// Eight bytes, of which a compiler makes one load.
 pub fn load(s: &[u8], at: usize) -> u64
     requires { at + 8 ≤ length s.now }
     ensures { result ≡ number 256 (take 8 (drop at s.now)) }
 {
-    quad(s, at) + quad(s, at + 4) * 4294967296
+    u64::from_le_bytes([
+        s[at],
+        s[at + 1],
+        s[at + 2],
+        s[at + 3],
+        s[at + 4],
+        s[at + 5],
+        s[at + 6],
+        s[at + 7],
+    ])
 }
 
 // The code of w bits that starts at a bit of `s`. Eight bytes hold it, unless it is so wide that the bits to skip push it into the ninth.
@@ -39,7 +43,7 @@ pub fn code_at(s: &[u8], bit: usize, w: usize) -> u64
     let at = bit / 8;
     let skip = bit % 8;
     let low = load(s, at) >> skip;
-    let mask: u64 = 18446744073709551615 >> (64 - w);
+    let mask = u64::MAX >> (64 - w);
     if skip + w <= 64 {
         low & mask
     } else {
@@ -47,19 +51,12 @@ pub fn code_at(s: &[u8], bit: usize, w: usize) -> u64
     }
 }
 
-// Eight bytes, lowest first, side by side, so that a compiler can make one store of them.
+// Eight bytes, lowest first, of which a compiler makes one store.
 pub fn store(out: &mut [u8], at: usize, word: u64)
     requires { at + 8 ≤ length out.old }
     ensures { out.new ≡ take at out.old ++ digits 256 8 word ++ drop (at + 8) out.old }
 {
-    out[at] = (word % 256) as u8;
-    out[at + 1] = (word / 256 % 256) as u8;
-    out[at + 2] = (word / 65536 % 256) as u8;
-    out[at + 3] = (word / 16777216 % 256) as u8;
-    out[at + 4] = (word / 4294967296 % 256) as u8;
-    out[at + 5] = (word / 1099511627776 % 256) as u8;
-    out[at + 6] = (word / 281474976710656 % 256) as u8;
-    out[at + 7] = (word / 72057594037927936 % 256) as u8;
+    out[at..at + 8].copy_from_slice(&word.to_le_bytes());
 }
 
 // Four bytes, lowest first.
@@ -67,8 +64,5 @@ pub fn half(out: &mut [u8], at: usize, word: u64)
     requires { at + 4 ≤ length out.old }
     ensures { out.new ≡ take at out.old ++ digits 256 4 word ++ drop (at + 4) out.old }
 {
-    out[at] = (word % 256) as u8;
-    out[at + 1] = (word / 256 % 256) as u8;
-    out[at + 2] = (word / 65536 % 256) as u8;
-    out[at + 3] = (word / 16777216 % 256) as u8;
+    out[at..at + 4].copy_from_slice(&word.to_le_bytes()[..4]);
 }

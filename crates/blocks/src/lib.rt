@@ -5,3 +5,4 @@
 pub mod block32;
 pub mod block64;
 pub mod bytes;
+mod reading;

@@ -20,9 +20,11 @@ use Rattle.stream.specs.Writing.{stream, Side, add_sides, ids_of, WellFormedSide
 use Rattle.stream.specs.Packing.{Packable, Sent}
 use Rattle.stream.specs.Theorem.{TooNew, RefusedBy}
 use Rattle.stream.specs.Operations.{check_answer, unpack_answer, unpack_out, pack_answer, pack_out}
-use Rattle.stream.specs.declared.answers.Answer.TheVariants.{Done}
-use Rattle.stream.specs.declared.answers.Probe32.{Probe32}
-use Rattle.stream.specs.declared.answers.Probe64.{Probe64}
+use Rattle.std.specs.Prelude.{Result, Ok}
+use lib.Ieee.{Float}
+use Rattle.stream.specs.declared.answers.Refusal.{Refusal}
+use Rattle.stream.specs.declared.answers.Refusal.TheVariants.{BrokenHeader, MustBeUnderstood}
+use Rattle.stream.specs.declared.answers.Shown.{Shown}
 use Rattle.stream.proofs.Readers.{check_order, unpack_order, probe_order, refused_check, refused_unpack, refused_probe32, refused_probe64, refused_untouched, written_values, probe_as_unpack32, probe_as_unpack64, check_higher, unpack_higher, probe_higher32, probe_higher64}
 use Rattle.stream.proofs.Written.{length_order, pack_order, refused_length, refused_pack, refused_pack_untouched, accepted_setting, accepted_later, accepted_list, accepted_leaves, accepted_is_raised, the_minors_as_they_were, length_is_answered, packed_length_bound, the_stream_is_packed, it_is_read, it_is_too_new, refused_by_15, refused_by_8}
 use Rattle.stream.proofs.Understood.{the_high_ids, a_high_id_is_never_skipped}
@@ -39,16 +41,16 @@ unfolding probe_out32 probe_out64
 demand_1 =
     record {
       order = record { pack = pack_order; length_of = length_order; check = check_order; unpack = unpack_order; probe = probe_order; add = add_order; test = test_order; list = list_order };
-      pack = λ W level mode k group vs out number detail.
-          (refused_pack W level mode k group vs (length out) number detail, refused_pack_untouched W level mode k group vs out number detail);
+      pack = λ W level mode k group vs out refusal.
+          (refused_pack W level mode k group vs (length out) refusal, refused_pack_untouched W level mode k group vs out refusal);
       length_of = refused_length;
       check = refused_check;
-      unpack = λ W L s out number detail. (refused_unpack W L s (length out) number detail, refused_untouched W L s out number detail);
-      probe32 = λ L s i old number detail. (refused_probe32 L s i number detail, λ e. ap (λ (a : Probe32). probe_out32 a old) e);
-      probe64 = λ L s i old number detail. (refused_probe64 L s i number detail, λ e. ap (λ (a : Probe64). probe_out64 a old) e);
-      add = λ L s out number detail. (refused_add L s (length out) number detail, refused_add_untouched L s out number detail);
+      unpack = λ W L s out refusal. (refused_unpack W L s (length out) refusal, refused_untouched W L s out refusal);
+      probe32 = λ L s i old refusal. (refused_probe32 L s i refusal, λ e. ap (λ (a : Result (Shown Float ℕ) Refusal). probe_out32 a old) e);
+      probe64 = λ L s i old refusal. (refused_probe64 L s i refusal, λ e. ap (λ (a : Result (Shown Float ℕ) Refusal). probe_out64 a old) e);
+      add = λ L s out refusal. (refused_add L s (length out) refusal, refused_add_untouched L s out refusal);
       test = refused_test;
-      list = λ W L x s out number detail. (refused_list W L x s (length out) number detail, refused_list_untouched W L x s out number detail);
+      list = λ W L x s out refusal. (refused_list W L x s (length out) refusal, refused_list_untouched W L x s out refusal);
       bound = λ W t. (unknown_width W t, bound_detail_lem (bound_answer W t));
       code = λ W m halves k p old. (code_refused W m halves k p, a_refused_code_is_not_written (code_answer W m halves k p) old);
       pattern = λ W m k c old. (pattern_refused W m k c, pattern_above W m k c, a_refused_pattern_is_not_written (pattern_answer W m k c) old);
@@ -56,7 +58,7 @@ demand_1 =
 
 -- what is unpacked of a packed stream
 module _ (W level mode : ℕ) (k : ℤ) (group : ℕ) (vs s : List ℕ) (width : known_width W ≡ true) (patterns : Below (2 ^ W) vs) (packed : Packed W level mode k group vs s)
-    (L n : ℕ) (back : List ℕ) (done : unpack_answer W L s (length back) ≡ Done n) where
+    (L n : ℕ) (back : List ℕ) (done : unpack_answer W L s (length back) ≡ Ok n) where
   counted : n ≡ length vs
   counted = sym (written_values W L s back n done).0 ∙ as_many W level mode k group vs s width patterns packed
 
@@ -149,20 +151,20 @@ module _ (W level mode : ℕ) (k : ℤ) (group : ℕ) (vs : List ℕ) (parts : L
     older : L < needed → TooNew L s needed
     older = it_is_too_new (halves_at level) W written mode k group vs p parts needed s sent L known
 
-    wrong : needed ≤ L → (RightNeed W mode k group parts written needed → ⊥) → RefusedBy W L s (length vs) 8 0
+    wrong : needed ≤ L → (RightNeed W mode k group parts written needed → ⊥) → RefusedBy W L s (length vs) BrokenHeader
     wrong = refused_by_8 (halves_at level) W written mode k group vs p parts needed s sent L known
 
-    newer : needed ≤ L → RightNeed W mode k group parts written needed → some_high (ids_of parts) ≡ true → RefusedBy W L s (length vs) 15 (first_high (ids_of parts))
+    newer : needed ≤ L → RightNeed W mode k group parts written needed → some_high (ids_of parts) ≡ true → RefusedBy W L s (length vs) (MustBeUnderstood (first_high (ids_of parts)))
     newer reaches right high =
         refused_by_15 (halves_at level) W written mode k group vs p parts needed s sent L known reaches high (right.0 ∙ ap (stream_need (setting_of W mode k group)) high) right.1
 
-    skipped : needed ≤ L → RightNeed W mode k group parts written needed → some_high (ids_of parts) ≡ false → check_answer L s ≡ Done (length vs)
+    skipped : needed ≤ L → RightNeed W mode k group parts written needed → some_high (ids_of parts) ≡ false → check_answer L s ≡ Ok (length vs)
     unfolding stream_need
     skipped reaches right low =
         (it_is_read (halves_at level) W written mode k group vs p parts needed s sent L known low (right.0 ∙ ap (stream_need (setting_of W mode k group)) low) reaches vs (omega arith)).0
 
 -- the minors as pack wrote them
-module _ (W level mode : ℕ) (k : ℤ) (group : ℕ) (vs out : List ℕ) (size : ℕ) (width : known_width W ≡ true) (patterns : Below (2 ^ W) vs) (done : pack_answer W level mode k group vs (length out) ≡ Done size)
+module _ (W level mode : ℕ) (k : ℤ) (group : ℕ) (vs out : List ℕ) (size : ℕ) (width : known_width W ≡ true) (patterns : Below (2 ^ W) vs) (done : pack_answer W level mode k group vs (length out) ≡ Ok size)
     (parts : List Side) (well : WellFormedSides (size + 12 * length parts) parts) (high : some_high (ids_of parts) ≡ true)
     (L : ℕ) (known : known_level L ≡ true) (reaches : need (setting_of W mode k group) ≤ L) (small : need (setting_of W mode k group) < 12) where
   as_written : WithMinors W level mode k group vs parts level (need (setting_of W mode k group)) (add_sides (take size (pack_out W level mode k group vs out)) parts)
@@ -181,7 +183,7 @@ module _ (W level mode : ℕ) (k : ℤ) (group : ℕ) (vs out : List ℕ) (size 
   unfolding stream_need
   too_small e = let raised : stream_need (setting_of W mode k group) true ≡ need (setting_of W mode k group) = rw high at e in omega (arith, raised, small)
 
-  unraised : RefusedBy W L (add_sides (take size (pack_out W level mode k group vs out)) parts) (length vs) 8 0
+  unraised : RefusedBy W L (add_sides (take size (pack_out W level mode k group vs out)) parts) (length vs) BrokenHeader
   unraised =
       wrong W level mode k group vs parts level (need (setting_of W mode k group)) (add_sides (take size (pack_out W level mode k group vs out)) parts) width patterns as_written L known reaches
       (λ right. too_small (sym right.0))

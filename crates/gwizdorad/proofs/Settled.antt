@@ -13,7 +13,7 @@ use Rattle.stream.specs.Operations.{check_answer, unpack_answer, unpack_out, pro
 use Rattle.stream.proofs.Settled.{one, Promised, both}
 use Rattle.summary.specs.Operations.{add_answer, add_out, test_answer, list_answer, list_out}
 use Rattle.gwizdorad_numbers.specs.Result.{bound_result, code_result, code_out, pattern_result, pattern_out}
-use Rattle.gwizdorad.specs.Result.{answer_result, probe_result32, probe_out32, probe_result64, probe_out64}
+use Rattle.gwizdorad.specs.Result.{answer_result, probe_result, probe_out32, probe_result, probe_out64}
 
 -- ---- gwz_pack32, gwz_pack64, gwz_length32, gwz_length64
 
@@ -40,14 +40,14 @@ module _ (level : ℕ) (s : List ℕ) where
   gwz_unpack_is_settled W out r r' now now' = both
 
   pub gwz_probe32_is_settled : (i old r r' now now' : ℕ)
-      → Promised (probe_result32 (probe_answer32 level s i)) (probe_out32 (probe_answer32 level s i) old) r now
-      → Promised (probe_result32 (probe_answer32 level s i)) (probe_out32 (probe_answer32 level s i) old) r' now'
+      → Promised (probe_result (probe_answer32 level s i)) (probe_out32 (probe_answer32 level s i) old) r now
+      → Promised (probe_result (probe_answer32 level s i)) (probe_out32 (probe_answer32 level s i) old) r' now'
       → (r ≡ r') × (now ≡ now')
   gwz_probe32_is_settled i old r r' now now' = both
 
   pub gwz_probe64_is_settled : (i old r r' now now' : ℕ)
-      → Promised (probe_result64 (probe_answer64 level s i)) (probe_out64 (probe_answer64 level s i) old) r now
-      → Promised (probe_result64 (probe_answer64 level s i)) (probe_out64 (probe_answer64 level s i) old) r' now'
+      → Promised (probe_result (probe_answer64 level s i)) (probe_out64 (probe_answer64 level s i) old) r now
+      → Promised (probe_result (probe_answer64 level s i)) (probe_out64 (probe_answer64 level s i) old) r' now'
       → (r ≡ r') × (now ≡ now')
   gwz_probe64_is_settled i old r r' now now' = both
 

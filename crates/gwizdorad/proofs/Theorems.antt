@@ -10,14 +10,12 @@ use lib.ListN.{length, get_or}
 use Rattle.blocks.specs.Bytes.{Below}
 use Rattle.stream.specs.Setting.{known_width}
 use Rattle.stream.specs.Stream.{value_at}
-use Rattle.stream.specs.Probe.{shown32, shown64, probe_number32, probe_number64}
+use Rattle.stream.specs.Probe.{shown32, shown64}
 use Rattle.stream.specs.Operations.{check_answer, unpack_answer, unpack_out, length_answer, pack_answer, probe_answer32, probe_answer64}
-use Rattle.stream.specs.declared.answers.Answer.{Answer}
-use Rattle.stream.specs.declared.answers.Answer.TheVariants.{Done}
-use Rattle.stream.specs.declared.answers.Probe32.{Probe32}
-use Rattle.stream.specs.declared.answers.Probe32.TheVariants as p32
-use Rattle.stream.specs.declared.answers.Probe64.{Probe64}
-use Rattle.stream.specs.declared.answers.Probe64.TheVariants as p64
+use Rattle.std.specs.Prelude.{Result, Ok, Err}
+use Rattle.stream.specs.declared.answers.Refusal.{Refusal}
+use Rattle.stream.specs.declared.answers.Shown.TheVariants.{Finite, Infinity, NotANumber}
+use Rattle.stream.specs.declared.answers.Shown.{Shown}
 use Rattle.stream.specs.Theorem.{BadGroup, Fault}
 use Rattle.stream.proofs.Readers.{probe_as_unpack32, probe_as_unpack64}
 use Rattle.stream.proofs.Place.{check_names_the_place, unpack_names_the_place, probe_names_the_place32, probe_names_the_place64}
@@ -27,10 +25,12 @@ use Rattle.summary.proofs.Theorems.{add_names_the_place, test_names_the_place, l
 use Rattle.summary.proofs.Fitting.{add_fits, test_fits, list_fits}
 use Rattle.gwizdorad_numbers.specs.Theorem.{Uncut}
 use Rattle.gwizdorad_numbers.proofs.Theorems.{a_result_tells_both}
-use Rattle.gwizdorad.specs.Result.{answer_result, probe_detail32, probe_result32, probe_out32, probe_detail64, probe_result64, probe_out64}
+use Rattle.gwizdorad.specs.Result.{answer_result, probe_detail, probe_result, probe_out32, probe_out64}
 use Rattle.gwizdorad.specs.Theorem.{Spelled}
-use Rattle.gwizdorad.proofs.Law.Spelled.{answer_spelled, answer_told, refused_so, probe_spelled32, probe_refused_so32, probe_spelled64, probe_refused_so64}
+use Rattle.gwizdorad.proofs.Law.Spelled.{answer_spelled, answer_told, refused_so, probe_spelled, probe_refused_so}
 use Rattle.gwizdorad.proofs.Law.Pattern.{pattern_left32, pattern_left64}
+use Rattle.stream.specs.Rows.{number_of, answer_number}
+use lib.Ieee.{Float}
 
 -- ---- nothing is cut: a number, and the detail or the answer beside it, have 32 bits each, whatever bytes and patterns are lent; and a
 -- refusal's number is not 0
@@ -42,17 +42,17 @@ module _ (level : ℕ) (s : List ℕ) (bytes : Below 256 s) where
   pub unpack_is_spelled : (W room : ℕ) → Spelled (unpack_answer W level s room)
   unpack_is_spelled W room = answer_spelled (unpack_answer W level s room) (unpack_fits level s bytes W room)
 
-  pub probe32_is_uncut : (i : ℕ) → let a = probe_answer32 level s i in Uncut (probe_number32 a) (probe_detail32 a) (probe_result32 a)
-  probe32_is_uncut i = probe_spelled32 (probe_answer32 level s i) (probe_fits32 level s bytes i)
+  pub probe32_is_uncut : (i : ℕ) → let a = probe_answer32 level s i in Uncut (answer_number a) (probe_detail a) (probe_result a)
+  probe32_is_uncut i = probe_spelled (probe_answer32 level s i) (probe_fits32 level s bytes i)
 
-  pub a_refused_probe32_is_numbered : (i number detail : ℕ) → probe_answer32 level s i ≡ p32.Refused number detail → 0 < number
-  a_refused_probe32_is_numbered i number detail e = (probe_fits32 level s bytes i number detail e).some
+  pub a_refused_probe32_is_numbered : (i : ℕ) (refusal : Refusal) → probe_answer32 level s i ≡ Err refusal → 0 < number_of refusal
+  a_refused_probe32_is_numbered i refusal e = (probe_fits32 level s bytes i refusal e).some
 
-  pub probe64_is_uncut : (i : ℕ) → let a = probe_answer64 level s i in Uncut (probe_number64 a) (probe_detail64 a) (probe_result64 a)
-  probe64_is_uncut i = probe_spelled64 (probe_answer64 level s i) (probe_fits64 level s bytes i)
+  pub probe64_is_uncut : (i : ℕ) → let a = probe_answer64 level s i in Uncut (answer_number a) (probe_detail a) (probe_result a)
+  probe64_is_uncut i = probe_spelled (probe_answer64 level s i) (probe_fits64 level s bytes i)
 
-  pub a_refused_probe64_is_numbered : (i number detail : ℕ) → probe_answer64 level s i ≡ p64.Refused number detail → 0 < number
-  a_refused_probe64_is_numbered i number detail e = (probe_fits64 level s bytes i number detail e).some
+  pub a_refused_probe64_is_numbered : (i : ℕ) (refusal : Refusal) → probe_answer64 level s i ≡ Err refusal → 0 < number_of refusal
+  a_refused_probe64_is_numbered i refusal e = (probe_fits64 level s bytes i refusal e).some
 
   pub add_is_spelled : (room : ℕ) → Spelled (add_answer level s room)
   add_is_spelled room = answer_spelled (add_answer level s room) (add_fits level s bytes room)
@@ -72,7 +72,7 @@ module _ (W level mode : ℕ) (k : ℤ) (group : ℕ) (vs : List ℕ) (known : k
 
 -- ---- the same result of an operation but probe is the same answer
 
-pub a_result_tells_its_answer : (a b : Answer) → Spelled a → Spelled b → answer_result a ≡ answer_result b → a ≡ b
+pub a_result_tells_its_answer : (a b : Result ℕ Refusal) → Spelled a → Spelled b → answer_result a ≡ answer_result b → a ≡ b
 a_result_tells_its_answer a b spelled spelled' same =
     let both = a_result_tells_both (rw same at spelled.uncut) spelled'.uncut in
     answer_told a b spelled spelled' both.0 both.1
@@ -80,67 +80,67 @@ a_result_tells_its_answer a b spelled spelled' same =
 -- ---- probe's pattern is the stream's own
 
 -- what is shown of a pattern of 32 bits leaves that pattern, whatever stood there
-pub the_shown_pattern_is_left32 : (p old : ℕ) → p < 2 ^ 32 → probe_out32 (shown32 p) old ≡ p
+pub the_shown_pattern_is_left32 : (p old : ℕ) → p < 2 ^ 32 → probe_out32 (Ok (shown32 p)) old ≡ p
 unfolding shown32
 the_shown_pattern_is_left32 p old small = pattern_left32 p old small
 
 -- so what is shown fixes the pattern: 0 and -0, and any two not-a-numbers, are told apart
 pub what_is_shown_fixes_the_pattern32 : (p q : ℕ) → p < 2 ^ 32 → q < 2 ^ 32 → shown32 p ≡ shown32 q → p ≡ q
 what_is_shown_fixes_the_pattern32 p q small small' same =
-    sym (the_shown_pattern_is_left32 p 0 small) ∙ ap (λ (a : Probe32). probe_out32 a 0) same ∙ the_shown_pattern_is_left32 q 0 small'
+    sym (the_shown_pattern_is_left32 p 0 small) ∙ ap (λ (a : Shown Float ℕ). probe_out32 (Ok a) 0) same ∙ the_shown_pattern_is_left32 q 0 small'
 
 -- what is shown of a pattern of 64 bits leaves that pattern, whatever stood there
-pub the_shown_pattern_is_left64 : (p old : ℕ) → p < 2 ^ 64 → probe_out64 (shown64 p) old ≡ p
+pub the_shown_pattern_is_left64 : (p old : ℕ) → p < 2 ^ 64 → probe_out64 (Ok (shown64 p)) old ≡ p
 unfolding shown64
 the_shown_pattern_is_left64 p old small = pattern_left64 p old small
 
 -- so what is shown fixes the pattern: 0 and -0, and any two not-a-numbers, are told apart
 pub what_is_shown_fixes_the_pattern64 : (p q : ℕ) → p < 2 ^ 64 → q < 2 ^ 64 → shown64 p ≡ shown64 q → p ≡ q
 what_is_shown_fixes_the_pattern64 p q small small' same =
-    sym (the_shown_pattern_is_left64 p 0 small) ∙ ap (λ (a : Probe64). probe_out64 a 0) same ∙ the_shown_pattern_is_left64 q 0 small'
+    sym (the_shown_pattern_is_left64 p 0 small) ∙ ap (λ (a : Shown Float ℕ). probe_out64 (Ok a) 0) same ∙ the_shown_pattern_is_left64 q 0 small'
 
 module _ (level : ℕ) (s : List ℕ) (bytes : Below 256 s) where
   -- a probe whose number is 0 leaves the value at its index ..
-  pub probe32_leaves_the_value : (i old : ℕ) → probe_number32 (probe_answer32 level s i) ≡ 0 → probe_out32 (probe_answer32 level s i) old ≡ value_at s i
+  pub probe32_leaves_the_value : (i old : ℕ) → answer_number (probe_answer32 level s i) ≡ 0 → probe_out32 (probe_answer32 level s i) old ≡ value_at s i
   probe32_leaves_the_value i old accepted =
       let shows = probed_value_fits32 level s bytes i accepted in
-      ap (λ (a : Probe32). probe_out32 a old) shows.0 ∙ the_shown_pattern_is_left32 (value_at s i) old shows.1
+      ap (λ (a : Result (Shown Float ℕ) Refusal). probe_out32 a old) shows.0 ∙ the_shown_pattern_is_left32 (value_at s i) old shows.1
 
   -- .. and where unpack accepts, the value that unpack leaves there
-  pub probe32_leaves_what_unpack_leaves : (out : List ℕ) (n i old : ℕ) → unpack_answer 32 level s (length out) ≡ Done n → i < n
+  pub probe32_leaves_what_unpack_leaves : (out : List ℕ) (n i old : ℕ) → unpack_answer 32 level s (length out) ≡ Ok n → i < n
       → probe_out32 (probe_answer32 level s i) old ≡ get_or (unpack_out 32 level s out) i 0
   probe32_leaves_what_unpack_leaves out n i old done below =
-      ap (λ (a : Probe32). probe_out32 a old) (probe_as_unpack32 level s out n i done below)
+      ap (λ (a : Result (Shown Float ℕ) Refusal). probe_out32 a old) (probe_as_unpack32 level s out n i done below)
       ∙ the_shown_pattern_is_left32 (get_or (unpack_out 32 level s out) i 0) old (unpacked_value_fits level s bytes 32 out n i done below)
 
   -- a probe whose number is 0 leaves the value at its index ..
-  pub probe64_leaves_the_value : (i old : ℕ) → probe_number64 (probe_answer64 level s i) ≡ 0 → probe_out64 (probe_answer64 level s i) old ≡ value_at s i
+  pub probe64_leaves_the_value : (i old : ℕ) → answer_number (probe_answer64 level s i) ≡ 0 → probe_out64 (probe_answer64 level s i) old ≡ value_at s i
   probe64_leaves_the_value i old accepted =
       let shows = probed_value_fits64 level s bytes i accepted in
-      ap (λ (a : Probe64). probe_out64 a old) shows.0 ∙ the_shown_pattern_is_left64 (value_at s i) old shows.1
+      ap (λ (a : Result (Shown Float ℕ) Refusal). probe_out64 a old) shows.0 ∙ the_shown_pattern_is_left64 (value_at s i) old shows.1
 
   -- .. and where unpack accepts, the value that unpack leaves there
-  pub probe64_leaves_what_unpack_leaves : (out : List ℕ) (n i old : ℕ) → unpack_answer 64 level s (length out) ≡ Done n → i < n
+  pub probe64_leaves_what_unpack_leaves : (out : List ℕ) (n i old : ℕ) → unpack_answer 64 level s (length out) ≡ Ok n → i < n
       → probe_out64 (probe_answer64 level s i) old ≡ get_or (unpack_out 64 level s out) i 0
   probe64_leaves_what_unpack_leaves out n i old done below =
-      ap (λ (a : Probe64). probe_out64 a old) (probe_as_unpack64 level s out n i done below)
+      ap (λ (a : Result (Shown Float ℕ) Refusal). probe_out64 a old) (probe_as_unpack64 level s out n i done below)
       ∙ the_shown_pattern_is_left64 (get_or (unpack_out 64 level s out) i 0) old (unpacked_value_fits level s bytes 64 out n i done below)
 
 -- ---- a refusal, whose number is not 0, leaves what was lent for the second answer as it was
 
-pub a_refused_probe32_leaves_the_pattern : (a : Probe32) (old : ℕ) → (probe_number32 a ≡ 0 → ⊥) → probe_out32 a old ≡ old
-unfolding probe_number32 probe_out32
-a_refused_probe32_leaves_the_pattern (p32.Finite x) old refused = absurd (refused refl)
-a_refused_probe32_leaves_the_pattern (p32.Infinity negative) old refused = absurd (refused refl)
-a_refused_probe32_leaves_the_pattern (p32.NotANumber p) old refused = absurd (refused refl)
-a_refused_probe32_leaves_the_pattern (p32.Refused number detail) old refused = refl
+pub a_refused_probe32_leaves_the_pattern : (a : Result (Shown Float ℕ) Refusal) (old : ℕ) → (answer_number a ≡ 0 → ⊥) → probe_out32 a old ≡ old
+unfolding answer_number probe_out32
+a_refused_probe32_leaves_the_pattern (Ok (Finite x)) old refused = absurd (refused refl)
+a_refused_probe32_leaves_the_pattern (Ok (Infinity negative)) old refused = absurd (refused refl)
+a_refused_probe32_leaves_the_pattern (Ok (NotANumber p)) old refused = absurd (refused refl)
+a_refused_probe32_leaves_the_pattern (Err refusal) old refused = refl
 
-pub a_refused_probe64_leaves_the_pattern : (a : Probe64) (old : ℕ) → (probe_number64 a ≡ 0 → ⊥) → probe_out64 a old ≡ old
-unfolding probe_number64 probe_out64
-a_refused_probe64_leaves_the_pattern (p64.Finite x) old refused = absurd (refused refl)
-a_refused_probe64_leaves_the_pattern (p64.Infinity negative) old refused = absurd (refused refl)
-a_refused_probe64_leaves_the_pattern (p64.NotANumber p) old refused = absurd (refused refl)
-a_refused_probe64_leaves_the_pattern (p64.Refused number detail) old refused = refl
+pub a_refused_probe64_leaves_the_pattern : (a : Result (Shown Float ℕ) Refusal) (old : ℕ) → (answer_number a ≡ 0 → ⊥) → probe_out64 a old ≡ old
+unfolding answer_number probe_out64
+a_refused_probe64_leaves_the_pattern (Ok (Finite x)) old refused = absurd (refused refl)
+a_refused_probe64_leaves_the_pattern (Ok (Infinity negative)) old refused = absurd (refused refl)
+a_refused_probe64_leaves_the_pattern (Ok (NotANumber p)) old refused = absurd (refused refl)
+a_refused_probe64_leaves_the_pattern (Err refusal) old refused = refl
 
 -- ---- where a stream is bad. A result r has the refusal r / 2^32 and the detail r % 2^32 (gwz_refusal, gwz_detail); where the refusal is 10,
 -- detail / 32 is the first bad chunk and detail % 32 its first bad group (gwz_bad_chunk, gwz_bad_group).
@@ -171,12 +171,12 @@ module _ (level : ℕ) (s : List ℕ) (bytes : Below 256 s) where
       check_names_the_place level s d (list_names_the_place W level x s room d (refused_so (list_answer W level x s room) 10 (list_is_spelled level s bytes W x room) (lit< tt) ten))
 
   -- probe's own chunk
-  pub probe32_tells_the_place : (i : ℕ) → let r = probe_result32 (probe_answer32 level s i) in r / 2 ^ 32 ≡ 10
+  pub probe32_tells_the_place : (i : ℕ) → let r = probe_result (probe_answer32 level s i) in r / 2 ^ 32 ≡ 10
       → (r % 2 ^ 32 / 32 ≡ i / 1024) × BadGroup s (r % 2 ^ 32 / 32) (r % 2 ^ 32 % 32)
   probe32_tells_the_place i ten =
-      probe_names_the_place32 level s (probe_result32 (probe_answer32 level s i) % 2 ^ 32) i (probe_refused_so32 (probe_answer32 level s i) 10 (probe_result32 (probe_answer32 level s i)) (probe32_is_uncut level s bytes i) (lit< tt) ten)
+      probe_names_the_place32 level s (probe_result (probe_answer32 level s i) % 2 ^ 32) i (probe_refused_so (probe_answer32 level s i) 10 (probe_result (probe_answer32 level s i)) (probe32_is_uncut level s bytes i) (lit< tt) ten)
 
-  pub probe64_tells_the_place : (i : ℕ) → let r = probe_result64 (probe_answer64 level s i) in r / 2 ^ 32 ≡ 10
+  pub probe64_tells_the_place : (i : ℕ) → let r = probe_result (probe_answer64 level s i) in r / 2 ^ 32 ≡ 10
       → (r % 2 ^ 32 / 32 ≡ i / 1024) × BadGroup s (r % 2 ^ 32 / 32) (r % 2 ^ 32 % 32)
   probe64_tells_the_place i ten =
-      probe_names_the_place64 level s (probe_result64 (probe_answer64 level s i) % 2 ^ 32) i (probe_refused_so64 (probe_answer64 level s i) 10 (probe_result64 (probe_answer64 level s i)) (probe64_is_uncut level s bytes i) (lit< tt) ten)
+      probe_names_the_place64 level s (probe_result (probe_answer64 level s i) % 2 ^ 32) i (probe_refused_so (probe_answer64 level s i) 10 (probe_result (probe_answer64 level s i)) (probe64_is_uncut level s bytes i) (lit< tt) ten)

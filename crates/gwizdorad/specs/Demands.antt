@@ -5,7 +5,7 @@
 -- for probe and the number rules), and a pattern or a code in what it lent.
 -- W is a width, 32 or 64; `group` a group size, 32 or 128; vs a list of values, patterns of W bits; s any bytes; `level` is the writer's level and L the
 -- reader's.
-use Rattle.std.specs.Prelude.{◌≡◌, ◌⊎◌, ◌↔◌, Bool, true, false, cond, List, [], ◌∷◌, ◌++◌, ℕ, suc, ◌+◌, ◌-◌, ◌*◌, ◌/◌, ◌%◌, ◌^◌, ◌≤◌, ◌<◌, max, ℤ, pos, length, take, drop, get_or, replicate}
+use Rattle.std.specs.Prelude.{◌≡◌, ◌⊎◌, ◌↔◌, Bool, true, false, cond, List, [], ◌∷◌, ◌++◌, ℕ, suc, ◌+◌, ◌-◌, ◌*◌, ◌/◌, ◌%◌, ◌^◌, ◌≤◌, ◌<◌, max, ℤ, pos, length, take, drop, get_or, replicate, Some, None, Ok, Err}
 use Rattle.std.specs.Float.Ieee.{of_bits}
 use Rattle.std.specs.Float.{nan}
 use Rattle.bins.specs.Tolerance.{allowed_k, bin_of, sign, ordinal, magnitude, threshold, threshold_ordinal, tolerance_code, tolerance_restored, largest_u}
@@ -14,9 +14,8 @@ use Rattle.numbers.specs.Difference.{difference_codes, running_sums}
 use Rattle.numbers.specs.Answers.{code_answer, code_number, pattern_answer, pattern_number}
 use Rattle.numbers.specs.Bound.{bound_answer, bound_number, bound_detail}
 use Rattle.numbers.specs.Theorem.{Reads, Nearest, Returned, BoundFor}
-use Rattle.numbers.specs.declared.bound.BoundAnswer.TheVariants.{UnknownWidth}
-use Rattle.numbers.specs.declared.tolerance.CodeAnswer.TheVariants as code
-use Rattle.numbers.specs.declared.tolerance.PatternAnswer.TheVariants as pattern
+use Rattle.numbers.specs.declared.bound.BoundError.TheVariants.{UnknownWidth}
+use Rattle.numbers.specs.declared.tolerance.PatternError.TheVariants.{NotAllowed, AboveLargest}
 use Rattle.blocks.specs.Bytes.{Below}
 use Rattle.stream.specs.Setting.{known_level, known_width, fraction_bits, lossless_mode, allowed_setting, setting_of, halves_at, setting_at, need, stream_need}
 use Rattle.stream.specs.Rows.{Decides, numbers_of}
@@ -27,9 +26,9 @@ use Rattle.stream.specs.Writing.{stream, Side, placed, add_sides, ids_of, WellFo
 use Rattle.stream.specs.Probe.{shown32, shown64}
 use Rattle.stream.specs.Operations.{check_rows, check_answer, unpack_rows, unpack_answer, unpack_out, probe_rows, probe_answer32, probe_answer64, length_rows, length_answer, pack_rows, pack_answer, pack_out}
 use Rattle.stream.specs.Theorem.{TooNew, RefusedBy, RefusedByAll}
-use Rattle.stream.specs.declared.answers.Answer.TheVariants.{Done, Refused}
-use Rattle.stream.specs.declared.answers.Probe32.TheVariants as p32
-use Rattle.stream.specs.declared.answers.Probe64.TheVariants as p64
+use Rattle.std.specs.Prelude.{Ok, Err}
+use Rattle.stream.specs.declared.answers.Refusal.{Refusal}
+use Rattle.stream.specs.declared.answers.Refusal.TheVariants.{NotAllowed, NoRoom, NeedsMinor, BrokenHeader, MustBeUnderstood, HasSideParts, NoTrueSummary}
 use Rattle.summary.specs.Summary.{with_summary}
 use Rattle.summary.specs.Operations.{add_rows, add_answer, add_out, test_rows, test_answer, list_rows, list_answer, list_out}
 use Rattle.summary.specs.Theorem.{counted, ReadAs, TrueSummary, Says, format_of, HoldsSome}
@@ -41,7 +40,7 @@ use Rattle.gwizdorad.specs.Result.{probe_out32, probe_out64}
 -- (`bins` and `blocks` are inner libraries, which no user reaches. `one_chunk` and `sides` of `stream` are total too, but no operations: they serve the libraries
 -- above, which have made a check before, look at no level and at no id, and are meant nowhere below where a reader is spoken of.) "Bad input gets one refusal, the first in the stated order, with its stated
 -- detail. A refused call changes nothing it was lent." Of an operation's rows the refusal is the one that `Decides`: it is given, and none
--- before it.
+-- before it. Its number is `number_of`, its detail `detail_of` (specs/Rows.antt).
 
 -- Pack: 1 2 3 4. Length: 1 2 3. Check: 1 5 6 7 8 9 8 15 10. Unpack: 1 5 6 7 8 14 4 9 8 15 10. Probe: 1 5 6 7 8 14 11 9 8 15 10. These are document 01's,
 -- with the rows of document 02, R-4: 15 "after 9 and after that late use of 8, before 10". 15 stands once for each side part, 10 once for each
@@ -66,38 +65,38 @@ pub record StatedOrder : Type 0 where
 pub record Demand1 : Type 0 where
   pub order : StatedOrder
   -- the values vs, packed into `out`
-  pub pack : (W level mode : ℕ) (k : ℤ) (group : ℕ) (vs out : List ℕ) (number detail : ℕ)
-      → (pack_answer W level mode k group vs (length out) ≡ Refused number detail ↔ Decides (pack_rows W level mode k group vs (length out)) number detail)
-      × (pack_answer W level mode k group vs (length out) ≡ Refused number detail → pack_out W level mode k group vs out ≡ out)
-  pub length_of : (W level mode : ℕ) (k : ℤ) (group : ℕ) (vs : List ℕ) (number detail : ℕ)
-      → length_answer W level mode k group vs ≡ Refused number detail ↔ Decides (length_rows W level mode k group (length vs)) number detail
-  pub check : (L : ℕ) (s : List ℕ) (number detail : ℕ) → check_answer L s ≡ Refused number detail ↔ Decides (check_rows L s) number detail
-  pub unpack : (W L : ℕ) (s out : List ℕ) (number detail : ℕ)
-      → (unpack_answer W L s (length out) ≡ Refused number detail ↔ Decides (unpack_rows W L s (length out)) number detail)
-      × (unpack_answer W L s (length out) ≡ Refused number detail → unpack_out W L s out ≡ out)
+  pub pack : (W level mode : ℕ) (k : ℤ) (group : ℕ) (vs out : List ℕ) (refusal : Refusal)
+      → (pack_answer W level mode k group vs (length out) ≡ Err refusal ↔ Decides (pack_rows W level mode k group vs (length out)) refusal)
+      × (pack_answer W level mode k group vs (length out) ≡ Err refusal → pack_out W level mode k group vs out ≡ out)
+  pub length_of : (W level mode : ℕ) (k : ℤ) (group : ℕ) (vs : List ℕ) (refusal : Refusal)
+      → length_answer W level mode k group vs ≡ Err refusal ↔ Decides (length_rows W level mode k group (length vs)) refusal
+  pub check : (L : ℕ) (s : List ℕ) (refusal : Refusal) → check_answer L s ≡ Err refusal ↔ Decides (check_rows L s) refusal
+  pub unpack : (W L : ℕ) (s out : List ℕ) (refusal : Refusal)
+      → (unpack_answer W L s (length out) ≡ Err refusal ↔ Decides (unpack_rows W L s (length out)) refusal)
+      × (unpack_answer W L s (length out) ≡ Err refusal → unpack_out W L s out ≡ out)
   -- probe is lent one pattern, which was `old`
-  pub probe32 : (L : ℕ) (s : List ℕ) (i old number detail : ℕ)
-      → (probe_answer32 L s i ≡ p32.Refused number detail ↔ Decides (probe_rows 32 L s i) number detail)
-      × (probe_answer32 L s i ≡ p32.Refused number detail → probe_out32 (probe_answer32 L s i) old ≡ old)
-  pub probe64 : (L : ℕ) (s : List ℕ) (i old number detail : ℕ)
-      → (probe_answer64 L s i ≡ p64.Refused number detail ↔ Decides (probe_rows 64 L s i) number detail)
-      × (probe_answer64 L s i ≡ p64.Refused number detail → probe_out64 (probe_answer64 L s i) old ≡ old)
+  pub probe32 : (L : ℕ) (s : List ℕ) (i old : ℕ) (refusal : Refusal)
+      → (probe_answer32 L s i ≡ Err refusal ↔ Decides (probe_rows 32 L s i) refusal)
+      × (probe_answer32 L s i ≡ Err refusal → probe_out32 (probe_answer32 L s i) old ≡ old)
+  pub probe64 : (L : ℕ) (s : List ℕ) (i old : ℕ) (refusal : Refusal)
+      → (probe_answer64 L s i ≡ Err refusal ↔ Decides (probe_rows 64 L s i) refusal)
+      × (probe_answer64 L s i ≡ Err refusal → probe_out64 (probe_answer64 L s i) old ≡ old)
   -- the summary: added into `out`, tested, and the chunks from x on listed into `out`
-  pub add : (L : ℕ) (s out : List ℕ) (number detail : ℕ)
-      → (add_answer L s (length out) ≡ Refused number detail ↔ Decides (add_rows L s (length out)) number detail)
-      × (add_answer L s (length out) ≡ Refused number detail → add_out L s out ≡ out)
-  pub test : (L : ℕ) (s : List ℕ) (number detail : ℕ) → test_answer L s ≡ Refused number detail ↔ Decides (test_rows L s) number detail
-  pub list : (W L x : ℕ) (s out : List ℕ) (number detail : ℕ)
-      → (list_answer W L x s (length out) ≡ Refused number detail ↔ Decides (list_rows W L x s (length out)) number detail)
-      × (list_answer W L x s (length out) ≡ Refused number detail → list_out W L x s out ≡ out)
+  pub add : (L : ℕ) (s out : List ℕ) (refusal : Refusal)
+      → (add_answer L s (length out) ≡ Err refusal ↔ Decides (add_rows L s (length out)) refusal)
+      × (add_answer L s (length out) ≡ Err refusal → add_out L s out ≡ out)
+  pub test : (L : ℕ) (s : List ℕ) (refusal : Refusal) → test_answer L s ≡ Err refusal ↔ Decides (test_rows L s) refusal
+  pub list : (W L x : ℕ) (s out : List ℕ) (refusal : Refusal)
+      → (list_answer W L x s (length out) ≡ Err refusal ↔ Decides (list_rows W L x s (length out)) refusal)
+      × (list_answer W L x s (length out) ≡ Err refusal → list_out W L x s out ≡ out)
   -- the number rules, whose details are 0. "Bound: 2 12 13": 2 for a width that is not known; when 12 and 13 are given is part of demand 2.
   -- A code: 2 for a rule for halves that is not known and for a k that is not allowed. The way back: 2 for such a k, then 10 for a u above the largest.
-  pub bound : (W t : ℕ) → (known_width W ≡ false → bound_answer W t ≡ UnknownWidth)
+  pub bound : (W t : ℕ) → (known_width W ≡ false → bound_answer W t ≡ Err UnknownWidth)
       × ((bound_number (bound_answer W t) ≡ 0 → ⊥) → bound_detail (bound_answer W t) ≡ pos 0)
-  pub code : (W m halves : ℕ) (k : ℤ) (p old : ℕ) → (code_answer W m halves k p ≡ code.NotAllowed ↔ (1 < halves) ⊎ (allowed_k W m k ≡ false))
+  pub code : (W m halves : ℕ) (k : ℤ) (p old : ℕ) → (code_answer W m halves k p ≡ None ↔ (1 < halves) ⊎ (allowed_k W m k ≡ false))
       × ((code_number (code_answer W m halves k p) ≡ 0 → ⊥) → code_out (code_answer W m halves k p) old ≡ old)
-  pub pattern : (W m : ℕ) (k : ℤ) (c old : ℕ) → (pattern_answer W m k c ≡ pattern.NotAllowed ↔ allowed_k W m k ≡ false)
-      × (pattern_answer W m k c ≡ pattern.AboveLargest ↔ (allowed_k W m k ≡ true) × (largest_u W m (bin_of W m k) < c / 2))
+  pub pattern : (W m : ℕ) (k : ℤ) (c old : ℕ) → (pattern_answer W m k c ≡ Err NotAllowed ↔ allowed_k W m k ≡ false)
+      × (pattern_answer W m k c ≡ Err AboveLargest ↔ (allowed_k W m k ≡ true) × (largest_u W m (bin_of W m k) < c / 2))
       × ((pattern_number (pattern_answer W m k c) ≡ 0 → ⊥) → pattern_out (pattern_answer W m k c) old ≡ old)
 
 -- ---- Demand 2: "Codes and streams are those of IEEE 754, the published SLEEK rules and document 01. Lossless packing restores every bit
@@ -121,13 +120,13 @@ pub data Sided (b s : List ℕ) : Type 0 where
 pub record Packed (W level mode : ℕ) (k : ℤ) (group : ℕ) (vs s : List ℕ) : Type 0 where
   pub out : List ℕ
   pub size : ℕ
-  pub done : pack_answer W level mode k group vs (length out) ≡ Done size
+  pub done : pack_answer W level mode k group vs (length out) ≡ Ok size
   pub given : Sided (take size (pack_out W level mode k group vs out)) s
 
 pub record Demand2 : Type 0 where
   -- pack leaves the stream that document 01 lays out (`stream`, with its codes), and past it nothing is altered. Document 02, R-7: "the code is the rule's of the
   -- written level", which is part of the writer's setting (`setting_at`).
-  pub layout : (W level mode : ℕ) (k : ℤ) (group : ℕ) (vs out : List ℕ) (size : ℕ) → pack_answer W level mode k group vs (length out) ≡ Done size
+  pub layout : (W level mode : ℕ) (k : ℤ) (group : ℕ) (vs out : List ℕ) (size : ℕ) → pack_answer W level mode k group vs (length out) ≡ Ok size
       → (size ≡ length (stream level (setting_at level W mode k group) vs)) × (pack_out W level mode k group vs out ≡ stream level (setting_at level W mode k group) vs ++ drop size out)
   -- "Pack at level L writes L as written minor and the exact need as needed minor"
   pub minors : (W level mode : ℕ) (k : ℤ) (group : ℕ) (vs s : List ℕ) → known_width W ≡ true → Below (2 ^ W) vs → Packed W level mode k group vs s
@@ -136,7 +135,7 @@ pub record Demand2 : Type 0 where
   -- of the code by the rule of the level that packed it
   pub rule : (level : ℕ) → (level < 14 → halves_at level ≡ 0) × (14 ≤ level → halves_at level ≡ 1)
   pub ruled : (W level : ℕ) (k : ℤ) (group : ℕ) (vs s : List ℕ) → known_width W ≡ true → Below (2 ^ W) vs → Packed W level 1 k group vs s
-      → (L n : ℕ) (back : List ℕ) → unpack_answer W L s (length back) ≡ Done n → (i : ℕ) → i < n
+      → (L n : ℕ) (back : List ℕ) → unpack_answer W L s (length back) ≡ Ok n → (i : ℕ) → i < n
       → get_or (unpack_out W L s back) i 0
       ≡ tolerance_restored W (fraction_bits W) (bin_of W (fraction_bits W) k) (tolerance_code W (fraction_bits W) (halves_at level) (bin_of W (fraction_bits W) k) (get_or vs i 0))
   -- "writers at 8 to 13 keep the old rule for clients who compare files": where two levels code alike, in the modes that lose nothing or by the same rule, their
@@ -145,24 +144,24 @@ pub record Demand2 : Type 0 where
       → stream level' (setting_at level' W mode k group) vs ≡ placed 4 level' (stream level (setting_at level W mode k group) vs)
   -- what was packed and is unpacked, whatever the levels
   pub values : (W level mode : ℕ) (k : ℤ) (group : ℕ) (vs s : List ℕ) → known_width W ≡ true → Below (2 ^ W) vs → Packed W level mode k group vs s
-      → (L n : ℕ) (back : List ℕ) → unpack_answer W L s (length back) ≡ Done n
+      → (L n : ℕ) (back : List ℕ) → unpack_answer W L s (length back) ≡ Ok n
       → (n ≡ length vs) × ((i : ℕ) → i < n → ComesBack W mode k (get_or vs i 0) (get_or (unpack_out W L s back) i 0))
   -- of any bytes that unpack accepts, probe shows the value that unpack leaves, and writes its pattern
-  pub probe32 : (L : ℕ) (s back : List ℕ) (n i old : ℕ) → Below 256 s → unpack_answer 32 L s (length back) ≡ Done n → i < n
-      → (probe_answer32 L s i ≡ shown32 (get_or (unpack_out 32 L s back) i 0)) × (probe_out32 (probe_answer32 L s i) old ≡ get_or (unpack_out 32 L s back) i 0)
-  pub probe64 : (L : ℕ) (s back : List ℕ) (n i old : ℕ) → Below 256 s → unpack_answer 64 L s (length back) ≡ Done n → i < n
-      → (probe_answer64 L s i ≡ shown64 (get_or (unpack_out 64 L s back) i 0)) × (probe_out64 (probe_answer64 L s i) old ≡ get_or (unpack_out 64 L s back) i 0)
+  pub probe32 : (L : ℕ) (s back : List ℕ) (n i old : ℕ) → Below 256 s → unpack_answer 32 L s (length back) ≡ Ok n → i < n
+      → (probe_answer32 L s i ≡ Ok (shown32 (get_or (unpack_out 32 L s back) i 0))) × (probe_out32 (probe_answer32 L s i) old ≡ get_or (unpack_out 32 L s back) i 0)
+  pub probe64 : (L : ℕ) (s back : List ℕ) (n i old : ℕ) → Below 256 s → unpack_answer 64 L s (length back) ≡ Ok n → i < n
+      → (probe_answer64 L s i ≡ Ok (shown64 (get_or (unpack_out 64 L s back) i 0))) × (probe_out64 (probe_answer64 L s i) old ≡ get_or (unpack_out 64 L s back) i 0)
   -- the number rules alone: a pattern, its code, and the pattern that the code restores; a list behind a pattern, its differences, and their running
   -- sums; and the k of a tolerance
   pub lossless : (W p : ℕ) → known_width W ≡ true → p < 2 ^ W → lossless_restored W (fraction_bits W) (lossless_code W (fraction_bits W) p) ≡ p
   pub differences : (W before : ℕ) (ps : List ℕ) → known_width W ≡ true → before < 2 ^ W → Below (2 ^ W) ps
       → running_sums W before (difference_codes W before ps) ≡ ps
   pub coded : (W m halves : ℕ) (k : ℤ) (p old : ℕ) → halves ≤ 1 → allowed_k W m k ≡ true
-      → (code_answer W m halves k p ≡ code.Code (tolerance_code W m halves (bin_of W m k) p)) × (code_out (code_answer W m halves k p) old ≡ tolerance_code W m halves (bin_of W m k) p)
+      → (code_answer W m halves k p ≡ Some (tolerance_code W m halves (bin_of W m k) p)) × (code_out (code_answer W m halves k p) old ≡ tolerance_code W m halves (bin_of W m k) p)
   pub decoded : (W m : ℕ) (k : ℤ) (c old : ℕ) → allowed_k W m k ≡ true → c / 2 ≤ largest_u W m (bin_of W m k)
-      → (pattern_answer W m k c ≡ pattern.Pattern (tolerance_restored W m (bin_of W m k) c)) × (pattern_out (pattern_answer W m k c) old ≡ tolerance_restored W m (bin_of W m k) c)
-  pub within : (W halves : ℕ) (k : ℤ) (p c : ℕ) → known_width W ≡ true → p < 2 ^ W → code_answer W (fraction_bits W) halves k p ≡ code.Code c
-      → (q : ℕ) × (pattern_answer W (fraction_bits W) k c ≡ pattern.Pattern q) × Returned (format_of W) (bin_of W (fraction_bits W) k) p q
+      → (pattern_answer W m k c ≡ Ok (tolerance_restored W m (bin_of W m k) c)) × (pattern_out (pattern_answer W m k c) old ≡ tolerance_restored W m (bin_of W m k) c)
+  pub within : (W halves : ℕ) (k : ℤ) (p c : ℕ) → known_width W ≡ true → p < 2 ^ W → code_answer W (fraction_bits W) halves k p ≡ Some c
+      → (q : ℕ) × (pattern_answer W (fraction_bits W) k c ≡ Ok q) × Returned (format_of W) (bin_of W (fraction_bits W) k) p q
   -- a number of size x below the threshold has as its magnitude code the number of bins nearest to x, and where a half goes is the rule (`Nearest`); from the
   -- threshold on the code counts ordinals; and its lowest bit is the sign
   pub nearest : (W halves : ℕ) (k : ℤ) (p : ℕ) → known_width W ≡ true → p < 2 ^ W → allowed_k W (fraction_bits W) k ≡ true
@@ -202,12 +201,12 @@ pub record Offered (W level mode : ℕ) (k : ℤ) (group : ℕ) (vs : List ℕ) 
 -- what the reader at level L, which is lent `back`, makes of the stream s of the values vs
 pub data ReadBack (W mode : ℕ) (k : ℤ) (group : ℕ) (vs s : List ℕ) (L : ℕ) (back : List ℕ) : Type 0 where
   given_back : need (setting_of W mode k group) ≤ L
-      → unpack_answer W L s (length back) ≡ Done (length vs)
+      → unpack_answer W L s (length back) ≡ Ok (length vs)
       → ((i : ℕ) → i < length vs → ComesBack W mode k (get_or vs i 0) (get_or (unpack_out W L s back) i 0))
       → drop (length vs) (unpack_out W L s back) ≡ drop (length vs) back
       → ReadBack W mode k group vs s L back
   too_new : L < need (setting_of W mode k group)
-      → unpack_answer W L s (length back) ≡ Refused 7 (need (setting_of W mode k group))
+      → unpack_answer W L s (length back) ≡ Err (NeedsMinor (need (setting_of W mode k group)))
       → unpack_out W L s back ≡ back
       → ReadBack W mode k group vs s L back
 
@@ -215,13 +214,13 @@ pub record Demand3 : Type 0 where
   -- "A level is a minor number": "8 to 11" with document 02, R-2, and "this and each later level" since, which are 12 (R-4), 13 (R-6) and 14 (R-7)
   pub levels : (L : ℕ) → known_level L ≡ true ↔ (8 ≤ L) × (L ≤ 14)
   -- pack takes no other list, level and setting than demand 3 speaks of
-  pub takes : (W level mode : ℕ) (k : ℤ) (group : ℕ) (vs out : List ℕ) (size : ℕ) → pack_answer W level mode k group vs (length out) ≡ Done size
+  pub takes : (W level mode : ℕ) (k : ℤ) (group : ℕ) (vs out : List ℕ) (size : ℕ) → pack_answer W level mode k group vs (length out) ≡ Ok size
       → (length vs ≤ 1048576) × (known_level level ≡ true) × (mode ≤ 2) × ((group ≡ 32) ⊎ (group ≡ 128)) × (need (setting_of W mode k group) ≤ level)
   -- enough room is what the length call answers, which is never above the limit that document 01 states, with the group size "in place of 32"
   pub packs : (W level mode : ℕ) (k : ℤ) (group : ℕ) (vs : List ℕ) → Offered W level mode k group vs
-      → (size : ℕ) × (length_answer W level mode k group vs ≡ Done size)
+      → (size : ℕ) × (length_answer W level mode k group vs ≡ Ok size)
       × (size ≤ 48 + 4 * chunks_in (length vs) + (length vs + (group - 1)) / group + length vs * W / 8)
-      × ((out : List ℕ) → size ≤ length out → pack_answer W level mode k group vs (length out) ≡ Done size)
+      × ((out : List ℕ) → size ≤ length out → pack_answer W level mode k group vs (length out) ≡ Ok size)
   -- "Width 64 needs 10; else mode 1 needs 9; else 8"; mode 2 "needs level 11", groups of 128 "level 13"; "Where several needs apply, the largest stands"
   pub needs : (W mode : ℕ) (k : ℤ) → (need (setting_of W mode k 128) ≡ 13) × (need (setting_of W 2 k 32) ≡ 11)
       × (need (setting_of 64 0 k 32) ≡ 10) × (need (setting_of 64 1 k 32) ≡ 10) × (need (setting_of 32 1 k 32) ≡ 9) × (need (setting_of 32 0 k 32) ≡ 8)
@@ -232,11 +231,11 @@ pub record Demand3 : Type 0 where
   -- any bytes s without a high id. Today no level accepts bytes with one (`NotSkipped`), so the premise takes no bytes away that any reader accepts. It
   -- is there because a later level may define such an id and accept it, and what the values then are is for that level to say.
   pub higher : (L L' : ℕ) (s : List ℕ) → some_high (ids_in (header_of s) s) ≡ false → L ≤ L' → known_level L' ≡ true
-      → ((n : ℕ) → check_answer L s ≡ Done n → check_answer L' s ≡ Done n)
-      × ((W : ℕ) (out : List ℕ) (n : ℕ) → unpack_answer W L s (length out) ≡ Done n
-      → (unpack_answer W L' s (length out) ≡ Done n) × (unpack_out W L' s out ≡ unpack_out W L s out))
-      × ((i p : ℕ) → probe_answer32 L s i ≡ shown32 p → probe_answer32 L' s i ≡ shown32 p)
-      × ((i p : ℕ) → probe_answer64 L s i ≡ shown64 p → probe_answer64 L' s i ≡ shown64 p)
+      → ((n : ℕ) → check_answer L s ≡ Ok n → check_answer L' s ≡ Ok n)
+      × ((W : ℕ) (out : List ℕ) (n : ℕ) → unpack_answer W L s (length out) ≡ Ok n
+      → (unpack_answer W L' s (length out) ≡ Ok n) × (unpack_out W L' s out ≡ unpack_out W L s out))
+      × ((i p : ℕ) → probe_answer32 L s i ≡ Ok (shown32 p) → probe_answer32 L' s i ≡ Ok (shown32 p))
+      × ((i p : ℕ) → probe_answer64 L s i ≡ Ok (shown64 p) → probe_answer64 L' s i ≡ Ok (shown64 p))
 
 -- ---- Document 02, R-4: a reader must never skip what it must understand. "Ids from 2^31 up now mean 'must be understood'. No such id is defined
 -- yet, so a reader that meets one refuses. A stream with such an id needs level 12, which older readers refuse by 7."
@@ -246,7 +245,7 @@ pub record Demand3 : Type 0 where
 pub record WithMinors (W level mode : ℕ) (k : ℤ) (group : ℕ) (vs : List ℕ) (parts : List Side) (written needed : ℕ) (s : List ℕ) : Type 0 where
   pub out : List ℕ
   pub size : ℕ
-  pub done : pack_answer W level mode k group vs (length out) ≡ Done size
+  pub done : pack_answer W level mode k group vs (length out) ≡ Ok size
   pub well_formed : WellFormedSides (size + 12 * length parts) parts
   pub later : level ≤ written
   pub fit : (written < 2 ^ 32) × (needed < 2 ^ 32)
@@ -269,15 +268,15 @@ pub record NotSkipped : Type 0 where
   pub packed : (W level mode : ℕ) (k : ℤ) (group : ℕ) (vs : List ℕ) (parts : List Side) (written needed : ℕ) (s : List ℕ) → known_width W ≡ true → Below (2 ^ W) vs
       → WithMinors W level mode k group vs parts written needed s → (L : ℕ) → known_level L ≡ true
       → (L < needed → TooNew L s needed)
-      × (needed ≤ L → (RightNeed W mode k group parts written needed → ⊥) → RefusedBy W L s (length vs) 8 0)
-      × (needed ≤ L → RightNeed W mode k group parts written needed → some_high (ids_of parts) ≡ true → RefusedBy W L s (length vs) 15 (first_high (ids_of parts)))
-      × (needed ≤ L → RightNeed W mode k group parts written needed → some_high (ids_of parts) ≡ false → check_answer L s ≡ Done (length vs))
+      × (needed ≤ L → (RightNeed W mode k group parts written needed → ⊥) → RefusedBy W L s (length vs) BrokenHeader)
+      × (needed ≤ L → RightNeed W mode k group parts written needed → some_high (ids_of parts) ≡ true → RefusedBy W L s (length vs) (MustBeUnderstood (first_high (ids_of parts))))
+      × (needed ≤ L → RightNeed W mode k group parts written needed → some_high (ids_of parts) ≡ false → check_answer L s ≡ Ok (length vs))
   -- so who adds a part with a high id and leaves both minors as pack wrote them gets 8 at each level that reaches the needed one, where that is
   -- below 12, as it is in groups of 32. In groups of 128 it is 13 already, and the readers that reach it answer 15 (`packed`).
-  pub unraised : (W level mode : ℕ) (k : ℤ) (group : ℕ) (vs out : List ℕ) (size : ℕ) → known_width W ≡ true → Below (2 ^ W) vs → pack_answer W level mode k group vs (length out) ≡ Done size
+  pub unraised : (W level mode : ℕ) (k : ℤ) (group : ℕ) (vs out : List ℕ) (size : ℕ) → known_width W ≡ true → Below (2 ^ W) vs → pack_answer W level mode k group vs (length out) ≡ Ok size
       → (parts : List Side) → WellFormedSides (size + 12 * length parts) parts → some_high (ids_of parts) ≡ true
       → (L : ℕ) → known_level L ≡ true → need (setting_of W mode k group) ≤ L → need (setting_of W mode k group) < 12
-      → RefusedBy W L (add_sides (take size (pack_out W level mode k group vs out)) parts) (length vs) 8 0
+      → RefusedBy W L (add_sides (take size (pack_out W level mode k group vs out)) parts) (length vs) BrokenHeader
   -- of any bytes, whatever else they are, in whose side table an entry i has an id from 2^31 up, every reader at every level refuses to hand out a value
   pub never : (L : ℕ) (s : List ℕ) (i : ℕ) → i < (header_of s).sides → 2 ^ 31 ≤ side_id (header_of s) s i → RefusedByAll L s
 
@@ -287,38 +286,38 @@ pub record NotSkipped : Type 0 where
 
 pub record SummaryBeside : Type 0 where
   -- add takes what check accepts and what has no side parts, where there is room for the copy; side parts are 16
-  pub adds : (L : ℕ) (s out : List ℕ) (n : ℕ) → check_answer L s ≡ Done n
-      → ((header_of s).sides ≡ 0 → length (with_summary s) ≤ length out → add_answer L s (length out) ≡ Done (length (with_summary s)))
-      × (0 < (header_of s).sides → add_answer L s (length out) ≡ Refused 16 0)
+  pub adds : (L : ℕ) (s out : List ℕ) (n : ℕ) → check_answer L s ≡ Ok n
+      → ((header_of s).sides ≡ 0 → length (with_summary s) ≤ length out → add_answer L s (length out) ≡ Ok (length (with_summary s)))
+      × (0 < (header_of s).sides → add_answer L s (length out) ≡ Err HasSideParts)
   -- it leaves the copy, and past it nothing is altered; "Adding a summary changes no value that any level shows": every reader makes of the copy what it makes
   -- of s, at each level; the summary is true, and a test of the copy answers at each level what a check of s does
-  pub added : (L : ℕ) (s out : List ℕ) (size : ℕ) → Below 256 s → add_answer L s (length out) ≡ Done size
+  pub added : (L : ℕ) (s out : List ℕ) (size : ℕ) → Below 256 s → add_answer L s (length out) ≡ Ok size
       → (size ≤ length out) × (size ≡ length (with_summary s)) × (add_out L s out ≡ with_summary s ++ drop size out)
       × ReadAs s (take size (add_out L s out)) × TrueSummary (take size (add_out L s out))
       × ((R : ℕ) → test_answer R (take size (add_out L s out)) ≡ check_answer R s)
   -- of the header only the number of side parts is another
-  pub header : (L : ℕ) (s out : List ℕ) (size : ℕ) → Below 256 s → add_answer L s (length out) ≡ Done size → header_of (take size (add_out L s out)) ≡ counted (header_of s) 1
+  pub header : (L : ℕ) (s out : List ℕ) (size : ℕ) → Below 256 s → add_answer L s (length out) ≡ Ok size → header_of (take size (add_out L s out)) ≡ counted (header_of s) 1
   -- a test accepts exactly the true summaries of what a check accepts; all else of that is 17
-  pub tested : (L : ℕ) (s : List ℕ) (n : ℕ) → test_answer L s ≡ Done n ↔ (check_answer L s ≡ Done n) × TrueSummary s
-  pub untrue : (L : ℕ) (s : List ℕ) (n : ℕ) → check_answer L s ≡ Done n → (TrueSummary s → ⊥) → test_answer L s ≡ Refused 17 0
+  pub tested : (L : ℕ) (s : List ℕ) (n : ℕ) → test_answer L s ≡ Ok n ↔ (check_answer L s ≡ Ok n) × TrueSummary s
+  pub untrue : (L : ℕ) (s : List ℕ) (n : ℕ) → check_answer L s ≡ Ok n → (TrueSummary s → ⊥) → test_answer L s ≡ Err NoTrueSummary
   -- what a true summary says: it has 4 + 2·(W/8) bytes for each chunk, without gaps, and at the place of each the three numbers of the chunk's values
-  pub says : (L : ℕ) (s : List ℕ) (n : ℕ) → check_answer L s ≡ Done n → (t : TrueSummary s)
+  pub says : (L : ℕ) (s : List ℕ) (n : ℕ) → check_answer L s ≡ Ok n → (t : TrueSummary s)
       → let h = header_of s in
       (side_length h s t.entry ≡ h.chunks * (4 + 2 * (h.width / 8)))
       × ((j : ℕ) → j < h.chunks → Says h.width s (side_place h s t.entry + j * (4 + 2 * (h.width / 8))) (take 1024 (drop (1024 * j) (values s))))
   -- a list is made of a true summary alone; it names exactly the chunks that hold some value at least x as IEEE 754 compares, each after a smaller one; and
   -- past them nothing is altered
-  pub listed : (W L x : ℕ) (s out : List ℕ) (k : ℕ) → known_width W ≡ true → x < 2 ^ W → list_answer W L x s (length out) ≡ Done k
+  pub listed : (W L x : ℕ) (s out : List ℕ) (k : ℕ) → known_width W ≡ true → x < 2 ^ W → list_answer W L x s (length out) ≡ Ok k
       → (k ≤ length out) × TrueSummary s
       × ((j : ℕ) → ((i : ℕ) × (i < k) × (get_or (list_out W L x s out) i 0 ≡ j)) ↔ HoldsSome (format_of W) x s j)
       × ((i : ℕ) → suc i < k → get_or (list_out W L x s out) i 0 < get_or (list_out W L x s out) (suc i) 0)
       × (drop k (list_out W L x s out) ≡ drop k out)
   -- and where a test of a stream of the width accepts, and x is a number, it is given in room for what it names, and else refused by 4 with how many that are
-  pub lists : (W L x : ℕ) (s : List ℕ) (n : ℕ) → known_width W ≡ true → test_answer L s ≡ Done n → (header_of s).width ≡ W → (of_bits (format_of W) x ≡ nan → ⊥)
-      → (k : ℕ) × ((out : List ℕ) → (k ≤ length out → list_answer W L x s (length out) ≡ Done k) × (length out < k → list_answer W L x s (length out) ≡ Refused 4 k))
+  pub lists : (W L x : ℕ) (s : List ℕ) (n : ℕ) → known_width W ≡ true → test_answer L s ≡ Ok n → (header_of s).width ≡ W → (of_bits (format_of W) x ≡ nan → ⊥)
+      → (k : ℕ) × ((out : List ℕ) → (k ≤ length out → list_answer W L x s (length out) ≡ Ok k) × (length out < k → list_answer W L x s (length out) ≡ Err (NoRoom k)))
   -- an x that is a not-a-number is 2, whatever the bytes are
-  pub no_number : (W L x : ℕ) (s out : List ℕ) → known_width W ≡ true → known_level L ≡ true → of_bits (format_of W) x ≡ nan → list_answer W L x s (length out) ≡ Refused 2 0
+  pub no_number : (W L x : ℕ) (s out : List ℕ) → known_width W ≡ true → known_level L ≡ true → of_bits (format_of W) x ≡ nan → list_answer W L x s (length out) ≡ Err NotAllowed
   -- bytes with a high id are refused here too (`NotSkipped`)
   pub never : (L : ℕ) (s : List ℕ) (i : ℕ) → i < (header_of s).sides → 2 ^ 31 ≤ side_id (header_of s) s i
-      → ((out : List ℕ) (n : ℕ) → add_answer L s (length out) ≡ Done n → ⊥) × ((n : ℕ) → test_answer L s ≡ Done n → ⊥)
-      × ((W x : ℕ) (out : List ℕ) (k : ℕ) → list_answer W L x s (length out) ≡ Done k → ⊥)
+      → ((out : List ℕ) (n : ℕ) → add_answer L s (length out) ≡ Ok n → ⊥) × ((n : ℕ) → test_answer L s ≡ Ok n → ⊥)
+      × ((W x : ℕ) (out : List ℕ) (k : ℕ) → list_answer W L x s (length out) ≡ Ok k → ⊥)

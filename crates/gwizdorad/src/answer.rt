@@ -9,7 +9,7 @@ pub(crate) fn result_of_answer(answer: Answer) -> u64
     ensures { result ≡ answer_result answer }
 {
     match answer {
-        Answer::Done(n) => result::result_of(0, n),
-        Answer::Refused(number, detail) => result::result_of(number, detail),
+        Ok(n) => result::result_of(0, n),
+        Err(refusal) => result::result_of(refusal.number(), refusal.detail()),
     }
 }

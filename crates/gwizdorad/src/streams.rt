@@ -1,11 +1,11 @@
 // The operations on streams for C.
 ghost use Rattle.std.specs.Prelude.{◌≡◌, length};
 ghost use Rattle.stream.specs.Operations.{length_answer, pack_answer, pack_out, unpack_answer, unpack_out, check_answer, probe_answer32, probe_answer64};
-ghost use Rattle.gwizdorad.specs.Result.{answer_result, infinity32, probe_result32, probe_out32, infinity64, probe_result64, probe_out64};
+ghost use Rattle.gwizdorad.specs.Result.{answer_result, probe_result, infinity32, probe_out32, infinity64, probe_out64};
 
 use crate::answer;
 use gwizdorad_numbers::result;
-use stream::answers::{Probe32, Probe64};
+use stream::answers::Shown;
 use stream::{pack, probe, reading};
 
 // What probe answers: the value's kind.
@@ -62,24 +62,26 @@ fn infinity32(negative: bool) -> u32
 // The answer says what kind of value it is, and the pattern goes through the pointer; a refusal leaves it as it was.
 #[unsafe(no_mangle)]
 pub extern "C" fn gwz_probe32(level: u32, bytes: &[u8], index: u64, pattern: &mut u32) -> u64
-    ensures value { result ≡ probe_result32 (probe_answer32 level bytes.now index) }
+    ensures value { result ≡ probe_result (probe_answer32 level bytes.now index) }
     ensures pattern_after { pattern.new ≡ probe_out32 (probe_answer32 level bytes.now index) pattern.old }
 {
     let answer = probe::probe32(level, bytes, index as usize);
     match answer {
-        Probe32::Finite(x) => {
-            *pattern = f32::to_bits(x);
-            result::result_of(0, FINITE)
-        }
-        Probe32::Infinity(negative) => {
-            *pattern = infinity32(negative);
-            result::result_of(0, INFINITE)
-        }
-        Probe32::NotANumber(p) => {
-            *pattern = p;
-            result::result_of(0, NOT_A_NUMBER)
-        }
-        Probe32::Refused(number, detail) => result::result_of(number, detail),
+        Ok(shown) => match shown {
+            Shown::Finite(x) => {
+                *pattern = f32::to_bits(x);
+                result::result_of(0, FINITE)
+            }
+            Shown::Infinity(negative) => {
+                *pattern = infinity32(negative);
+                result::result_of(0, INFINITE)
+            }
+            Shown::NotANumber(p) => {
+                *pattern = p;
+                result::result_of(0, NOT_A_NUMBER)
+            }
+        },
+        Err(refusal) => result::result_of(refusal.number(), refusal.detail()),
     }
 }
 
@@ -127,23 +129,25 @@ fn infinity64(negative: bool) -> u64
 // The answer says what kind of value it is, and the pattern goes through the pointer; a refusal leaves it as it was.
 #[unsafe(no_mangle)]
 pub extern "C" fn gwz_probe64(level: u32, bytes: &[u8], index: u64, pattern: &mut u64) -> u64
-    ensures value { result ≡ probe_result64 (probe_answer64 level bytes.now index) }
+    ensures value { result ≡ probe_result (probe_answer64 level bytes.now index) }
     ensures pattern_after { pattern.new ≡ probe_out64 (probe_answer64 level bytes.now index) pattern.old }
 {
     let answer = probe::probe64(level, bytes, index as usize);
     match answer {
-        Probe64::Finite(x) => {
-            *pattern = f64::to_bits(x);
-            result::result_of(0, FINITE)
-        }
-        Probe64::Infinity(negative) => {
-            *pattern = infinity64(negative);
-            result::result_of(0, INFINITE)
-        }
-        Probe64::NotANumber(p) => {
-            *pattern = p;
-            result::result_of(0, NOT_A_NUMBER)
-        }
-        Probe64::Refused(number, detail) => result::result_of(number, detail),
+        Ok(shown) => match shown {
+            Shown::Finite(x) => {
+                *pattern = f64::to_bits(x);
+                result::result_of(0, FINITE)
+            }
+            Shown::Infinity(negative) => {
+                *pattern = infinity64(negative);
+                result::result_of(0, INFINITE)
+            }
+            Shown::NotANumber(p) => {
+                *pattern = p;
+                result::result_of(0, NOT_A_NUMBER)
+            }
+        },
+        Err(refusal) => result::result_of(refusal.number(), refusal.detail()),
     }
 }

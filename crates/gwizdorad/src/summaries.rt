@@ -26,7 +26,7 @@ pub extern "C" fn gwz_chunks_from32(level: u32, x: u32, bytes: &[u8], out: &mut 
     ensures value { result ≡ answer_result (list_answer 32 level x bytes.now (length out.old)) }
     ensures out_after { out.new ≡ list_out 32 level x bytes.now out.old }
 {
-    answer::result_of_answer(listed::chunks_from32(level, x, bytes, out))
+    answer::result_of_answer(listed::chunks_from(level, x, bytes, out))
 }
 
 #[unsafe(no_mangle)]
@@ -34,5 +34,5 @@ pub extern "C" fn gwz_chunks_from64(level: u32, x: u64, bytes: &[u8], out: &mut 
     ensures value { result ≡ answer_result (list_answer 64 level x bytes.now (length out.old)) }
     ensures out_after { out.new ≡ list_out 64 level x bytes.now out.old }
 {
-    answer::result_of_answer(listed::chunks_from64(level, x, bytes, out))
+    answer::result_of_answer(listed::chunks_from(level, x, bytes, out))
 }

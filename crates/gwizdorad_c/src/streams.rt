@@ -1,7 +1,7 @@
 // The operations on streams, as C calls them.
 ghost use Rattle.std.specs.Prelude.{◌≡◌, length};
 ghost use Rattle.stream.specs.Operations.{length_answer, pack_answer, pack_out, unpack_answer, unpack_out, check_answer, probe_answer32, probe_answer64};
-ghost use Rattle.gwizdorad.specs.Result.{answer_result, probe_result32, probe_out32, probe_result64, probe_out64};
+ghost use Rattle.gwizdorad.specs.Result.{answer_result, probe_result, probe_out32, probe_out64};
 
 use gwizdorad::streams;
 
@@ -44,7 +44,7 @@ pub extern "C" fn gwz_unpack32(level: u32, bytes: &[u8], out: &mut [u32]) -> u64
 
 #[unsafe(no_mangle)]
 pub extern "C" fn gwz_probe32(level: u32, bytes: &[u8], index: u64, pattern: &mut u32) -> u64
-    ensures value { result ≡ probe_result32 (probe_answer32 level bytes.now index) }
+    ensures value { result ≡ probe_result (probe_answer32 level bytes.now index) }
     ensures pattern_after { pattern.new ≡ probe_out32 (probe_answer32 level bytes.now index) pattern.old }
 {
     streams::gwz_probe32(level, bytes, index, pattern)
@@ -82,7 +82,7 @@ pub extern "C" fn gwz_unpack64(level: u32, bytes: &[u8], out: &mut [u64]) -> u64
 
 #[unsafe(no_mangle)]
 pub extern "C" fn gwz_probe64(level: u32, bytes: &[u8], index: u64, pattern: &mut u64) -> u64
-    ensures value { result ≡ probe_result64 (probe_answer64 level bytes.now index) }
+    ensures value { result ≡ probe_result (probe_answer64 level bytes.now index) }
     ensures pattern_after { pattern.new ≡ probe_out64 (probe_answer64 level bytes.now index) pattern.old }
 {
     streams::gwz_probe64(level, bytes, index, pattern)

@@ -6,10 +6,9 @@ use lib.Dec.{lit<}
 use Rattle.numbers.specs.Signed.{signed_view, bits_of}
 use Rattle.numbers.specs.Answers.{code_number, pattern_number}
 use Rattle.numbers.specs.Bound.{bound_answer, bound_number, bound_detail}
-use Rattle.numbers.specs.declared.tolerance.CodeAnswer.{CodeAnswer}
-use Rattle.numbers.specs.declared.tolerance.CodeAnswer.TheVariants as code
-use Rattle.numbers.specs.declared.tolerance.PatternAnswer.{PatternAnswer}
-use Rattle.numbers.specs.declared.tolerance.PatternAnswer.TheVariants as pattern
+use Rattle.std.specs.Prelude.{Option, Some, None, Result, Ok, Err}
+use Rattle.numbers.specs.declared.tolerance.PatternError.{PatternError}
+use Rattle.numbers.specs.declared.tolerance.PatternError.TheVariants.{NotAllowed, AboveLargest}
 use Rattle.gwizdorad_numbers.specs.Result.{result_of, bound_result, code_result, code_out, pattern_result, pattern_out}
 use Rattle.gwizdorad_numbers.specs.Theorem.{Uncut}
 use Rattle.gwizdorad_numbers.proofs.Law.Spelled.{uncut, apart, signed_fits, bound_folded, bound_number_small, bound_told}
@@ -30,16 +29,16 @@ bound_is_uncut width tolerance =
     (uncut (bound_number a) (bits_of 32 (bound_detail a)) (bound_number_small a) k.0, k.1)
 
 -- the tolerance code and its way back have a number, and nothing beside it
-pub code_is_uncut : (a : CodeAnswer) → Uncut (code_number a) 0 (code_result a)
+pub code_is_uncut : (a : Option ℕ) → Uncut (code_number a) 0 (code_result a)
 unfolding code_result code_number
-code_is_uncut (code.Code c) = uncut 0 0 (lit< tt) (lit< tt)
-code_is_uncut code.NotAllowed = uncut 2 0 (lit< tt) (lit< tt)
+code_is_uncut (Some c) = uncut 0 0 (lit< tt) (lit< tt)
+code_is_uncut None = uncut 2 0 (lit< tt) (lit< tt)
 
-pub pattern_is_uncut : (a : PatternAnswer) → Uncut (pattern_number a) 0 (pattern_result a)
+pub pattern_is_uncut : (a : Result ℕ PatternError) → Uncut (pattern_number a) 0 (pattern_result a)
 unfolding pattern_result pattern_number
-pattern_is_uncut (pattern.Pattern p) = uncut 0 0 (lit< tt) (lit< tt)
-pattern_is_uncut pattern.NotAllowed = uncut 2 0 (lit< tt) (lit< tt)
-pattern_is_uncut pattern.AboveLargest = uncut 10 0 (lit< tt) (lit< tt)
+pattern_is_uncut (Ok p) = uncut 0 0 (lit< tt) (lit< tt)
+pattern_is_uncut (Err NotAllowed) = uncut 2 0 (lit< tt) (lit< tt)
+pattern_is_uncut (Err AboveLargest) = uncut 10 0 (lit< tt) (lit< tt)
 
 -- ---- a caller takes the result apart: r / 2^32 is the number, r % 2^32 the detail or the answer
 
@@ -61,13 +60,12 @@ a_result_tells_the_bound width tolerance width' tolerance' same =
 
 -- ---- a refusal, whose number is not 0, leaves what was lent for the second answer as it was
 
-pub a_refused_code_is_not_written : (a : CodeAnswer) (old : ℕ) → (code_number a ≡ 0 → ⊥) → code_out a old ≡ old
+pub a_refused_code_is_not_written : (a : Option ℕ) (old : ℕ) → (code_number a ≡ 0 → ⊥) → code_out a old ≡ old
 unfolding code_number code_out
-a_refused_code_is_not_written (code.Code c) old refused = absurd (refused refl)
-a_refused_code_is_not_written code.NotAllowed old refused = refl
+a_refused_code_is_not_written (Some c) old refused = absurd (refused refl)
+a_refused_code_is_not_written None old refused = refl
 
-pub a_refused_pattern_is_not_written : (a : PatternAnswer) (old : ℕ) → (pattern_number a ≡ 0 → ⊥) → pattern_out a old ≡ old
+pub a_refused_pattern_is_not_written : (a : Result ℕ PatternError) (old : ℕ) → (pattern_number a ≡ 0 → ⊥) → pattern_out a old ≡ old
 unfolding pattern_number pattern_out
-a_refused_pattern_is_not_written (pattern.Pattern p) old refused = absurd (refused refl)
-a_refused_pattern_is_not_written pattern.NotAllowed old refused = refl
-a_refused_pattern_is_not_written pattern.AboveLargest old refused = refl
+a_refused_pattern_is_not_written (Ok p) old refused = absurd (refused refl)
+a_refused_pattern_is_not_written (Err e) old refused = refl

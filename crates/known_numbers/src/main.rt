@@ -2,8 +2,8 @@
 // should be, taken from the document. The values marked * there are proved too, in the library's proofs/Known.antt.
 #![tactic(auto)]
 
-use numbers::bound::BoundAnswer;
-use numbers::tolerance::{CodeAnswer, PatternAnswer};
+use numbers::bound::BoundError;
+use numbers::tolerance::PatternError;
 use std::io;
 
 fn text(rt: &impl Print, t: &[u8]) -> io::Result<()> {
@@ -34,33 +34,33 @@ fn signed(rt: &impl Print, k: i32) -> io::Result<()> {
 fn lossless32(rt: &impl Print, p: u32) -> io::Result<()> {
     text(rt, b"lossless 32")?;
     hex(rt, p as u64, 8)?;
-    let c = numbers::lossless::code32(p);
+    let c = numbers::lossless::code(p);
     hex(rt, c as u64, 8)?;
-    hex(rt, numbers::lossless::restored32(c) as u64, 8)?;
+    hex(rt, numbers::lossless::restored(c) as u64, 8)?;
     text(rt, b"\n")
 }
 
 fn lossless64(rt: &impl Print, p: u64) -> io::Result<()> {
     text(rt, b"lossless 64")?;
     hex(rt, p, 16)?;
-    let c = numbers::lossless::code64(p);
+    let c = numbers::lossless::code(p);
     hex(rt, c, 16)?;
-    hex(rt, numbers::lossless::restored64(c), 16)?;
+    hex(rt, numbers::lossless::restored(c), 16)?;
     text(rt, b"\n")
 }
 
-fn code(rt: &impl Print, a: CodeAnswer) -> io::Result<()> {
+fn code<T: Into<u64>>(rt: &impl Print, a: Option<T>) -> io::Result<()> {
     match a {
-        CodeAnswer::Code(c) => hex(rt, c, 8),
-        CodeAnswer::NotAllowed => refused(rt, 2),
+        Some(c) => hex(rt, c.into(), 8),
+        None => refused(rt, 2),
     }
 }
 
-fn pattern(rt: &impl Print, a: PatternAnswer) -> io::Result<()> {
+fn pattern(rt: &impl Print, a: Result<u32, PatternError>) -> io::Result<()> {
     match a {
-        PatternAnswer::Pattern(p) => hex(rt, p, 8),
-        PatternAnswer::NotAllowed => refused(rt, 2),
-        PatternAnswer::AboveLargest => refused(rt, 10),
+        Ok(p) => hex(rt, p as u64, 8),
+        Err(PatternError::NotAllowed) => refused(rt, 2),
+        Err(PatternError::AboveLargest) => refused(rt, 10),
     }
 }
 
@@ -69,7 +69,7 @@ fn coded(rt: &impl Print, k: i32, p: u32) -> io::Result<()> {
     text(rt, b"code 32 k")?;
     signed(rt, k)?;
     hex(rt, p as u64, 8)?;
-    code(rt, numbers::tolerance::code32(0, k, p))?;
+    code(rt, numbers::tolerance::code(0, k, p))?;
     text(rt, b"\n")
 }
 
@@ -80,7 +80,7 @@ fn ruled32(rt: &impl Print, halves: u32, k: i32, p: u32) -> io::Result<()> {
     text(rt, b" code 32 k")?;
     signed(rt, k)?;
     hex(rt, p as u64, 8)?;
-    code(rt, numbers::tolerance::code32(halves, k, p))?;
+    code(rt, numbers::tolerance::code(halves, k, p))?;
     text(rt, b"\n")
 }
 
@@ -90,7 +90,7 @@ fn ruled64(rt: &impl Print, halves: u32, k: i32, p: u64) -> io::Result<()> {
     text(rt, b" code 64 k")?;
     signed(rt, k)?;
     hex(rt, p, 16)?;
-    code(rt, numbers::tolerance::code64(halves, k, p))?;
+    code(rt, numbers::tolerance::code(halves, k, p))?;
     text(rt, b"\n")
 }
 
@@ -99,7 +99,7 @@ fn restored(rt: &impl Print, k: i32, c: u32) -> io::Result<()> {
     text(rt, b"restored 32 k")?;
     signed(rt, k)?;
     hex(rt, c as u64, 8)?;
-    pattern(rt, numbers::tolerance::restored32(k, c))?;
+    pattern(rt, numbers::tolerance::restored(k, c))?;
     text(rt, b"\n")
 }
 
@@ -107,12 +107,11 @@ fn bound(rt: &impl Print, width: u32, tolerance: u64) -> io::Result<()> {
     text(rt, b"bound ")?;
     print!(rt; "{width}")?;
     hex(rt, tolerance, 16)?;
-    let a = numbers::bound::bound(width, tolerance);
-    match a {
-        BoundAnswer::Exponent(k) => signed(rt, k),
-        BoundAnswer::UnknownWidth => refused(rt, 2),
-        BoundAnswer::NoTolerance => refused(rt, 12),
-        BoundAnswer::TooSmall => refused(rt, 13),
+    match numbers::bound::bound(width, tolerance) {
+        Ok(k) => signed(rt, k),
+        Err(BoundError::UnknownWidth) => refused(rt, 2),
+        Err(BoundError::NoTolerance) => refused(rt, 12),
+        Err(BoundError::TooSmall) => refused(rt, 13),
     }?;
     text(rt, b"\n")
 }

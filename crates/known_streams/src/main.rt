@@ -2,7 +2,7 @@
 #![tactic(auto)]
 
 use std::io;
-use stream::answers::{Answer, Probe32};
+use stream::answers::{Answer, Refusal, Shown};
 use stream::{pack, probe, reading};
 
 fn text(rt: &impl Print, t: &[u8]) -> io::Result<()> {
@@ -14,35 +14,32 @@ fn number(rt: &impl Print, n: usize) -> io::Result<()> {
     print!(rt; "{n}")
 }
 
+fn refused(rt: &impl Print, refusal: Refusal) -> io::Result<()> {
+    text(rt, b" refused")?;
+    number(rt, refusal.number())?;
+    text(rt, b" detail")?;
+    number(rt, refusal.detail())
+}
+
 fn told(rt: &impl Print, what: &[u8], answer: Answer) -> io::Result<()> {
     text(rt, what)?;
     match answer {
-        Answer::Done(n) => number(rt, n),
-        Answer::Refused(number_of, detail) => {
-            text(rt, b" refused")?;
-            number(rt, number_of)?;
-            text(rt, b" detail")?;
-            number(rt, detail)
-        }
+        Ok(n) => number(rt, n),
+        Err(refusal) => refused(rt, refusal),
     }?;
     text(rt, b"\n")
 }
 
-fn shown(rt: &impl Print, what: &[u8], answer: Probe32) -> io::Result<()> {
+fn shown(rt: &impl Print, what: &[u8], answer: Result<Shown<f32, u32>, Refusal>) -> io::Result<()> {
     text(rt, what)?;
     match answer {
-        Probe32::Finite(_) => text(rt, b" finite"),
-        Probe32::Infinity(_) => text(rt, b" infinity"),
-        Probe32::NotANumber(p) => {
+        Ok(Shown::Finite(_)) => text(rt, b" finite"),
+        Ok(Shown::Infinity(_)) => text(rt, b" infinity"),
+        Ok(Shown::NotANumber(p)) => {
             text(rt, b" not a number ")?;
             print!(rt; "{p:08x}")
         }
-        Probe32::Refused(number_of, detail) => {
-            text(rt, b" refused")?;
-            number(rt, number_of)?;
-            text(rt, b" detail")?;
-            number(rt, detail)
-        }
+        Err(refusal) => refused(rt, refusal),
     }?;
     text(rt, b"\n")
 }

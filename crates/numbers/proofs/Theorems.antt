@@ -1,12 +1,9 @@
 -- The theorems of the number rules, each stated once over the width W and the fraction bits m, and at the end for binary32 and binary64.
 -- The proofs are citations of the laws in proofs/Law/, here and in `bins`. The words are those of specs/, here and there.
-use Rattle.std.proofs.Common.{◌≡◌, ℕ, suc, ◌+◌, ◌-◌, ◌*◌, ◌/◌, ◌%◌, ◌^◌, ◌<◌, ◌≤◌, Bool, true, false, cond, eqb, leb, List, [], ◌∷◌, ◌++◌, length, get_or, take, replicate, ℤ, pos, negsuc, sym, refl, ap, ◌∙◌, subst, le_refl, mod-lt, arith, lit<, lit≤, pow_pos, le-leb}
+use Rattle.std.proofs.Common.{◌≡◌, ℕ, suc, ◌+◌, ◌-◌, ◌*◌, ◌/◌, ◌%◌, ◌^◌, ◌<◌, ◌≤◌, Bool, true, false, cond, eqb, leb, List, [], ◌∷◌, ◌++◌, length, get_or, take, replicate, ℤ, pos, negsuc, sym, refl, ap, ◌∙◌, subst, le_refl, mod-lt, arith, lit<, lit≤, pow_pos, le-leb, Some, None, Ok, Err}
 use lib.Ieee.{binary32, binary64, inf, nan, of_bits}
 use lib.Ieee.Exact.{HasValue}
-use Rattle.bins.specs.declared.bin.BinAnswer.TheVariants.{Bin, NotAllowed}
-use Rattle.numbers.specs.declared.bound.BoundAnswer.TheVariants.{Exponent, NoTolerance, TooSmall}
-use Rattle.numbers.specs.declared.tolerance.CodeAnswer.TheVariants as code
-use Rattle.numbers.specs.declared.tolerance.PatternAnswer.TheVariants as pattern
+use Rattle.numbers.specs.declared.bound.BoundError.TheVariants.{NoTolerance, TooSmall}
 use Rattle.numbers.specs.Answers.{code_answer, pattern_answer}
 use Rattle.numbers.specs.Signed.{signed_view}
 use Rattle.numbers.specs.Lossless.{field, stepped, lossless_code, unstepped, lossless_restored}
@@ -42,10 +39,10 @@ format_16 = record { room = lit≤ tt; least = lit< tt; order = lit≤ tt }
 
 -- ---- the answers of `bin32` and `bin64`: the bin of an allowed k, or none
 
-pub a_bin_is_that_of_k : (W m : ℕ) (k : ℤ) (j : ℕ) → bin_answer W m k ≡ Bin j → (allowed_k W m k ≡ true) × (bin_of W m k ≡ j)
+pub a_bin_is_that_of_k : (W m : ℕ) (k : ℤ) (j : ℕ) → bin_answer W m k ≡ Some j → (allowed_k W m k ≡ true) × (bin_of W m k ≡ j)
 a_bin_is_that_of_k W m k j e = (allowed W m k j e, bin_is W m k j e)
 
-pub no_bin_means_not_allowed : (W m : ℕ) (k : ℤ) → bin_answer W m k ≡ NotAllowed → allowed_k W m k ≡ false
+pub no_bin_means_not_allowed : (W m : ℕ) (k : ℤ) → bin_answer W m k ≡ None → allowed_k W m k ≡ false
 no_bin_means_not_allowed W m k e = refused_is W m k (allowed_k W m k) refl e
 
 -- a bin and its k: each gives the other back
@@ -229,14 +226,14 @@ module _ (W m : ℕ) (format : Format W m) where
         (Tolerance.code_largest W m format.room j in-range rule (ordinal W p) (mod-lt p (pow_pos (W - 1))))
 
   -- a rule that has a code is known, and a k that has one is allowed
-  module _ (rule : ℕ) (k : ℤ) (p c : ℕ) (e : code_answer W m rule k p ≡ code.Code c) where
+  module _ (rule : ℕ) (k : ℤ) (p c : ℕ) (e : code_answer W m rule k p ≡ Some c) where
     pub a_coded_rule_is_known : known_halves rule ≡ true
     unfolding code_answer
     a_coded_rule_is_known = go (known_halves rule) refl
       where
         go : (b : Bool) → known_halves rule ≡ b → known_halves rule ≡ true
         go true is = is
-        go false is = let z : code.NotAllowed ≡ code.Code c = rw is at e in cc
+        go false is = let z : None ≡ Some c = rw is at e in cc
 
     pub a_coded_k_is_allowed : allowed_k W m k ≡ true
     unfolding code_answer
@@ -244,7 +241,7 @@ module _ (W m : ℕ) (format : Format W m) where
       where
         go : (b : Bool) → allowed_k W m k ≡ b → allowed_k W m k ≡ true
         go true is = is
-        go false is = let z : code.NotAllowed ≡ code.Code c = rw (a_coded_rule_is_known, is) at e in cc
+        go false is = let z : None ≡ Some c = rw (a_coded_rule_is_known, is) at e in cc
 
   module _ (k : ℤ) (is-allowed : allowed_k W m k ≡ true) where
     pub an_allowed_k_has_a_bin : bin_of W m k ≤ last_bin W m
@@ -285,11 +282,11 @@ module _ (W m : ℕ) (format : Format W m) where
     the_code_has_the_sign = Tolerance.code_parity W m format.room (bin_of W m k) an_allowed_k_has_a_bin
 
     -- so of the answers for a k: a pattern's code is restored within the tolerance
-    pub a_code_is_restored : (rule p c : ℕ) → p < 2 ^ W → code_answer W m rule k p ≡ code.Code c
-        → (q : ℕ) × (pattern_answer W m k c ≡ pattern.Pattern q) × Within W m (bin_of W m k) p q
+    pub a_code_is_restored : (rule p c : ℕ) → p < 2 ^ W → code_answer W m rule k p ≡ Some c
+        → (q : ℕ) × (pattern_answer W m k c ≡ Ok q) × Within W m (bin_of W m k) p q
     unfolding code_answer pattern_answer
     a_code_is_restored rule p c h e =
-        let coded : code.Code (tolerance_code W m rule (bin_of W m k) p) ≡ code.Code c = rw (a_coded_rule_is_known rule k p c e, is-allowed) at e in
+        let coded : Some (tolerance_code W m rule (bin_of W m k) p) ≡ Some c = rw (a_coded_rule_is_known rule k p c e, is-allowed) at e in
         let is : tolerance_code W m rule (bin_of W m k) p ≡ c = cc in
         let least : c / 2 ≤ largest_u W m (bin_of W m k) = subst (λ (c : ℕ). c / 2 ≤ largest_u W m (bin_of W m k)) is (no_u_is_larger (bin_of W m k) an_allowed_k_has_a_bin rule p h) in (
           tolerance_restored W m (bin_of W m k) c,
@@ -329,7 +326,7 @@ module _ (W m : ℕ) (format : Format W m) where
   -- ---- bound
 
   -- "answers the largest allowed k with 2^k not above it"
-  pub bound_is_the_largest : (t : ℕ) (k : ℤ) → bound_at W m t ≡ Exponent k → IsBound W m t k
+  pub bound_is_the_largest : (t : ℕ) (k : ℤ) → bound_at W m t ≡ Ok k → IsBound W m t k
   bound_is_the_largest = Bound.bound_sound W m format
 
   -- and only that one
@@ -337,14 +334,14 @@ module _ (W m : ℕ) (format : Format W m) where
   there_is_one_bound t k other a b = int_le_both k other (b.largest k a.allowed a.below).le (a.largest other b.allowed b.below).le
 
   -- 13: "no allowed k is small enough"
-  pub too_small_means_none : (t : ℕ) → bound_at W m t ≡ TooSmall → (k : ℤ) → allowed_k W m k ≡ true → not_above W m t (bin_of W m k) ≡ false
+  pub too_small_means_none : (t : ℕ) → bound_at W m t ≡ Err TooSmall → (k : ℤ) → allowed_k W m k ≡ true → not_above W m t (bin_of W m k) ≡ false
   too_small_means_none = Bound.bound_refused W m format
 
   -- where there is a bound, it is answered; 12 is answered only for what is not a finite number above 0
-  pub a_bound_is_answered : (t : ℕ) (k : ℤ) → is_tolerance t ≡ true → IsBound W m t k → bound_at W m t ≡ Exponent k
+  pub a_bound_is_answered : (t : ℕ) (k : ℤ) → is_tolerance t ≡ true → IsBound W m t k → bound_at W m t ≡ Ok k
   a_bound_is_answered t k tolerance is = Bound.bound_complete W m format t k tolerance is (λ other b. there_is_one_bound t other k b is)
 
-  pub no_tolerance_means_none : (t : ℕ) → bound_at W m t ≡ NoTolerance → is_tolerance t ≡ false
+  pub no_tolerance_means_none : (t : ℕ) → bound_at W m t ≡ Err NoTolerance → is_tolerance t ≡ false
   no_tolerance_means_none = Bound.bound_untold W m format
 
 -- ---- the magnitude is IEEE 754's, by the toolchain's own account of it

@@ -1,9 +1,9 @@
 -- The words that the theorems of proofs/Theorems.antt are stated in.
-use Rattle.std.specs.Prelude.{◌≡◌, ℕ, ◌+◌, ◌-◌, ◌*◌, ◌%◌, ◌^◌, ◌<◌, ◌≤◌, Bool, true, false, ℤ, ◌≤ℤ◌, ◌≢◌}
+use Rattle.std.specs.Prelude.{◌≡◌, ℕ, ◌+◌, ◌-◌, ◌*◌, ◌%◌, ◌^◌, ◌<◌, ◌≤◌, Bool, true, false, ℤ, ◌≤ℤ◌, ◌≢◌, Result, Ok, Err}
 use Rattle.std.specs.Float.Ieee as Ieee
 use Rattle.std.specs.Float.Ieee.Exact.{HasValue}
-use Rattle.numbers.specs.declared.bound.BoundAnswer.{BoundAnswer}
-use Rattle.numbers.specs.declared.bound.BoundAnswer.TheVariants.{Exponent, NoTolerance, TooSmall}
+use Rattle.numbers.specs.declared.bound.BoundError.{BoundError}
+use Rattle.numbers.specs.declared.bound.BoundError.TheVariants.{NoTolerance, TooSmall}
 use Rattle.bins.specs.Tolerance.{k_offset, last_bin, allowed_k, bin_of, sign, ordinal, magnitude, threshold}
 use Rattle.numbers.specs.Bound.{not_above}
 
@@ -63,7 +63,7 @@ pub record LargestFor (W m x : ℕ) (k : ℤ) : Type 0 where
 
 -- What bound answers of a tolerance t: its k; 12, where t is not read as "a finite number above 0"; 13, where 2^k is above it for every
 -- allowed k.
-pub data BoundFor (W m t : ℕ) : BoundAnswer → Type 0 where
-  a_k : (x : ℕ) → Reads Ieee.binary64 t false x → 0 < x → (k : ℤ) → LargestFor W m x k → BoundFor W m t (Exponent k)
-  no_tolerance : ((x : ℕ) → Reads Ieee.binary64 t false x → x ≡ 0) → BoundFor W m t NoTolerance
-  too_small : (x : ℕ) → Reads Ieee.binary64 t false x → 0 < x → ((k : ℤ) → allowed_k W m k ≡ true → 2 * x < 2 ^ bin_of 64 52 k) → BoundFor W m t TooSmall
+pub data BoundFor (W m t : ℕ) : Result ℤ BoundError → Type 0 where
+  a_k : (x : ℕ) → Reads Ieee.binary64 t false x → 0 < x → (k : ℤ) → LargestFor W m x k → BoundFor W m t (Ok k)
+  no_tolerance : ((x : ℕ) → Reads Ieee.binary64 t false x → x ≡ 0) → BoundFor W m t (Err NoTolerance)
+  too_small : (x : ℕ) → Reads Ieee.binary64 t false x → 0 < x → ((k : ℤ) → allowed_k W m k ≡ true → 2 * x < 2 ^ bin_of 64 52 k) → BoundFor W m t (Err TooSmall)

@@ -5,10 +5,11 @@ ghost use Rattle.bins.specs.Tolerance.{magnitude};
 ghost use Rattle.numbers.specs.Bound.{is_tolerance, bound_at, bound_answer};
 
 use bins::bin;
+use bins::kernel::Kernel;
 
-#[derive(Drop)]
-pub enum BoundAnswer {
-    Exponent(i32),
+// Why there is no k: the width is not 32 or 64, the tolerance is not a finite number above 0, or no allowed k is small enough.
+#[derive(Clone, Copy, Debug, PartialEq, Eq)]
+pub enum BoundError {
     UnknownWidth,
     NoTolerance,
     TooSmall,
@@ -33,40 +34,27 @@ fn digits_of(t: u64) -> u32
     (e + 52) as u32
 }
 
-// The smallest bin of width 32 is the 925th of width 64.
-fn bound32(t: u64) -> BoundAnswer
-    ensures { result ≡ bound_at 32 23 t }
+fn bound_at<T: Kernel>(t: u64) -> Result<i32, BoundError>
+    ensures { result ≡ bound_at T.width T.fraction t }
 {
     let some = is_tolerance(t);
     if !some {
-        return BoundAnswer::NoTolerance;
+        return Err(BoundError::NoTolerance);
     }
     let d = digits_of(t);
-    if d < 925 {
-        return BoundAnswer::TooSmall;
+    if d < T::LIFT {
+        return Err(BoundError::TooSmall);
     }
-    BoundAnswer::Exponent(bin::clipped32(d - 925) as i32 - 150)
-}
-
-fn bound64(t: u64) -> BoundAnswer
-    ensures { result ≡ bound_at 64 52 t }
-{
-    let some = is_tolerance(t);
-    if !some {
-        return BoundAnswer::NoTolerance;
-    }
-    BoundAnswer::Exponent(bin::clipped64(digits_of(t)) as i32 - 1075)
+    Ok(bin::clipped::<T>(d - T::LIFT) as i32 + T::LEAST)
 }
 
 // The largest k allowed at the width with 2^k not above the tolerance.
-pub fn bound(width: u32, tolerance: u64) -> BoundAnswer
+pub fn bound(width: u32, tolerance: u64) -> Result<i32, BoundError>
     ensures { result ≡ bound_answer width tolerance }
 {
-    if width == 32 {
-        return bound32(tolerance);
+    match width {
+        32 => bound_at::<u32>(tolerance),
+        64 => bound_at::<u64>(tolerance),
+        _ => Err(BoundError::UnknownWidth),
     }
-    if width == 64 {
-        return bound64(tolerance);
-    }
-    BoundAnswer::UnknownWidth
 }

@@ -11,38 +11,30 @@ use Rattle.blocks.specs.Bytes.{Below}
 use Rattle.stream.specs.Setting.{known_width}
 use Rattle.stream.specs.Header.{header_of}
 use Rattle.stream.specs.Stream.{value_at}
-use Rattle.stream.specs.Rows.{first}
-use Rattle.stream.specs.Probe.{shown32, shown64, probed32, probed64, probe_number32, probe_number64}
+use Rattle.stream.specs.Rows.{first, answer, answer_number}
+use Rattle.stream.specs.Probe.{shown32, shown64}
 use Rattle.stream.specs.Operations.{check_answer, unpack_rows, unpack_answer, unpack_out, length_answer, pack_answer, probe_rows, probe_answer32, probe_answer64}
-use Rattle.stream.specs.declared.answers.Answer.{Answer}
-use Rattle.stream.specs.declared.answers.Answer.TheVariants.{Done}
-use Rattle.stream.specs.declared.answers.Step.{Step}
-use Rattle.stream.specs.declared.answers.Step.TheVariants.{Pass, Stop}
-use Rattle.stream.specs.declared.answers.Probe32.TheVariants as p32
-use Rattle.stream.specs.declared.answers.Probe64.TheVariants as p64
+use Rattle.std.specs.Prelude.{⊤, Result, Ok, Err}
+use Rattle.stream.specs.declared.answers.Refusal.{Refusal}
 use Rattle.stream.proofs.Law.Rows.Small.{Told, SmallAnswer, check_answer_small, unpack_answer_small, probe_small, value_small, length_answer_small, pack_answer_small}
-use Rattle.stream.proofs.Law.Values.ThreeReaders.{done_pass, refused_stop32, refused_stop64, probe_passes, probe_value}
+use Rattle.stream.proofs.Law.Values.ThreeReaders.{probe_passes, probe_value}
 use Rattle.stream.proofs.Readers.{written_values}
+use Rattle.stream.proofs.Law.Rows.First.{done_pass, refused_stop}
 
--- a refusal
-abbrev pub Refusal : ℕ → ℕ → Type 0
-Refusal = Told (2 ^ 32)
+-- a refusal's number and detail
+abbrev pub RefusalFits : Refusal → Type 0
+RefusalFits = Told (2 ^ 32)
 
--- an answer: `Done n` with n, or a refusal
-abbrev pub Fits : Answer → Type 0
+-- an answer: `Ok n` with n, or a refusal
+abbrev pub Fits : Result ℕ Refusal → Type 0
 Fits = SmallAnswer (2 ^ 32)
 
--- ---- probe's answer tells its step
+-- ---- an answer of the number 0 tells that its rows passed
 
-accepted_pass32 : (step : Step) (p : ℕ) → ((number detail : ℕ) → step ≡ Stop number detail → Refusal number detail) → probe_number32 (probed32 step p) ≡ 0 → step ≡ Pass
-unfolding probed32 probe_number32
-accepted_pass32 Pass p told e = refl
-accepted_pass32 (Stop number detail) p told e = absurd (omega (arith, (told number detail refl).some, e))
-
-accepted_pass64 : (step : Step) (p : ℕ) → ((number detail : ℕ) → step ≡ Stop number detail → Refusal number detail) → probe_number64 (probed64 step p) ≡ 0 → step ≡ Pass
-unfolding probed64 probe_number64
-accepted_pass64 Pass p told e = refl
-accepted_pass64 (Stop number detail) p told e = absurd (omega (arith, (told number detail refl).some, e))
+accepted_pass : {A : Type 0} (step : Result ⊤ Refusal) (x : A) → ((refusal : Refusal) → step ≡ Err refusal → RefusalFits refusal) → answer_number (answer step x) ≡ 0 → step ≡ Ok tt
+unfolding answer answer_number
+accepted_pass (Ok u) x told e = refl
+accepted_pass (Err refusal) x told e = absurd (omega (arith, (told refusal refl).some, e))
 
 -- ---- reading bytes
 
@@ -54,7 +46,7 @@ module _ (level : ℕ) (s : List ℕ) (bytes : Below 256 s) where
   unpack_fits W room = unpack_answer_small level s bytes W room
 
   -- each value that unpack writes
-  pub unpacked_value_fits : (W : ℕ) (out : List ℕ) (n i : ℕ) → unpack_answer W level s (length out) ≡ Done n → i < n → get_or (unpack_out W level s out) i 0 < 2 ^ W
+  pub unpacked_value_fits : (W : ℕ) (out : List ℕ) (n i : ℕ) → unpack_answer W level s (length out) ≡ Ok n → i < n → get_or (unpack_out W level s out) i 0 < 2 ^ W
   unfolding unpack_answer
   unpacked_value_fits W out n i e below =
       let done = done_pass (first (unpack_rows W level s (length out))) (header_of s).count n e in
@@ -63,29 +55,29 @@ module _ (level : ℕ) (s : List ℕ) (bytes : Below 256 s) where
       (value_small level s bytes W i (probe_passes W level s (length out) done.0 i inside))
 
   -- probe, refused and accepted
-  pub probe_fits32 : (i number detail : ℕ) → probe_answer32 level s i ≡ p32.Refused number detail → Refusal number detail
+  pub probe_fits32 : (i : ℕ) (refusal : Refusal) → probe_answer32 level s i ≡ Err refusal → RefusalFits refusal
   unfolding probe_answer32
-  probe_fits32 i number detail e =
-      probe_small level s bytes 32 i number detail (refused_stop32 (first (probe_rows 32 level s i)) (value_at s i) number detail e)
+  probe_fits32 i refusal e =
+      probe_small level s bytes 32 i refusal (refused_stop (first (probe_rows 32 level s i)) (shown32 (value_at s i)) refusal e)
 
-  pub probed_value_fits32 : (i : ℕ) → probe_number32 (probe_answer32 level s i) ≡ 0
-      → (probe_answer32 level s i ≡ shown32 (value_at s i)) × (value_at s i < 2 ^ 32)
-  unfolding probe_answer32 probed32
+  pub probed_value_fits32 : (i : ℕ) → answer_number (probe_answer32 level s i) ≡ 0
+      → (probe_answer32 level s i ≡ Ok (shown32 (value_at s i))) × (value_at s i < 2 ^ 32)
+  unfolding probe_answer32 answer
   probed_value_fits32 i e =
-      let pass = accepted_pass32 (first (probe_rows 32 level s i)) (value_at s i) (probe_small level s bytes 32 i) e in
+      let pass = accepted_pass (first (probe_rows 32 level s i)) (shown32 (value_at s i)) (probe_small level s bytes 32 i) e in
       (rw pass, value_small level s bytes 32 i pass)
 
   -- probe, refused and accepted
-  pub probe_fits64 : (i number detail : ℕ) → probe_answer64 level s i ≡ p64.Refused number detail → Refusal number detail
+  pub probe_fits64 : (i : ℕ) (refusal : Refusal) → probe_answer64 level s i ≡ Err refusal → RefusalFits refusal
   unfolding probe_answer64
-  probe_fits64 i number detail e =
-      probe_small level s bytes 64 i number detail (refused_stop64 (first (probe_rows 64 level s i)) (value_at s i) number detail e)
+  probe_fits64 i refusal e =
+      probe_small level s bytes 64 i refusal (refused_stop (first (probe_rows 64 level s i)) (shown64 (value_at s i)) refusal e)
 
-  pub probed_value_fits64 : (i : ℕ) → probe_number64 (probe_answer64 level s i) ≡ 0
-      → (probe_answer64 level s i ≡ shown64 (value_at s i)) × (value_at s i < 2 ^ 64)
-  unfolding probe_answer64 probed64
+  pub probed_value_fits64 : (i : ℕ) → answer_number (probe_answer64 level s i) ≡ 0
+      → (probe_answer64 level s i ≡ Ok (shown64 (value_at s i))) × (value_at s i < 2 ^ 64)
+  unfolding probe_answer64 answer
   probed_value_fits64 i e =
-      let pass = accepted_pass64 (first (probe_rows 64 level s i)) (value_at s i) (probe_small level s bytes 64 i) e in
+      let pass = accepted_pass (first (probe_rows 64 level s i)) (shown64 (value_at s i)) (probe_small level s bytes 64 i) e in
       (rw pass, value_small level s bytes 64 i pass)
 
 -- ---- writing values of W bits

@@ -1,4 +1,5 @@
 -- Values that document 01 gives, and the rules of refusal 10 at small groups, computed.
+use Rattle.std.specs.Prelude.{Err}
 use mathlib.Core.Path.{◌≡◌, refl}
 use mathlib.Core.Bool.{Bool, true, false}
 use mathlib.Core.List.{List, [], ◌∷◌, ◌++◌}
@@ -12,9 +13,7 @@ use Rattle.numbers.specs.Lossless.{rotated, field, minus, lowered, stepped, loss
 use Rattle.blocks.specs.Bytes.{number, digits}
 use Rattle.stream.specs.Group.{bytes_for, largest, width_of, packed, group_bytes, given_width, group_length, group_number, group_codes, within, good_group}
 use Rattle.stream.specs.Setting.{fraction_bits, bin_for, setting_of, clipped, code_at, codes_after, codes_of, limit_of}
-use Rattle.stream.specs.Chunk.{groups_in, groups_bytes, chunk_bytes, first_fault, chunk_answer}
-use Rattle.stream.specs.declared.chunk.ChunkAnswer.{ChunkAnswer}
-use Rattle.stream.specs.declared.chunk.ChunkAnswer.TheVariants.{Bad}
+use Rattle.stream.specs.Chunk.{Verdict, groups_in, groups_bytes, chunk_bytes, first_fault, chunk_answer}
 
 -- the list 0, -0, 2^-149, whose codes are 0, 2 and 4: "then bytes 03 10 01"
 three_codes : group_bytes (0 ∷ 2 ∷ 4 ∷ []) ≡ 3 ∷ 16 ∷ 1 ∷ []
@@ -52,7 +51,7 @@ unfolding rows most_u limit_of bin_for clipped fraction_bits bin_of k_offset las
 rules = refl
 
 -- The first bad group. Each row: how many values, and the bytes.
-places : List ChunkAnswer
+places : List Verdict
 places =
     -- 1,024 values, 33 bytes of 0: one is left over behind the 32 groups; 993 values, which have 32 groups too; 40 values, which have two
     chunk_answer 32 2147483647 32 1024 (replicate 33 0)
@@ -68,7 +67,7 @@ places =
     ∷ chunk_answer 32 most_u 1 6 (0 ∷ 0 ∷ group_bytes (2 * 905969664 ∷ []) ++ 0 ∷ 0 ∷ [])
     ∷ []
 
-places_known : places ≡ Bad 31 ∷ Bad 31 ∷ Bad 1 ∷ Bad 1 ∷ Bad 3 ∷ Bad 0 ∷ Bad 2 ∷ []
+places_known : places ≡ Err 31 ∷ Err 31 ∷ Err 1 ∷ Err 1 ∷ Err 3 ∷ Err 0 ∷ Err 2 ∷ []
 unfolding places chunk_answer first_fault groups_in most_u limit_of bin_for clipped fraction_bits bin_of k_offset last_bin largest_u good_group within given_width group_length group_number group_codes group_bytes width_of largest packed bytes_for digits number size
 places_known = refl
 

@@ -22,8 +22,9 @@ use Rattle.stream.specs.Tables.{every, start_at, start_right, chunk_table_right,
 use Rattle.stream.specs.Stream.{joined, count_of, chunk_of, chunk_state}
 use Rattle.stream.specs.Writing.{spell, piece, piece_bytes, data_of, starts_of, header_numbers, end_of, body, stream}
 use Rattle.stream.specs.Operations.{header_rows, opening_rows, need_row, side_rows, table_rows, fault_detail, fault_row, chunk_row, chunk_rows, content_rows, check_rows, check_answer, length_rows, length_answer}
-use Rattle.stream.specs.declared.answers.Answer.{Answer}
-use Rattle.stream.specs.declared.answers.Answer.TheVariants.{Done, Refused}
+use Rattle.std.specs.Prelude.{Result, Ok, Err}
+use Rattle.stream.specs.declared.answers.Refusal.{Refusal}
+use Rattle.stream.specs.declared.answers.Refusal.TheVariants.{NotAllowed, BrokenChunk}
 
 -- ---- where codes lie
 
@@ -84,18 +85,18 @@ zeros_measured = refl
 -- ---- which settings there are
 
 -- what length answers of no values, at a level, in a mode with k = 0, in groups of a size
-pub measured : ℕ → ℕ → ℕ → Answer
+pub measured : ℕ → ℕ → ℕ → Result ℕ Refusal
 measured level mode size = length_answer 32 level mode (pos 0) size []
 
 -- "a group size, 32 or 128, which comes last"; "Another size is 2 when packing"
 pub sizes_known : map (measured 13 0) (32 ∷ 128 ∷ []) ++ map (measured 13 0) (0 ∷ 1 ∷ 16 ∷ 31 ∷ 33 ∷ 64 ∷ 127 ∷ 129 ∷ 256 ∷ [])
-    ≡ replicate 2 (Done 48) ++ replicate 9 (Refused 2 0)
+    ≡ replicate 2 (Ok 48) ++ replicate 9 (Err NotAllowed)
 unfolding size signed_view folded bits_of rotated field minus lowered stepped lossless_code number digits bytes_for largest width_of packed group_bytes fraction_bits width_need mode_need size_need need k_bits bin_for group_size code_at codes_after groups_in groups_bytes chunk_bytes chunks_in joined spell piece piece_bytes data_of starts_of header_numbers mode_number end_of body stream highest_level known_level lossless_mode is_zero allowed_mode known_size allowed_setting too_many first answer length_rows length_answer measured
 sizes_known = refl
 
 -- groups of 128 below level 13, mode numbers of a header, and mode 2 below level 11
 pub settings_refused : map (λ (level : ℕ). measured level 0 128) (8 ∷ 9 ∷ 10 ∷ 11 ∷ 12 ∷ []) ++ (measured 13 256 32 ∷ measured 13 256 128 ∷ measured 13 3 128 ∷ measured 8 2 32 ∷ measured 10 2 32 ∷ [])
-    ≡ replicate 10 (Refused 2 0)
+    ≡ replicate 10 (Err NotAllowed)
 unfolding size signed_view folded bits_of rotated field minus lowered stepped lossless_code number digits bytes_for largest width_of packed group_bytes fraction_bits width_need mode_need size_need need k_bits bin_for group_size code_at codes_after groups_in groups_bytes chunk_bytes chunks_in joined spell piece piece_bytes data_of starts_of header_numbers mode_number end_of body stream highest_level known_level lossless_mode is_zero allowed_mode known_size allowed_setting too_many first answer length_rows length_answer measured
 settings_refused = refl
 
@@ -106,22 +107,22 @@ pub bad_second : ℕ → ℕ → ℕ → ℕ → List ℕ
 bad_second needed mode n groups =
     spell (1 ∷ 13 ∷ needed ∷ 32 ∷ mode ∷ 0 ∷ n ∷ 2 ∷ 48 ∷ 56 ∷ 0 ∷ (56 + groups + 3) ∷ 0 ∷ groups ∷ []) ++ replicate groups 0 ++ (0x00 ∷ 0x01 ∷ 0x00 ∷ [])
 
-pub detail_keeps_its_32 : check_answer 13 (bad_second 8 0 1057 32) ∷ check_answer 13 (bad_second 13 256 1153 8) ∷ [] ≡ replicate 2 (Refused 10 33)
+pub detail_keeps_its_32 : check_answer 13 (bad_second 8 0 1057 32) ∷ check_answer 13 (bad_second 13 256 1153 8) ∷ [] ≡ replicate 2 (Err (BrokenChunk 33))
 unfolding size signed_view folded bits_of number digits bytes_for largest width_of given_width group_length group_number group_codes within good_group highest_level known_level known_width fraction_bits width_need mode_need size_need need some_high stream_need lossless_mode is_zero allowed_setting allowed_mode known_size clipped bin_for group_size limit_of groups_in first_fault chunk_answer first answer word header_of k_of chunks_in too_many need_right setting_right said_mode said_size layout_right every start_at start_right chunk_table_right part_at side_table_right ids_from ids_in count_of chunk_of chunk_state spell header_rows opening_rows need_row side_rows table_rows fault_detail fault_row rows_from chunk_row chunk_rows content_rows check_rows check_answer k_offset last_bin allowed_k bin_of largest_u bad_second
 detail_keeps_its_32 = refl
 
 -- a width byte above that of the codes, a bit set behind the last code, a byte too many, and one too few, of three values; a byte too many behind 200 values
-pub bad_groups : ℕ → ℕ → List Answer
+pub bad_groups : ℕ → ℕ → List (Result ℕ Refusal)
 bad_groups needed mode =
     map (λ (coded : List ℕ). check_answer 13 (one_chunk 13 needed 32 mode 0 3 coded))
     ((0x03 ∷ 0x10 ∷ 0x01 ∷ []) ∷ (0x04 ∷ 0x20 ∷ 0x04 ∷ []) ∷ (0x03 ∷ 0x10 ∷ 0x03 ∷ []) ∷ (0x03 ∷ 0x10 ∷ 0x01 ∷ 0x00 ∷ []) ∷ (0x03 ∷ 0x10 ∷ []) ∷ [])
 
 pub bad_groups_refused : bad_groups 8 0 ++ bad_groups 13 256 ++ (check_answer 13 (one_chunk 13 13 32 256 0 200 (0x00 ∷ 0x00 ∷ 0x00 ∷ [])) ∷ [])
-    ≡ (Done 3 ∷ replicate 4 (Refused 10 0)) ++ (Done 3 ∷ replicate 4 (Refused 10 0)) ++ (Refused 10 1 ∷ [])
+    ≡ (Ok 3 ∷ replicate 4 (Err (BrokenChunk 0))) ++ (Ok 3 ∷ replicate 4 (Err (BrokenChunk 0))) ++ (Err (BrokenChunk 1) ∷ [])
 unfolding size signed_view folded bits_of number digits bytes_for largest width_of given_width group_length group_number group_codes within good_group highest_level known_level known_width fraction_bits width_need mode_need size_need need some_high stream_need lossless_mode is_zero allowed_setting allowed_mode known_size clipped bin_for group_size limit_of groups_in first_fault chunk_answer first answer word header_of k_of chunks_in too_many need_right setting_right said_mode said_size layout_right every start_at start_right chunk_table_right part_at side_table_right ids_from ids_in count_of chunk_of chunk_state spell header_rows opening_rows need_row side_rows table_rows fault_detail fault_row rows_from chunk_row chunk_rows content_rows check_rows check_answer k_offset last_bin allowed_k bin_of largest_u one_chunk bad_groups
 bad_groups_refused = refl
 
 -- k = -2 in mode 257, one code of 31 bits: the largest u, 905,969,663, and the next
-pub largest_u_read : map (λ (u : ℕ). check_answer 13 (one_chunk 13 13 32 257 0xFFFF_FFFE 1 (0x1F ∷ spell (2 * u ∷ [])))) (905969663 ∷ 905969664 ∷ []) ≡ Done 1 ∷ Refused 10 0 ∷ []
+pub largest_u_read : map (λ (u : ℕ). check_answer 13 (one_chunk 13 13 32 257 0xFFFF_FFFE 1 (0x1F ∷ spell (2 * u ∷ [])))) (905969663 ∷ 905969664 ∷ []) ≡ Ok 1 ∷ Err (BrokenChunk 0) ∷ []
 unfolding size signed_view folded bits_of number digits bytes_for largest width_of given_width group_length group_number group_codes within good_group highest_level known_level known_width fraction_bits width_need mode_need size_need need some_high stream_need lossless_mode is_zero allowed_setting allowed_mode known_size clipped bin_for group_size limit_of groups_in first_fault chunk_answer first answer word header_of k_of chunks_in too_many need_right setting_right said_mode said_size layout_right every start_at start_right chunk_table_right part_at side_table_right ids_from ids_in count_of chunk_of chunk_state spell header_rows opening_rows need_row side_rows table_rows fault_detail fault_row rows_from chunk_row chunk_rows content_rows check_rows check_answer k_offset last_bin allowed_k bin_of largest_u one_chunk
 largest_u_read = refl

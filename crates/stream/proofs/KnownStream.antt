@@ -20,11 +20,10 @@ use Rattle.stream.specs.Header.{word, header_of, k_of, chunks_in, too_many, need
 use Rattle.stream.specs.Tables.{every, start_at, start_right, chunk_table_right, side_id, side_place, side_length, id_floor, part_at, entry_right, side_table_right, ids_from, ids_in, high_id, some_high}
 use Rattle.stream.specs.Stream.{joined, count_of, chunk_of, chunk_state, chunk_values, values_in, values}
 use Rattle.stream.specs.Writing.{spell, piece, piece_bytes, data_of, starts_of, header_numbers, end_of, body, stream, Side, entries, parts, placed, add_sides}
-use Rattle.stream.specs.Probe.{probed32}
 use Rattle.stream.specs.Operations.{header_rows, opening_rows, need_row, id_row, side_rows, table_rows, fault_detail, fault_row, chunk_row, chunk_rows, content_rows, width_row, check_rows, check_answer, room_row, unpack_rows, unpack_answer, unpack_out, index_row, own_rows, probe_rows, probe_answer32}
-use Rattle.stream.specs.declared.answers.Answer.{Answer}
-use Rattle.stream.specs.declared.answers.Answer.TheVariants.{Done, Refused}
-use Rattle.stream.specs.declared.answers.Probe32.TheVariants as p32
+use Rattle.std.specs.Prelude.{Result, Ok, Err}
+use Rattle.stream.specs.declared.answers.Refusal.{Refusal}
+use Rattle.stream.specs.declared.answers.Refusal.TheVariants.{UnknownLevel, NoRoom, NeedsMinor, BrokenHeader, NoSuchIndex, OtherWidth, MustBeUnderstood}
 
 pub three_values : List ℕ
 three_values = 0 ∷ 0x8000_0000 ∷ 1 ∷ []
@@ -36,7 +35,7 @@ pub packed_known : stream 8 (setting_of 32 0 (pos 0) 32) three_values ≡ their_
 unfolding size signed_view folded bits_of rotated field minus lowered stepped lossless_code number digits bytes_for largest width_of packed group_bytes fraction_bits width_need mode_need size_need need k_bits bin_for group_size code_at codes_after groups_in groups_bytes chunk_bytes chunks_in joined spell piece piece_bytes data_of starts_of header_numbers mode_number end_of body stream three_values their_bytes
 packed_known = refl
 
-pub checked_known : map (λ (level : ℕ). check_answer level their_bytes) (8 ∷ 9 ∷ 10 ∷ 11 ∷ 12 ∷ 13 ∷ []) ≡ replicate 6 (Done 3)
+pub checked_known : map (λ (level : ℕ). check_answer level their_bytes) (8 ∷ 9 ∷ 10 ∷ 11 ∷ 12 ∷ 13 ∷ []) ≡ replicate 6 (Ok 3)
 unfolding size signed_view folded bits_of number digits bytes_for largest width_of given_width group_length group_number group_codes within good_group highest_level known_level known_width fraction_bits width_need mode_need size_need need some_high stream_need lossless_mode is_zero allowed_setting allowed_mode known_size bin_for group_size limit_of groups_in first_fault chunk_answer first answer word header_of k_of chunks_in too_many need_right setting_right said_mode said_size layout_right every start_at start_right chunk_table_right part_at side_table_right ids_from ids_in count_of chunk_of chunk_state spell header_rows opening_rows need_row side_rows table_rows fault_detail fault_row rows_from chunk_row chunk_rows content_rows check_rows check_answer their_bytes
 checked_known = refl
 
@@ -57,7 +56,7 @@ unfolding size signed_view folded bits_of rotated field minus lowered stepped lo
 differences_packed = refl
 
 -- a reader of level 10 or below refuses it by 7, with detail 11
-pub differences_checked : map (λ (level : ℕ). check_answer level their_differences) (8 ∷ 9 ∷ 10 ∷ 11 ∷ 12 ∷ 13 ∷ []) ≡ replicate 3 (Refused 7 11) ++ replicate 3 (Done 4)
+pub differences_checked : map (λ (level : ℕ). check_answer level their_differences) (8 ∷ 9 ∷ 10 ∷ 11 ∷ 12 ∷ 13 ∷ []) ≡ replicate 3 (Err (NeedsMinor 11)) ++ replicate 3 (Ok 4)
 unfolding size signed_view folded bits_of number digits bytes_for largest width_of given_width group_length group_number group_codes within good_group highest_level known_level known_width fraction_bits width_need mode_need size_need need some_high stream_need lossless_mode is_zero allowed_setting allowed_mode known_size bin_for group_size limit_of groups_in first_fault chunk_answer first answer word header_of k_of chunks_in too_many need_right setting_right said_mode said_size layout_right every start_at start_right chunk_table_right part_at side_table_right ids_from ids_in count_of chunk_of chunk_state spell header_rows opening_rows need_row side_rows table_rows fault_detail fault_row rows_from chunk_row chunk_rows content_rows check_rows check_answer their_differences
 differences_checked = refl
 
@@ -92,12 +91,12 @@ with_ids needed other =
     spell (1 ∷ 12 ∷ needed ∷ 32 ∷ 0 ∷ 0 ∷ 3 ∷ 1 ∷ 48 ∷ 52 ∷ 2 ∷ 55 ∷ 0 ∷ []) ++ (0x03 ∷ 0x10 ∷ 0x01 ∷ [])
     ++ spell (7 ∷ 79 ∷ 2 ∷ other ∷ 81 ∷ 1 ∷ []) ++ (1 ∷ 2 ∷ 3 ∷ [])
 
-pub checked_all : List ℕ → List Answer
+pub checked_all : List ℕ → List (Result ℕ Refusal)
 checked_all s = map (λ (level : ℕ). check_answer level s) (8 ∷ 9 ∷ 10 ∷ 11 ∷ 12 ∷ 13 ∷ [])
 
 pub high_id_checked : map checked_all (with_ids 12 0x8000_0000 ∷ with_ids 8 0x8000_0000 ∷ with_ids 8 0x7FFF_FFFF ∷ with_ids 12 0x7FFF_FFFF ∷ with_ids 12 0xFFFF_FFFF ∷ [])
-    ≡ (replicate 4 (Refused 7 12) ++ replicate 2 (Refused 15 0x8000_0000)) ∷ replicate 6 (Refused 8 0) ∷ replicate 6 (Done 3) ∷ (replicate 4 (Refused 7 12) ++ replicate 2 (Refused 8 0))
-    ∷ (replicate 4 (Refused 7 12) ++ replicate 2 (Refused 15 0xFFFF_FFFF)) ∷ []
+    ≡ (replicate 4 (Err (NeedsMinor 12)) ++ replicate 2 (Err (MustBeUnderstood 0x8000_0000))) ∷ replicate 6 (Err BrokenHeader) ∷ replicate 6 (Ok 3) ∷ (replicate 4 (Err (NeedsMinor 12)) ++ replicate 2 (Err BrokenHeader))
+    ∷ (replicate 4 (Err (NeedsMinor 12)) ++ replicate 2 (Err (MustBeUnderstood 0xFFFF_FFFF))) ∷ []
 unfolding size signed_view folded bits_of number digits bytes_for largest width_of given_width group_length group_number group_codes within good_group highest_level known_level known_width fraction_bits width_need mode_need size_need need high_id some_high stream_need lossless_mode is_zero allowed_setting allowed_mode known_size bin_for group_size limit_of groups_in first_fault chunk_answer first answer word header_of k_of chunks_in too_many need_right setting_right said_mode said_size layout_right every start_at start_right chunk_table_right side_id side_place side_length id_floor part_at entry_right side_table_right ids_from ids_in count_of chunk_of chunk_state spell header_rows opening_rows need_row id_row side_rows table_rows fault_detail fault_row rows_from chunk_row chunk_rows content_rows check_rows check_answer checked_all with_ids
 high_id_checked = refl
 
@@ -115,12 +114,12 @@ need_nine : List ℕ
 need_nine = spell (1 ∷ 9 ∷ 9 ∷ 32 ∷ 0 ∷ 0 ∷ 3 ∷ 1 ∷ 48 ∷ 52 ∷ 0 ∷ 55 ∷ 0 ∷ []) ++ (0x03 ∷ 0x10 ∷ 0x01 ∷ [])
 
 need_nine_read : check_answer 10 need_nine ∷ unpack_answer 64 10 need_nine 3 ∷ unpack_answer 32 10 need_nine 2 ∷ unpack_answer 32 10 need_nine 3 ∷ []
-    ≡ Refused 8 0 ∷ Refused 14 0 ∷ Refused 4 3 ∷ Refused 8 0 ∷ []
+    ≡ Err BrokenHeader ∷ Err OtherWidth ∷ Err (NoRoom 3) ∷ Err BrokenHeader ∷ []
 unfolding size signed_view folded bits_of number digits bytes_for largest width_of given_width group_length group_number group_codes within good_group highest_level known_level known_width fraction_bits width_need mode_need size_need need high_id some_high stream_need lossless_mode is_zero allowed_setting allowed_mode known_size bin_for group_size limit_of groups_in first_fault chunk_answer first answer word header_of k_of chunks_in too_many need_right setting_right said_mode said_size layout_right every start_at start_right chunk_table_right side_id side_place side_length id_floor part_at entry_right side_table_right ids_from ids_in count_of chunk_of chunk_state spell header_rows opening_rows need_row id_row side_rows table_rows fault_detail fault_row rows_from chunk_row chunk_rows content_rows check_rows check_answer width_row room_row unpack_rows unpack_answer need_nine
 need_nine_read = refl
 
-need_nine_probed : probe_answer32 10 need_nine 0 ∷ probe_answer32 10 need_nine 3 ∷ [] ≡ p32.Refused 8 0 ∷ p32.Refused 11 0 ∷ []
-unfolding size signed_view folded bits_of number digits bytes_for largest width_of given_width group_length group_number group_codes within good_group highest_level known_level known_width fraction_bits width_need mode_need size_need need high_id some_high stream_need lossless_mode is_zero allowed_setting allowed_mode known_size bin_for group_size limit_of groups_in first_fault chunk_answer first answer word header_of k_of chunks_in too_many need_right setting_right said_mode said_size layout_right every start_at start_right chunk_table_right side_id side_place side_length id_floor part_at entry_right side_table_right ids_from ids_in count_of chunk_of chunk_state spell header_rows opening_rows need_row id_row side_rows table_rows fault_detail fault_row rows_from chunk_row chunk_rows content_rows check_rows check_answer width_row index_row own_rows probe_rows probe_answer32 probed32 need_nine
+need_nine_probed : probe_answer32 10 need_nine 0 ∷ probe_answer32 10 need_nine 3 ∷ [] ≡ Err BrokenHeader ∷ Err NoSuchIndex ∷ []
+unfolding size signed_view folded bits_of number digits bytes_for largest width_of given_width group_length group_number group_codes within good_group highest_level known_level known_width fraction_bits width_need mode_need size_need need high_id some_high stream_need lossless_mode is_zero allowed_setting allowed_mode known_size bin_for group_size limit_of groups_in first_fault chunk_answer first answer word header_of k_of chunks_in too_many need_right setting_right said_mode said_size layout_right every start_at start_right chunk_table_right side_id side_place side_length id_floor part_at entry_right side_table_right ids_from ids_in count_of chunk_of chunk_state spell header_rows opening_rows need_row id_row side_rows table_rows fault_detail fault_row rows_from chunk_row chunk_rows content_rows check_rows check_answer width_row index_row own_rows probe_rows probe_answer32 need_nine
 need_nine_probed = refl
 
 -- a need below that of the setting, at the level that this needs: mode 2 with 10 where it needs 11, and width 64 with 9 where it needs 10. It is 8 before all of these,
@@ -128,18 +127,18 @@ need_nine_probed = refl
 need_ten : List ℕ
 need_ten = spell (1 ∷ 11 ∷ 10 ∷ 32 ∷ 2 ∷ 0 ∷ 4 ∷ 1 ∷ 48 ∷ 52 ∷ 0 ∷ 55 ∷ 0 ∷ []) ++ (0x04 ∷ 0x4A ∷ 0x50 ∷ [])
 
-need_ten_read : check_answer 11 need_ten ∷ unpack_answer 64 11 need_ten 4 ∷ unpack_answer 32 11 need_ten 3 ∷ unpack_answer 32 11 need_ten 4 ∷ [] ≡ replicate 4 (Refused 8 0)
+need_ten_read : check_answer 11 need_ten ∷ unpack_answer 64 11 need_ten 4 ∷ unpack_answer 32 11 need_ten 3 ∷ unpack_answer 32 11 need_ten 4 ∷ [] ≡ replicate 4 (Err BrokenHeader)
 unfolding size signed_view folded bits_of number digits bytes_for largest width_of given_width group_length group_number group_codes within good_group highest_level known_level known_width fraction_bits width_need mode_need size_need need high_id some_high stream_need lossless_mode is_zero allowed_setting allowed_mode known_size bin_for group_size limit_of groups_in first_fault chunk_answer first answer word header_of k_of chunks_in too_many need_right setting_right said_mode said_size layout_right every start_at start_right chunk_table_right side_id side_place side_length id_floor part_at entry_right side_table_right ids_from ids_in count_of chunk_of chunk_state spell header_rows opening_rows need_row id_row side_rows table_rows fault_detail fault_row rows_from chunk_row chunk_rows content_rows check_rows check_answer width_row room_row unpack_rows unpack_answer need_ten
 need_ten_read = refl
 
-need_ten_probed : probe_answer32 11 need_ten 0 ∷ probe_answer32 11 need_ten 4 ∷ [] ≡ replicate 2 (p32.Refused 8 0)
-unfolding size signed_view folded bits_of number digits bytes_for largest width_of given_width group_length group_number group_codes within good_group highest_level known_level known_width fraction_bits width_need mode_need size_need need high_id some_high stream_need lossless_mode is_zero allowed_setting allowed_mode known_size bin_for group_size limit_of groups_in first_fault chunk_answer first answer word header_of k_of chunks_in too_many need_right setting_right said_mode said_size layout_right every start_at start_right chunk_table_right side_id side_place side_length id_floor part_at entry_right side_table_right ids_from ids_in count_of chunk_of chunk_state spell header_rows opening_rows need_row id_row side_rows table_rows fault_detail fault_row rows_from chunk_row chunk_rows content_rows check_rows check_answer width_row index_row own_rows probe_rows probe_answer32 probed32 need_ten
+need_ten_probed : probe_answer32 11 need_ten 0 ∷ probe_answer32 11 need_ten 4 ∷ [] ≡ replicate 2 (Err BrokenHeader)
+unfolding size signed_view folded bits_of number digits bytes_for largest width_of given_width group_length group_number group_codes within good_group highest_level known_level known_width fraction_bits width_need mode_need size_need need high_id some_high stream_need lossless_mode is_zero allowed_setting allowed_mode known_size bin_for group_size limit_of groups_in first_fault chunk_answer first answer word header_of k_of chunks_in too_many need_right setting_right said_mode said_size layout_right every start_at start_right chunk_table_right side_id side_place side_length id_floor part_at entry_right side_table_right ids_from ids_in count_of chunk_of chunk_state spell header_rows opening_rows need_row id_row side_rows table_rows fault_detail fault_row rows_from chunk_row chunk_rows content_rows check_rows check_answer width_row index_row own_rows probe_rows probe_answer32 need_ten
 need_ten_probed = refl
 
 need_nine64 : List ℕ
 need_nine64 = spell (1 ∷ 10 ∷ 9 ∷ 64 ∷ 0 ∷ 0 ∷ 0 ∷ 0 ∷ 48 ∷ 48 ∷ 0 ∷ 48 ∷ [])
 
-need_nine64_read : check_answer 10 need_nine64 ∷ unpack_answer 32 10 need_nine64 0 ∷ unpack_answer 64 10 need_nine64 0 ∷ [] ≡ replicate 3 (Refused 8 0)
+need_nine64_read : check_answer 10 need_nine64 ∷ unpack_answer 32 10 need_nine64 0 ∷ unpack_answer 64 10 need_nine64 0 ∷ [] ≡ replicate 3 (Err BrokenHeader)
 unfolding size signed_view folded bits_of number digits bytes_for largest width_of given_width group_length group_number group_codes within good_group highest_level known_level known_width fraction_bits width_need mode_need size_need need high_id some_high stream_need lossless_mode is_zero allowed_setting allowed_mode known_size bin_for group_size limit_of groups_in first_fault chunk_answer first answer word header_of k_of chunks_in too_many need_right setting_right said_mode said_size layout_right every start_at start_right chunk_table_right side_id side_place side_length id_floor part_at entry_right side_table_right ids_from ids_in count_of chunk_of chunk_state spell header_rows opening_rows need_row id_row side_rows table_rows fault_detail fault_row rows_from chunk_row chunk_rows content_rows check_rows check_answer width_row room_row unpack_rows unpack_answer need_nine64
 need_nine64_read = refl
 
@@ -148,7 +147,7 @@ written_eight : List ℕ
 written_eight = placed 4 8 (with_ids 12 0x8000_0000)
 
 written_eight_read : check_answer 12 written_eight ∷ unpack_answer 64 12 written_eight 3 ∷ unpack_answer 32 12 written_eight 2 ∷ unpack_answer 32 12 written_eight 3 ∷ []
-    ≡ replicate 4 (Refused 8 0)
+    ≡ replicate 4 (Err BrokenHeader)
 unfolding size signed_view folded bits_of number digits bytes_for largest width_of given_width group_length group_number group_codes within good_group highest_level known_level known_width fraction_bits width_need mode_need size_need need high_id some_high stream_need lossless_mode is_zero allowed_setting allowed_mode known_size bin_for group_size limit_of groups_in first_fault chunk_answer first answer word header_of k_of chunks_in too_many need_right setting_right said_mode said_size layout_right every start_at start_right chunk_table_right side_id side_place side_length id_floor part_at entry_right side_table_right ids_from ids_in count_of chunk_of chunk_state spell header_rows opening_rows need_row id_row side_rows table_rows fault_detail fault_row rows_from chunk_row chunk_rows content_rows check_rows check_answer width_row room_row unpack_rows unpack_answer placed with_ids written_eight
 written_eight_read = refl
 
@@ -159,7 +158,7 @@ evens =
     spell (1 ∷ 14 ∷ 9 ∷ 32 ∷ 1 ∷ 0xFFFF_FFFE ∷ 3 ∷ 1 ∷ 48 ∷ 52 ∷ 0 ∷ 63 ∷ 0 ∷ [])
     ++ (0x19 ∷ 0x00 ∷ 0x00 ∷ 0x00 ∷ 0x0A ∷ 0x00 ∷ 0x00 ∷ 0x00 ∷ 0x00 ∷ 0x00 ∷ 0x04 ∷ [])
 
-evens_read : map (λ (level : ℕ). unpack_answer 32 level evens 3) (8 ∷ 9 ∷ 13 ∷ 14 ∷ 15 ∷ []) ≡ Refused 7 9 ∷ Done 3 ∷ Done 3 ∷ Done 3 ∷ Refused 1 0 ∷ []
+evens_read : map (λ (level : ℕ). unpack_answer 32 level evens 3) (8 ∷ 9 ∷ 13 ∷ 14 ∷ 15 ∷ []) ≡ Err (NeedsMinor 9) ∷ Ok 3 ∷ Ok 3 ∷ Ok 3 ∷ Err UnknownLevel ∷ []
 unfolding size signed_view folded unfolded bits_of number digits bytes_for largest width_of given_width group_length group_number group_codes within good_group highest_level known_level known_width fraction_bits width_need mode_need size_need need some_high stream_need lossless_mode is_zero allowed_setting allowed_mode known_size bin_for group_size limit_of clipped pattern_at patterns_after groups_in first_fault chunk_answer groups_codes chunk_codes first answer after word header_of k_of chunks_in too_many need_right setting_right said_mode said_size layout_right every start_at start_right chunk_table_right part_at side_table_right ids_from ids_in joined count_of chunk_of chunk_state chunk_values values_in values spell header_rows opening_rows need_row side_rows table_rows fault_detail fault_row rows_from chunk_row chunk_rows content_rows width_row room_row unpack_rows k_offset last_bin allowed_k bin_of largest_u ordinal_of threshold_ordinal restored_ordinal tolerance_restored evens unpack_answer
 evens_read = refl
 
@@ -171,12 +170,12 @@ evens_unpacked = refl
 need_fourteen : ℕ → List ℕ
 need_fourteen mode = spell (1 ∷ 14 ∷ 14 ∷ 32 ∷ mode ∷ 0 ∷ 0 ∷ 0 ∷ 48 ∷ 48 ∷ 0 ∷ 48 ∷ [])
 
-need_fourteen_read : map (λ (mode : ℕ). check_answer 14 (need_fourteen mode)) (0 ∷ 2 ∷ 256 ∷ 258 ∷ []) ++ (check_answer 13 (need_fourteen 256) ∷ []) ≡ replicate 4 (Refused 8 0) ++ (Refused 7 14 ∷ [])
+need_fourteen_read : map (λ (mode : ℕ). check_answer 14 (need_fourteen mode)) (0 ∷ 2 ∷ 256 ∷ 258 ∷ []) ++ (check_answer 13 (need_fourteen 256) ∷ []) ≡ replicate 4 (Err BrokenHeader) ++ (Err (NeedsMinor 14) ∷ [])
 unfolding size signed_view folded bits_of number digits bytes_for largest width_of given_width group_length group_number group_codes within good_group highest_level known_level known_width fraction_bits width_need mode_need size_need need high_id some_high stream_need lossless_mode is_zero allowed_setting allowed_mode known_size bin_for group_size limit_of groups_in first_fault chunk_answer first answer word header_of k_of chunks_in too_many need_right setting_right said_mode said_size layout_right every start_at start_right chunk_table_right side_id side_place side_length id_floor part_at entry_right side_table_right ids_from ids_in count_of chunk_of chunk_state spell header_rows opening_rows need_row id_row side_rows table_rows fault_detail fault_row rows_from chunk_row chunk_rows content_rows check_rows check_answer need_fourteen
 need_fourteen_read = refl
 
 -- levels that are not known
-levels_known : map (λ (level : ℕ). check_answer level their_bytes) (0 ∷ 7 ∷ 15 ∷ []) ≡ replicate 3 (Refused 1 0)
+levels_known : map (λ (level : ℕ). check_answer level their_bytes) (0 ∷ 7 ∷ 15 ∷ []) ≡ replicate 3 (Err UnknownLevel)
 unfolding size signed_view folded bits_of number digits bytes_for largest width_of given_width group_length group_number group_codes within good_group highest_level known_level known_width fraction_bits width_need mode_need size_need need high_id some_high stream_need lossless_mode is_zero allowed_setting allowed_mode known_size bin_for group_size limit_of groups_in first_fault chunk_answer first answer word header_of k_of chunks_in too_many need_right setting_right said_mode said_size layout_right every start_at start_right chunk_table_right side_id side_place side_length id_floor part_at entry_right side_table_right ids_from ids_in count_of chunk_of chunk_state spell header_rows opening_rows need_row id_row side_rows table_rows fault_detail fault_row rows_from chunk_row chunk_rows content_rows check_rows check_answer width_row room_row unpack_rows unpack_answer their_bytes
 levels_known = refl
 
@@ -196,7 +195,7 @@ unfolding size signed_view folded bits_of rotated field minus lowered stepped lo
 long_packed = refl
 
 -- a reader of level 12 or below refuses it by 7, with detail 13
-pub long_checked : checked_all their_long ≡ replicate 5 (Refused 7 13) ++ (Done 3 ∷ [])
+pub long_checked : checked_all their_long ≡ replicate 5 (Err (NeedsMinor 13)) ++ (Ok 3 ∷ [])
 unfolding size signed_view folded bits_of number digits bytes_for largest width_of given_width group_length group_number group_codes within good_group highest_level known_level known_width fraction_bits width_need mode_need size_need need some_high stream_need lossless_mode is_zero allowed_setting allowed_mode known_size bin_for group_size limit_of groups_in first_fault chunk_answer first answer word header_of k_of chunks_in too_many need_right setting_right said_mode said_size layout_right every start_at start_right chunk_table_right part_at side_table_right ids_from ids_in count_of chunk_of chunk_state spell header_rows opening_rows need_row side_rows table_rows fault_detail fault_row rows_from chunk_row chunk_rows content_rows check_rows check_answer checked_all their_long
 long_checked = refl
 
@@ -204,15 +203,15 @@ long_checked = refl
 pub with_mode : ℕ → ℕ → List ℕ
 with_mode needed mode = spell (1 ∷ 13 ∷ needed ∷ 32 ∷ mode ∷ 0 ∷ 0 ∷ 0 ∷ 48 ∷ 48 ∷ 0 ∷ 48 ∷ [])
 
-pub modes_checked : map (check_answer 13) (with_mode 8 0 ∷ with_mode 9 1 ∷ with_mode 11 2 ∷ with_mode 13 256 ∷ with_mode 13 257 ∷ with_mode 13 258 ∷ []) ≡ replicate 6 (Done 0)
+pub modes_checked : map (check_answer 13) (with_mode 8 0 ∷ with_mode 9 1 ∷ with_mode 11 2 ∷ with_mode 13 256 ∷ with_mode 13 257 ∷ with_mode 13 258 ∷ []) ≡ replicate 6 (Ok 0)
 unfolding size signed_view folded bits_of number digits bytes_for largest width_of given_width group_length group_number group_codes within good_group highest_level known_level known_width fraction_bits width_need mode_need size_need need some_high stream_need lossless_mode is_zero allowed_setting allowed_mode known_size bin_for group_size limit_of groups_in first_fault chunk_answer first answer word header_of k_of chunks_in too_many need_right setting_right said_mode said_size layout_right every start_at start_right chunk_table_right part_at side_table_right ids_from ids_in count_of chunk_of chunk_state spell header_rows opening_rows need_row side_rows table_rows fault_detail fault_row rows_from chunk_row chunk_rows content_rows check_rows check_answer k_offset last_bin allowed_k bin_of largest_u with_mode
 modes_checked = refl
 
 -- "another size is .. 8 when read": another number, with any need, and so is 256 with a need of 12
-pub other_modes : ℕ → List Answer
+pub other_modes : ℕ → List (Result ℕ Refusal)
 other_modes needed = map (λ (mode : ℕ). check_answer 13 (with_mode needed mode)) (3 ∷ 32 ∷ 128 ∷ 255 ∷ 259 ∷ 384 ∷ 511 ∷ 512 ∷ 0xFFFF_FF00 ∷ [])
 
-pub others_checked : other_modes 8 ++ other_modes 9 ++ other_modes 11 ++ other_modes 13 ++ (check_answer 13 (with_mode 12 256) ∷ []) ≡ replicate 37 (Refused 8 0)
+pub others_checked : other_modes 8 ++ other_modes 9 ++ other_modes 11 ++ other_modes 13 ++ (check_answer 13 (with_mode 12 256) ∷ []) ≡ replicate 37 (Err BrokenHeader)
 unfolding size signed_view folded bits_of number digits bytes_for largest width_of given_width group_length group_number group_codes within good_group highest_level known_level known_width fraction_bits width_need mode_need size_need need some_high stream_need lossless_mode is_zero allowed_setting allowed_mode known_size bin_for group_size limit_of groups_in first_fault chunk_answer first answer word header_of k_of chunks_in too_many need_right setting_right said_mode said_size layout_right every start_at start_right chunk_table_right part_at side_table_right ids_from ids_in count_of chunk_of chunk_state spell header_rows opening_rows need_row side_rows table_rows fault_detail fault_row rows_from chunk_row chunk_rows content_rows check_rows check_answer k_offset last_bin allowed_k bin_of largest_u with_mode other_modes
 others_checked = refl
 

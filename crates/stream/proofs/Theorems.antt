@@ -7,8 +7,7 @@ use Prim.Native.Nat.{ℕ, ◌+◌, ◌-◌, ◌*◌, ◌^◌, ◌≤◌, ◌<◌
 use lib.ListN.{length, replicate}
 use Rattle.blocks.specs.Bytes.{Below}
 use Rattle.stream.specs.Group.{bytes_for, packed, group_codes, good_group}
-use Rattle.stream.specs.declared.chunk.ChunkAnswer.TheVariants.{Good}
-use Rattle.stream.specs.Chunk.{groups_in, groups_bytes, chunk_bytes, chunk_answer, chunk_codes}
+use Rattle.stream.specs.Chunk.{good, groups_in, groups_bytes, chunk_bytes, chunk_answer, chunk_codes}
 use Rattle.stream.specs.Theorem.{bits, Limited, Starts, Canonical}
 use Rattle.stream.proofs.Law.Group.LowestFirst.{lowest_first}
 use Rattle.stream.proofs.Law.Group.Exact.{accepted_exactly}
@@ -28,11 +27,11 @@ group_accepted_exactly = accepted_exactly
 module _ (size : ℕ) (some : 0 < size) where
   -- read of written: a chunk of allowed codes is accepted, and gives them back
   pub chunk_written_is_read : (W U : ℕ) (cs : List ℕ) → Below (2 ^ W) cs → Limited U cs
-      → (chunk_answer W U size (length cs) (chunk_bytes size cs) ≡ Good) × (chunk_codes size (length cs) (chunk_bytes size cs) ≡ cs)
+      → (chunk_answer W U size (length cs) (chunk_bytes size cs) ≡ good) × (chunk_codes size (length cs) (chunk_bytes size cs) ≡ cs)
   chunk_written_is_read W U cs below limited = (written_is_good size some W U cs below limited, written_is_read size some cs)
 
   -- written of read: an accepted chunk is just the bytes of the codes that are read from it; no other bytes are accepted
-  pub chunk_read_is_written : (W U n : ℕ) (s : List ℕ) → Below 256 s → chunk_answer W U size n s ≡ Good → Canonical size W U n s
+  pub chunk_read_is_written : (W U n : ℕ) (s : List ℕ) → Below 256 s → chunk_answer W U size n s ≡ good → Canonical size W U n s
   unfolding chunk_bytes
   chunk_read_is_written W U n s below e =
       let exact = good_is_exact size some W U n s below e in

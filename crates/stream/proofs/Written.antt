@@ -15,7 +15,7 @@ use Rattle.bins.specs.Tolerance.{bin_of, ordinal, tolerance_code, tolerance_rest
 use Rattle.numbers.specs.Theorem.{Within}
 use Rattle.blocks.specs.Bytes.{Below}
 use Rattle.stream.specs.Setting.{known_level, known_width, fraction_bits, lossless_mode, bin_for, setting_of, ruled, setting_at, need, stream_need}
-use Rattle.stream.specs.Chunk.{groups_in}
+use Rattle.stream.specs.Chunk.{good, groups_in}
 use Rattle.stream.specs.Rows.{row, first, Decides, numbers_of, answer, after}
 use Rattle.stream.specs.Header.{word, header_of, chunks_in, setting_right, layout_right}
 use Rattle.stream.specs.Tables.{chunk_table_right, side_table_right, ids_in, some_high, first_high}
@@ -23,16 +23,13 @@ use Rattle.stream.specs.Stream.{chunk_state, values}
 use Rattle.stream.specs.Writing.{header_numbers, end_of, stream, Side, placed, add_sides, ids_of, WellFormedSides}
 use Rattle.stream.specs.Packing.{Packable, Sent, most_bytes}
 use Rattle.stream.specs.Theorem.{coming_back, TooNew, RefusedBy}
-use Rattle.stream.specs.Probe.{probed32, probed64}
 use Rattle.stream.specs.Operations.{id_row, check_rows, check_answer, unpack_rows, unpack_answer, unpack_out, probe_rows, probe_answer32, probe_answer64, length_rows, length_answer, pack_rows, pack_answer, pack_out}
-use Rattle.stream.specs.declared.answers.Answer.TheVariants.{Done, Refused}
-use Rattle.stream.specs.declared.answers.Step.{Step}
-use Rattle.stream.specs.declared.answers.Step.TheVariants.{Pass, Stop}
-use Rattle.stream.specs.declared.chunk.ChunkAnswer.TheVariants.{Good}
+use Rattle.std.specs.Prelude.{⊤, Result, Ok, Err}
+use Rattle.stream.specs.declared.answers.Refusal.{Refusal}
+use Rattle.stream.specs.declared.answers.Refusal.TheVariants.{NoRoom, NeedsMinor, BrokenHeader, MustBeUnderstood}
 use Rattle.stream.specs.declared.header.Header.{Header}
 use Rattle.blocks.proofs.Law.Truth.{le_or_lt}
-use Rattle.stream.proofs.Law.Rows.First.{opened_both, decides, decided}
-use Rattle.stream.proofs.Law.Values.ThreeReaders.{done_pass, refused_stop}
+use Rattle.stream.proofs.Law.Rows.First.{opened_both, decides, decided, done_pass, refused_stop}
 use Rattle.stream.proofs.Law.Written.Pieces.{end_most}
 use Rattle.stream.proofs.Law.Rows.Packing.{Passed, length_passed, rows_pass, room_enough, length_stream, length_done, pack_done}
 use Rattle.stream.proofs.Law.ReadBack.Readers.{same_need, rewritten, sided_sent, plain_sent, bytes_sent, header_words, header_read, setting_kept, layout_kept, chunk_table_kept, side_table_kept, ids_kept, chunks_kept, values_read, told_low, told_high, told_wrong, check_read, check_stop, unpack_read, unpack_stop, probe_read, probe_stop}
@@ -40,28 +37,28 @@ use Rattle.stream.proofs.Law.Setting.Allowed.{level_small, group_size_is, size_c
 use Rattle.stream.proofs.Law.ReadBack.Values.{lossless_back, length_back, ruled_back, tolerance_back, special_back}
 
 -- Demand 1: a refused pack leaves its output as it was.
-pub refused_pack_untouched : (W level mode : ℕ) (k : ℤ) (size : ℕ) (vs out : List ℕ) (number detail : ℕ)
-    → pack_answer W level mode k size vs (length out) ≡ Refused number detail → pack_out W level mode k size vs out ≡ out
+pub refused_pack_untouched : (W level mode : ℕ) (k : ℤ) (size : ℕ) (vs out : List ℕ) (refusal : Refusal)
+    → pack_answer W level mode k size vs (length out) ≡ Err refusal → pack_out W level mode k size vs out ≡ out
 unfolding pack_answer pack_out after
-refused_pack_untouched W level mode k size vs out number detail e =
-    rw (refused_stop (first (pack_rows W level mode k size vs (length out))) (length (stream level (setting_at level W mode k size) vs)) number detail e)
+refused_pack_untouched W level mode k size vs out refusal e =
+    rw (refused_stop (first (pack_rows W level mode k size vs (length out))) (length (stream level (setting_at level W mode k size) vs)) refusal e)
 
 -- a refusal is the first row that is given: "given exactly when"
-pub refused_length : (W level mode : ℕ) (k : ℤ) (size : ℕ) (vs : List ℕ) (number detail : ℕ)
-    → length_answer W level mode k size vs ≡ Refused number detail ↔ Decides (length_rows W level mode k size (length vs)) number detail
+pub refused_length : (W level mode : ℕ) (k : ℤ) (size : ℕ) (vs : List ℕ) (refusal : Refusal)
+    → length_answer W level mode k size vs ≡ Err refusal ↔ Decides (length_rows W level mode k size (length vs)) refusal
 unfolding length_answer answer
-refused_length W level mode k size vs number detail =
+refused_length W level mode k size vs refusal =
     let rows = length_rows W level mode k size (length vs) in
     let long = length (stream level (setting_at level W mode k size) vs) in
-    (λ e. decides rows number detail (refused_stop (first rows) long number detail e), λ d. ap (λ (a : Step). answer a long) (decided rows number detail d))
+    (λ e. decides rows refusal (refused_stop (first rows) long refusal e), λ d. ap (λ (a : Result ⊤ Refusal). answer a long) (decided rows refusal d))
 
-pub refused_pack : (W level mode : ℕ) (k : ℤ) (size : ℕ) (vs : List ℕ) (room number detail : ℕ)
-    → pack_answer W level mode k size vs room ≡ Refused number detail ↔ Decides (pack_rows W level mode k size vs room) number detail
+pub refused_pack : (W level mode : ℕ) (k : ℤ) (size : ℕ) (vs : List ℕ) (room : ℕ) (refusal : Refusal)
+    → pack_answer W level mode k size vs room ≡ Err refusal ↔ Decides (pack_rows W level mode k size vs room) refusal
 unfolding pack_answer answer
-refused_pack W level mode k size vs room number detail =
+refused_pack W level mode k size vs room refusal =
     let rows = pack_rows W level mode k size vs room in
     let long = length (stream level (setting_at level W mode k size) vs) in
-    (λ e. decides rows number detail (refused_stop (first rows) long number detail e), λ d. ap (λ (a : Step). answer a long) (decided rows number detail d))
+    (λ e. decides rows refusal (refused_stop (first rows) long refusal e), λ d. ap (λ (a : Result ⊤ Refusal). answer a long) (decided rows refusal d))
 
 -- the stated order: "Pack: 1 2 3 4. Length: 1 2 3"
 pub length_order : (W level mode : ℕ) (k : ℤ) (size : ℕ) (n : ℕ) → numbers_of (length_rows W level mode k size n) ≡ 1 ∷ 2 ∷ 3 ∷ []
@@ -73,8 +70,8 @@ unfolding pack_rows length_rows numbers_of
 pack_order W level mode k size vs room = refl
 
 -- what an accepted pack says of its call, and what it leaves
-module _ (W level mode : ℕ) (k : ℤ) (size : ℕ) (vs out : List ℕ) (n : ℕ) (done : pack_answer W level mode k size vs (length out) ≡ Done n) where
-  passes : (first (pack_rows W level mode k size vs (length out)) ≡ Pass) × (length (stream level (setting_at level W mode k size) vs) ≡ n)
+module _ (W level mode : ℕ) (k : ℤ) (size : ℕ) (vs out : List ℕ) (n : ℕ) (done : pack_answer W level mode k size vs (length out) ≡ Ok n) where
+  passes : (first (pack_rows W level mode k size vs (length out)) ≡ Ok tt) × (length (stream level (setting_at level W mode k size) vs) ≡ n)
   unfolding pack_answer
   passes = done_pass (first (pack_rows W level mode k size vs (length out))) (length (stream level (setting_at level W mode k size) vs)) n done
 
@@ -82,7 +79,7 @@ module _ (W level mode : ℕ) (k : ℤ) (size : ℕ) (vs out : List ℕ) (n : �
   unfolding pack_rows
   three_passed =
       let long = length (stream level (setting_at level W mode k size) vs) in
-      length_passed W level mode k size (length vs) (opened_both (length_rows W level mode k size (length vs)) (row 4 (ltb (length out) long) long ∷ []) passes.0).0
+      length_passed W level mode k size (length vs) (opened_both (length_rows W level mode k size (length vs)) (row (NoRoom long) (ltb (length out) long) ∷ []) passes.0).0
 
   -- with any written minor that is not below its level
   pub accepted_later : known_width W ≡ true → Below (2 ^ W) vs → (written : ℕ) → level ≤ written → written < 2 ^ 32 → Packable W written mode k size vs
@@ -151,12 +148,12 @@ module _ (W level mode : ℕ) (k : ℤ) (size : ℕ) (vs : List ℕ) (p : Packab
   -- ---- writing
 
   -- length answers the stream's length, at a level that we know
-  pub length_is_answered : known_level level ≡ true → length_answer W level mode k size vs ≡ Done (length (stream level (setting_at level W mode k size) vs))
+  pub length_is_answered : known_level level ≡ true → length_answer W level mode k size vs ≡ Ok (length (stream level (setting_at level W mode k size) vs))
   length_is_answered known = sym (length_done W level mode k size vs (length (stream level (setting_at level W mode k size) vs)) (rows_pass W level mode k size vs known p) (length_stream level (setting_at level W mode k size) vs))
 
   -- pack writes the stream where there is room for it, and alters nothing past it
   pub the_stream_is_packed : known_level level ≡ true → (out : List ℕ) → length (stream level (setting_at level W mode k size) vs) ≤ length out
-      → (pack_answer W level mode k size vs (length out) ≡ Done (length (stream level (setting_at level W mode k size) vs)))
+      → (pack_answer W level mode k size vs (length out) ≡ Ok (length (stream level (setting_at level W mode k size) vs)))
       × (pack_out W level mode k size vs out ≡ stream level (setting_at level W mode k size) vs ++ drop (length (stream level (setting_at level W mode k size) vs)) out)
   the_stream_is_packed known out room =
       let done =
@@ -207,7 +204,7 @@ module _ (rule W level mode : ℕ) (k : ℤ) (size : ℕ) (vs : List ℕ) (p : P
     pub every_rule_is_kept :
         (need (setting_of W mode k size) ≤ needed → needed ≤ level → setting_right (header_of s) ≡ true) × (layout_right (length s) (header_of s) ≡ true)
         × (chunk_table_right (header_of s) s ≡ true) × (side_table_right (header_of s) s ≡ true)
-        × ((j : ℕ) → j < chunks_in (length vs) → chunk_state (header_of s) s j ≡ Good)
+        × ((j : ℕ) → j < chunks_in (length vs) → chunk_state (header_of s) s j ≡ good)
     unfolding need
     every_rule_is_kept = (
       setting_kept level (ruled rule (setting_of W mode k size)) vs (storable rule W level mode k size vs p) ps needed s sent,
@@ -258,15 +255,15 @@ module _ (rule W level mode : ℕ) (k : ℤ) (size : ℕ) (vs : List ℕ) (p : P
     -- ---- each level refuses by 7, with the need, what it does not reach; of the rest the need and the ids of the side parts decide
 
     -- by 8 where they ask for another need, or the written minor is below it; by 15 where one is high
-    abbrev said : Step
-    said = cond (leb needed level && eqb needed (stream_need (setting_of W mode k size) (some_high (ids_of ps)))) (first (map id_row (ids_of ps))) (Stop 8 0)
+    abbrev said : Result ⊤ Refusal
+    said = cond (leb needed level && eqb needed (stream_need (setting_of W mode k size) (some_high (ids_of ps)))) (first (map id_row (ids_of ps))) (Err BrokenHeader)
 
     module _ (L : ℕ) (known : known_level L ≡ true) where
       -- 7 with the need, or what they say
-      abbrev exactly : Step
-      exactly = cond (ltb L needed) (Stop 7 needed) said
+      abbrev exactly : Result ⊤ Refusal
+      exactly = cond (ltb L needed) (Err (NeedsMinor needed)) said
 
-      either_way : (x : Step) → (needed ≤ L → x ≡ said) → (L < needed → x ≡ Stop 7 needed) → x ≡ exactly
+      either_way : (x : Result ⊤ Refusal) → (needed ≤ L → x ≡ said) → (L < needed → x ≡ Err (NeedsMinor needed)) → x ≡ exactly
       either_way x reads stops = go (le_or_lt needed L)
         where
           go : (needed ≤ L) ⊎ (L < needed) → x ≡ exactly
@@ -297,7 +294,7 @@ module _ (rule W level mode : ℕ) (k : ℤ) (size : ℕ) (vs : List ℕ) (p : P
 
       -- so where no id is high and the need is the setting's and reached, check counts the values and unpack hands them out
       pub it_is_read : some_high (ids_of ps) ≡ false → needed ≡ need (setting_of W mode k size) → needed ≤ L → (out : List ℕ) → length vs ≤ length out
-          → (check_answer L s ≡ Done (length vs)) × (unpack_answer W L s (length out) ≡ Done (length vs))
+          → (check_answer L s ≡ Ok (length vs)) × (unpack_answer W L s (length out) ≡ Ok (length vs))
           × (unpack_out W L s out ≡ values s ++ drop (length vs) out)
       unfolding need stream_need check_answer unpack_answer unpack_out answer after
       it_is_read low own h out l =
@@ -305,11 +302,11 @@ module _ (rule W level mode : ℕ) (k : ℤ) (size : ℕ) (vs : List ℕ) (p : P
           let nothing = told_low level (ruled rule (setting_of W mode k size)) vs (storable rule W level mode k size vs p) ps needed s sent low own in
           let checks = check_read level (ruled rule (setting_of W mode k size)) vs (storable rule W level mode k size vs p) ps needed s sent L known h ∙ nothing in
           let passes = unpack_read level (ruled rule (setting_of W mode k size)) vs (storable rule W level mode k size vs p) ps needed s sent L known (length out) l h ∙ nothing in
-          (rw checks (ap Done n), rw passes (ap Done n), rw passes (ap (λ (m : ℕ). values s ++ drop m out) n))
+          (rw checks (ap Ok n), rw passes (ap Ok n), rw passes (ap (λ (m : ℕ). values s ++ drop m out) n))
 
       -- and where the needed minor is not reached, every reader names it, and unpack's output stays as it was
       pub it_is_too_new : L < needed → TooNew L s needed
-      unfolding check_answer unpack_answer unpack_out answer after probe_answer32 probe_answer64 probed32 probed64
+      unfolding check_answer unpack_answer unpack_out answer after probe_answer32 probe_answer64
       it_is_too_new h =
           let unpacks = unpack_stop level (ruled rule (setting_of W mode k size)) vs (storable rule W level mode k size vs p) ps needed s sent L known in
           let probes = probe_stop level (ruled rule (setting_of W mode k size)) vs (storable rule W level mode k size vs p) ps needed s sent L known in
@@ -321,28 +318,28 @@ module _ (rule W level mode : ℕ) (k : ℤ) (size : ℕ) (vs : List ℕ) (p : P
           }
 
       -- where it is reached, what the readers of the stream's width refuse it by, lent room for the values
-      all_readers : (number detail : ℕ) → exactly ≡ Stop number detail → RefusedBy W L s (length vs) number detail
-      unfolding check_answer unpack_answer unpack_out answer after probe_answer32 probe_answer64 probed32 probed64
-      all_readers number detail e =
-          let unpacks : (back : List ℕ) → length vs ≤ length back → first (unpack_rows W L s (length back)) ≡ Stop number detail = λ back room. unpack_exactly (length back) room ∙ e in
-          let probes : (i : ℕ) → i < length vs → first (probe_rows W L s i) ≡ Stop number detail = λ i l. probe_exactly i l ∙ e in
+      all_readers : (refusal : Refusal) → exactly ≡ Err refusal → RefusedBy W L s (length vs) refusal
+      unfolding check_answer unpack_answer unpack_out answer after probe_answer32 probe_answer64
+      all_readers refusal e =
+          let unpacks : (back : List ℕ) → length vs ≤ length back → first (unpack_rows W L s (length back)) ≡ Err refusal = λ back room. unpack_exactly (length back) room ∙ e in
+          let probes : (i : ℕ) → i < length vs → first (probe_rows W L s i) ≡ Err refusal = λ i l. probe_exactly i l ∙ e in
           record {
             check = rw (check_exactly ∙ e);
             unpack = λ back room. (rw (unpacks back room), rw (unpacks back room));
-            probe32 = λ is i l. rw (subst (λ (w : ℕ). first (probe_rows w L s i) ≡ Stop number detail) is (probes i l));
-            probe64 = λ is i l. rw (subst (λ (w : ℕ). first (probe_rows w L s i) ≡ Stop number detail) is (probes i l));
+            probe32 = λ is i l. rw (subst (λ (w : ℕ). first (probe_rows w L s i) ≡ Err refusal) is (probes i l));
+            probe64 = λ is i l. rw (subst (λ (w : ℕ). first (probe_rows w L s i) ≡ Err refusal) is (probes i l));
           }
 
       -- 15: the need is that of a stream with a high id, and there is one
       pub refused_by_15 : needed ≤ L → some_high (ids_of ps) ≡ true → needed ≡ stream_need (setting_of W mode k size) true → needed ≤ level
-          → RefusedBy W L s (length vs) 15 (first_high (ids_of ps))
+          → RefusedBy W L s (length vs) (MustBeUnderstood (first_high (ids_of ps)))
       unfolding need stream_need
       refused_by_15 h high right reached =
-          all_readers 15 (first_high (ids_of ps))
+          all_readers (MustBeUnderstood (first_high (ids_of ps)))
           (rw (le-ltb L needed h) (told_high level (ruled rule (setting_of W mode k size)) vs (storable rule W level mode k size vs p) ps needed s sent high right reached))
 
       -- 8: it is the need of another stream, or above the written minor
-      pub refused_by_8 : needed ≤ L → ((needed ≡ stream_need (setting_of W mode k size) (some_high (ids_of ps))) × (needed ≤ level) → ⊥) → RefusedBy W L s (length vs) 8 0
+      pub refused_by_8 : needed ≤ L → ((needed ≡ stream_need (setting_of W mode k size) (some_high (ids_of ps))) × (needed ≤ level) → ⊥) → RefusedBy W L s (length vs) BrokenHeader
       unfolding need stream_need
       refused_by_8 h other =
-          all_readers 8 0 (rw (le-ltb L needed h) (told_wrong level (ruled rule (setting_of W mode k size)) vs (storable rule W level mode k size vs p) ps needed s sent other))
+          all_readers BrokenHeader (rw (le-ltb L needed h) (told_wrong level (ruled rule (setting_of W mode k size)) vs (storable rule W level mode k size vs p) ps needed s sent other))

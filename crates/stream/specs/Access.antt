@@ -1,16 +1,13 @@
 -- What a library above this one reads of a stream that a check has accepted: the values of one chunk, and one side part (document 02, R-5, R-11, R-14). These
 -- are no operations of document 01 and give no refusal: they look at no level and at no id, and at the need no more than a header's rules do, because who calls them has made a check before. But every
 -- definition is total, and says of any bytes what is answered. What it is where a check accepts is said in proofs/Access.antt.
-use Rattle.std.specs.Prelude.{ℕ, suc, ◌+◌, ◌-◌, ◌*◌, Bool, false, ◌&&◌, ◌||◌, cond, List, [], ◌∷◌, ◌++◌, leb, ltb, eqb, length, take, drop}
+use Rattle.std.specs.Prelude.{ℕ, suc, ◌+◌, ◌-◌, ◌*◌, Bool, false, ◌&&◌, ◌||◌, cond, Option, Some, None, List, [], ◌∷◌, ◌++◌, leb, ltb, eqb, length, take, drop}
 use Rattle.stream.specs.Setting.{group_size}
 use Rattle.stream.specs.Chunk.{whole_chunk}
 use Rattle.stream.specs.Header.{header_of, setting_in, setting_right, layout_right}
 use Rattle.stream.specs.Tables.{start_at, start_right, side_place, side_length, ids_in}
 use Rattle.stream.specs.Stream.{count_of, chunk_of, chunk_values}
-use Rattle.stream.specs.declared.answers.ChunkRead.{ChunkRead}
-use Rattle.stream.specs.declared.answers.ChunkRead.TheVariants.{Read, NotThere}
 use Rattle.stream.specs.declared.answers.SidePart.{SidePart}
-use Rattle.stream.specs.declared.answers.SidePart.TheVariants.{Part, NoPart}
 use Rattle.stream.specs.declared.header.Header.{Header}
 
 -- the rules of refusal 5 and of the 8 before the tables. Those of 1, 6 and 7, of the tables, and of the late 8 are the check's.
@@ -35,8 +32,8 @@ unfoldable pub chunk_readable : ℕ → List ℕ → ℕ → ℕ → Bool
 chunk_readable W s j room = header_right s && chunk_fits W (header_of s) j room && chunk_there (header_of s) s j
 
 -- the answer: how many values it has, and what the output then holds
-unfoldable pub chunk_read : ℕ → List ℕ → ℕ → ℕ → ChunkRead
-chunk_read W s j room = cond (chunk_readable W s j room) (Read (count_of (header_of s) j)) NotThere
+unfoldable pub chunk_read : ℕ → List ℕ → ℕ → ℕ → Option ℕ
+chunk_read W s j room = cond (chunk_readable W s j room) (Some (count_of (header_of s) j)) None
 
 unfoldable pub chunk_out : ℕ → List ℕ → ℕ → List ℕ → List ℕ
 chunk_out W s j out =
@@ -72,5 +69,6 @@ part_there s id =
     && leb (place_of (header_of s) s id + length_of (header_of s) s id) (length s)
 
 -- the answer: where it lies, and how many bytes it has
-unfoldable pub side_part : List ℕ → ℕ → SidePart
-side_part s id = cond (part_there s id) (Part (place_of (header_of s) s id) (length_of (header_of s) s id)) NoPart
+unfoldable pub side_part : List ℕ → ℕ → Option SidePart
+side_part s id =
+    cond (part_there s id) (Some (record { place = place_of (header_of s) s id; length = length_of (header_of s) s id })) None

@@ -1,10 +1,8 @@
 -- Document 01, "The stream", of a group: "Its first byte w is the bit length of the group's largest code (0 if all are 0); then the
 -- codes, w bits each, lowest bit first, filling each byte from its lowest bit, with zero bits to the next byte."
-use Rattle.std.specs.Prelude.{ℕ, suc, ◌+◌, ◌*◌, ◌/◌, ◌^◌, max, Bool, true, ◌&&◌, cond, List, [], ◌∷◌, leb, ltb, eqb, length, take, drop, get_or}
+use Rattle.std.specs.Prelude.{ℕ, suc, ◌+◌, ◌*◌, ◌/◌, ◌^◌, max, Bool, Option, Some, None, true, ◌&&◌, cond, List, [], ◌∷◌, leb, ltb, eqb, length, take, drop, get_or}
 use Rattle.std.specs.Float.Ieee.{size}
 use Rattle.blocks.specs.Bytes.{number, digits}
-use Rattle.stream.specs.declared.group.GroupAnswer.{GroupAnswer}
-use Rattle.stream.specs.declared.group.GroupAnswer.TheVariants.{Bad, Good}
 
 -- "with zero bits to the next byte": how many bytes hold n codes of w bits each
 unfoldable pub bytes_for : ℕ → ℕ → ℕ
@@ -64,6 +62,6 @@ good_group W U n s =
     && ltb (group_number n s) (2 ^ (given_width s * n))
     && within U (group_codes n s)
 
--- what the check of a group answers: how many bytes a good one has, or that it is bad
-unfoldable pub group_answer : ℕ → ℕ → ℕ → List ℕ → GroupAnswer
-group_answer W U n s = cond (good_group W U n s) (Good (group_length n s)) Bad
+-- what the check of a group answers: how many bytes a good one has, and nothing of a bad one
+unfoldable pub group_answer : ℕ → ℕ → ℕ → List ℕ → Option ℕ
+group_answer W U n s = cond (good_group W U n s) (Some (group_length n s)) None

@@ -19,5 +19,4 @@ pub mod Access
 pub mod Listing
 pub mod Relied
 pub mod Theorem
-pub mod Opening
 pub mod Lent

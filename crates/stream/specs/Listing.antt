@@ -1,13 +1,13 @@
 -- Document 01, "The listing program": what it prints, as ASCII, for the bytes of its standard input.
-use Rattle.std.specs.Prelude.{◌≡◌, ℕ, zero, suc, ◌+◌, ◌-◌, ◌/◌, ◌%◌, ◌≤◌, cond, List, [], ◌∷◌, ◌++◌, ltb, ℤ, pos, negsuc, length, take, drop}
+use Rattle.std.specs.Prelude.{◌≡◌, ℕ, zero, suc, ◌+◌, ◌-◌, ◌/◌, ◌%◌, ◌≤◌, cond, List, [], ◌∷◌, ◌++◌, ltb, ℤ, pos, negsuc, length, take, drop, Result, Ok, Err}
 use Rattle.stream.specs.Setting.{highest_level, group_size}
 use Rattle.stream.specs.Chunk.{groups_in}
 use Rattle.stream.specs.Header.{header_of, k_of, setting_in}
 use Rattle.stream.specs.Tables.{start_at}
 use Rattle.stream.specs.Stream.{joined, count_of}
+use Rattle.stream.specs.Rows.{number_of, detail_of}
 use Rattle.stream.specs.Operations.{check_answer}
-use Rattle.stream.specs.declared.answers.Answer.{Answer}
-use Rattle.stream.specs.declared.answers.Answer.TheVariants.{Done, Refused}
+use Rattle.stream.specs.declared.answers.Refusal.{Refusal}
 use Rattle.stream.specs.declared.header.Header.{Header}
 
 -- "reads standard input, at most 65,536 bytes"
@@ -143,9 +143,9 @@ unfoldable pub refused_line : ℕ → ℕ → List ℕ
 refused_line number detail = labelled refused_word number ++ labelled detail_word detail ++ newline
 
 -- what a check of the bytes s answers decides
-unfoldable pub answer_lines : Answer → List ℕ → List ℕ
-answer_lines (Done n) s = stream_lines (header_of s) s
-answer_lines (Refused number detail) s = refused_line number detail
+unfoldable pub answer_lines : Result ℕ Refusal → List ℕ → List ℕ
+answer_lines (Ok n) s = stream_lines (header_of s) s
+answer_lines (Err refusal) s = refused_line (number_of refusal) (detail_of refusal)
 
 -- the whole text: "at most 65,536 bytes (else it prints `too long`)", and "checks at the highest level"
 unfoldable pub listing : List ℕ → List ℕ

@@ -1,42 +1,41 @@
 -- Document 01, "Order", and document 02, R-1, R-4, R-6 and R-7: each operation's rows, its answer, and what its lent output holds afterwards. These are the promises.
-use Rattle.std.specs.Prelude.{ℕ, ◌+◌, ◌*◌, ◌/◌, true, false, ◌&&◌, ◌||◌, not, List, [], ◌∷◌, ◌++◌, map, ltb, eqb, ℤ, length, drop}
+use Rattle.std.specs.Prelude.{ℕ, ◌+◌, ◌*◌, ◌/◌, true, false, ◌&&◌, ◌||◌, not, Ok, Err, List, [], ◌∷◌, ◌++◌, map, ltb, eqb, ℤ, length, drop, Float, Result}
 use Rattle.stream.specs.Setting.{known_level, allowed_setting, setting_of, setting_at, need, stream_need}
 use Rattle.stream.specs.Rows.{Row, row, rows_from, first, answer, after}
+use Rattle.stream.specs.Chunk.{Verdict}
 use Rattle.stream.specs.Header.{header_of, setting_in, too_many, setting_right, layout_right}
 use Rattle.stream.specs.Tables.{chunk_table_right, side_table_right, ids_in, high_id, some_high}
 use Rattle.stream.specs.Stream.{chunk_state, values, value_at}
 use Rattle.stream.specs.Writing.{stream}
-use Rattle.stream.specs.Probe.{probed32, probed64}
-use Rattle.stream.specs.declared.answers.Answer.{Answer}
-use Rattle.stream.specs.declared.chunk.ChunkAnswer.{ChunkAnswer}
-use Rattle.stream.specs.declared.chunk.ChunkAnswer.TheVariants.{Good, Bad}
+use Rattle.stream.specs.Probe.{shown32, shown64}
+use Rattle.stream.specs.declared.answers.Refusal.{Refusal}
+use Rattle.stream.specs.declared.answers.Refusal.TheVariants.{UnknownLevel, NotAllowed, TooManyValues, NoRoom, NoHeader, OtherMajor, NeedsMinor, BrokenHeader, BrokenTable, BrokenChunk, NoSuchIndex, OtherWidth, MustBeUnderstood}
+use Rattle.stream.specs.declared.answers.Shown.{Shown}
 use Rattle.stream.specs.declared.header.Header.{Header}
-use Rattle.stream.specs.declared.answers.Probe32.{Probe32}
-use Rattle.stream.specs.declared.answers.Probe64.{Probe64}
 
 -- ---- rows that several operations have
 
 unfoldable pub header_rows : ℕ → ℕ → Header → List Row
 header_rows level size h =
-    row 6 (not (eqb h.major 1)) 0
-    ∷ row 7 (ltb level h.needed) h.needed
-    ∷ row 8 (not (setting_right h && layout_right size h)) 0
+    row OtherMajor (not (eqb h.major 1))
+    ∷ row (NeedsMinor h.needed) (ltb level h.needed)
+    ∷ row BrokenHeader (not (setting_right h && layout_right size h))
     ∷ []
 
 -- 1 5 6 7 8: what every reader begins with
 unfoldable pub opening_rows : ℕ → List ℕ → List Row
 opening_rows level s =
-    row 1 (not (known_level level)) 0
-    ∷ row 5 (ltb (length s) 48) 0
+    row UnknownLevel (not (known_level level))
+    ∷ row NoHeader (ltb (length s) 48)
     ∷ header_rows level (length s) (header_of s)
 
 -- Document 02, R-4: "The need is compared for equality after the tables have passed", in a stream whose side parts have these ids
 unfoldable pub need_row : Header → List ℕ → Row
-need_row h ids = row 8 (not (eqb h.needed (stream_need (setting_in h) (some_high ids)))) 0
+need_row h ids = row BrokenHeader (not (eqb h.needed (stream_need (setting_in h) (some_high ids))))
 
 -- "15, an id that must be understood, detail the first such id": a row for each id
 unfoldable pub id_row : ℕ → Row
-id_row id = row 15 (high_id id) id
+id_row id = row (MustBeUnderstood id) (high_id id)
 
 -- 8 15, "after 9 and after that late use of 8"
 unfoldable pub side_rows : Header → List ℕ → List Row
@@ -44,15 +43,15 @@ side_rows h ids = need_row h ids ∷ map id_row ids
 
 -- 9 8 15: both tables, and what they say of the need and of the side parts
 unfoldable pub table_rows : Header → List ℕ → List Row
-table_rows h s = row 9 (not (chunk_table_right h s && side_table_right h s)) 0 ∷ side_rows h (ids_in h s)
+table_rows h s = row BrokenTable (not (chunk_table_right h s && side_table_right h s)) ∷ side_rows h (ids_in h s)
 
 -- Document 02, R-1, the detail of refusal 10: "chunk·32 + group, the first bad group"; and R-6: "refusal 10's detail keeps its 32"
 unfoldable pub fault_detail : ℕ → ℕ → ℕ
 fault_detail chunk group = chunk * 32 + group
 
-unfoldable pub fault_row : ℕ → ChunkAnswer → Row
-fault_row j Good = row 10 false 0
-fault_row j (Bad group) = row 10 true (fault_detail j group)
+unfoldable pub fault_row : ℕ → Verdict → Row
+fault_row j (Ok kept) = row (BrokenChunk 0) false
+fault_row j (Err group) = row (BrokenChunk (fault_detail j group)) true
 
 unfoldable pub chunk_row : Header → List ℕ → ℕ → Row
 chunk_row h s j = fault_row j (chunk_state h s j)
@@ -66,26 +65,26 @@ unfoldable pub content_rows : Header → List ℕ → List Row
 content_rows h s = table_rows h s ++ chunk_rows h s
 
 unfoldable pub width_row : ℕ → Header → Row
-width_row W h = row 14 (not (eqb h.width W)) 0
+width_row W h = row OtherWidth (not (eqb h.width W))
 
 -- ---- Check: 1 5 6 7 8 9 8 15 10
 
 unfoldable pub check_rows : ℕ → List ℕ → List Row
 check_rows level s = opening_rows level s ++ content_rows (header_of s) s
 
-unfoldable pub check_answer : ℕ → List ℕ → Answer
+unfoldable pub check_answer : ℕ → List ℕ → Result ℕ Refusal
 check_answer level s = answer (first (check_rows level s)) (header_of s).count
 
 -- ---- Unpack: 1 5 6 7 8 14 4 9 8 15 10, of a stream of width W into room for so many values
 
 unfoldable pub room_row : ℕ → Header → Row
-room_row room h = row 4 (ltb room h.count) h.count
+room_row room h = row (NoRoom h.count) (ltb room h.count)
 
 unfoldable pub unpack_rows : ℕ → ℕ → List ℕ → ℕ → List Row
 unpack_rows W level s room =
     opening_rows level s ++ (width_row W (header_of s) ∷ room_row room (header_of s) ∷ content_rows (header_of s) s)
 
-unfoldable pub unpack_answer : ℕ → ℕ → List ℕ → ℕ → Answer
+unfoldable pub unpack_answer : ℕ → ℕ → List ℕ → ℕ → Result ℕ Refusal
 unpack_answer W level s room = answer (first (unpack_rows W level s room)) (header_of s).count
 
 -- "past n .. nothing is altered"
@@ -95,7 +94,7 @@ unpack_out W level s out = after (first (unpack_rows W level s (length out))) (v
 -- ---- Probe: 1 5 6 7 8 14 11 9 8 15 10, "the last for its own chunk only"
 
 unfoldable pub index_row : ℕ → Header → Row
-index_row i h = row 11 (not (ltb i h.count)) 0
+index_row i h = row NoSuchIndex (not (ltb i h.count))
 
 unfoldable pub own_rows : Header → List ℕ → ℕ → List Row
 own_rows h s i = table_rows h s ++ (chunk_row h s (i / 1024) ∷ [])
@@ -104,30 +103,30 @@ unfoldable pub probe_rows : ℕ → ℕ → List ℕ → ℕ → List Row
 probe_rows W level s i =
     opening_rows level s ++ (width_row W (header_of s) ∷ index_row i (header_of s) ∷ own_rows (header_of s) s i)
 
-unfoldable pub probe_answer32 : ℕ → List ℕ → ℕ → Probe32
-probe_answer32 level s i = probed32 (first (probe_rows 32 level s i)) (value_at s i)
+unfoldable pub probe_answer32 : ℕ → List ℕ → ℕ → Result (Shown Float ℕ) Refusal
+probe_answer32 level s i = answer (first (probe_rows 32 level s i)) (shown32 (value_at s i))
 
-unfoldable pub probe_answer64 : ℕ → List ℕ → ℕ → Probe64
-probe_answer64 level s i = probed64 (first (probe_rows 64 level s i)) (value_at s i)
+unfoldable pub probe_answer64 : ℕ → List ℕ → ℕ → Result (Shown Float ℕ) Refusal
+probe_answer64 level s i = answer (first (probe_rows 64 level s i)) (shown64 (value_at s i))
 
 -- ---- "Length: 1 2 3", for n values of width W; "Pack: 1 2 3 4", of values into room for so many bytes
 
 unfoldable pub length_rows : ℕ → ℕ → ℕ → ℤ → ℕ → ℕ → List Row
 length_rows W level mode k size n =
-    row 1 (not (known_level level)) 0
-    ∷ row 2 (not (allowed_setting W mode k size) || ltb level (need (setting_of W mode k size))) 0
-    ∷ row 3 (too_many n) 0
+    row UnknownLevel (not (known_level level))
+    ∷ row NotAllowed (not (allowed_setting W mode k size) || ltb level (need (setting_of W mode k size)))
+    ∷ row TooManyValues (too_many n)
     ∷ []
 
-unfoldable pub length_answer : ℕ → ℕ → ℕ → ℤ → ℕ → List ℕ → Answer
+unfoldable pub length_answer : ℕ → ℕ → ℕ → ℤ → ℕ → List ℕ → Result ℕ Refusal
 length_answer W level mode k size vs = answer (first (length_rows W level mode k size (length vs))) (length (stream level (setting_at level W mode k size) vs))
 
 unfoldable pub pack_rows : ℕ → ℕ → ℕ → ℤ → ℕ → List ℕ → ℕ → List Row
 pack_rows W level mode k size vs room =
     length_rows W level mode k size (length vs)
-    ++ (row 4 (ltb room (length (stream level (setting_at level W mode k size) vs))) (length (stream level (setting_at level W mode k size) vs)) ∷ [])
+    ++ (row (NoRoom (length (stream level (setting_at level W mode k size) vs))) (ltb room (length (stream level (setting_at level W mode k size) vs))) ∷ [])
 
-unfoldable pub pack_answer : ℕ → ℕ → ℕ → ℤ → ℕ → List ℕ → ℕ → Answer
+unfoldable pub pack_answer : ℕ → ℕ → ℕ → ℤ → ℕ → List ℕ → ℕ → Result ℕ Refusal
 pack_answer W level mode k size vs room = answer (first (pack_rows W level mode k size vs room)) (length (stream level (setting_at level W mode k size) vs))
 
 -- "past the packed bytes, nothing is altered"

@@ -6,6 +6,7 @@ use Rattle.stream.specs.Chunk.{groups_in}
 use Rattle.stream.specs.Header.{chunks_in}
 use Rattle.stream.specs.Rows.{Row, row}
 use Rattle.stream.specs.Writing.{end_of, stream, Side, placed, add_sides, WellFormedSides}
+use Rattle.stream.specs.declared.answers.Refusal.TheVariants.{NoRoom}
 use Rattle.stream.specs.declared.setting.Setting.{Setting}
 
 -- A list of values, W bits wide, with a written minor and a setting that a stream may have: the minor reaches the need. The levels that
@@ -32,4 +33,4 @@ most_bytes t n = 48 + 4 * chunks_in n + groups_in (group_size t) n + n * t.width
 
 -- 4, with the length by its end of data. A level alters it by the setting's rule for halves alone, and not as the written minor.
 unfoldable pub short_row : Setting → List ℕ → ℕ → Row
-short_row t vs room = row 4 (ltb room (end_of t vs (chunks_in (length vs)))) (end_of t vs (chunks_in (length vs)))
+short_row t vs room = row (NoRoom (end_of t vs (chunks_in (length vs)))) (ltb room (end_of t vs (chunks_in (length vs))))

@@ -1,10 +1,9 @@
 -- Document 01, "The stream": the chunks of a stream and its values, for a header and the bytes that it stands in.
 use Rattle.std.specs.Prelude.{ℕ, zero, suc, ◌+◌, ◌-◌, ◌*◌, ◌/◌, ◌%◌, min, List, [], ◌++◌, take, drop, get_or}
 use Rattle.stream.specs.Setting.{group_size, limit_of, patterns_of}
-use Rattle.stream.specs.Chunk.{chunk_answer, chunk_codes}
+use Rattle.stream.specs.Chunk.{Verdict, chunk_answer, chunk_codes}
 use Rattle.stream.specs.Header.{header_of, setting_in}
 use Rattle.stream.specs.Tables.{start_at}
-use Rattle.stream.specs.declared.chunk.ChunkAnswer.{ChunkAnswer}
 use Rattle.stream.specs.declared.header.Header.{Header}
 
 -- the first k of the lists f 0, f 1, .., one after the other
@@ -21,7 +20,7 @@ unfoldable pub chunk_of : Header → List ℕ → ℕ → List ℕ
 chunk_of h s j = take (start_at h s (j + 1) - start_at h s j) (drop (h.start + start_at h s j) s)
 
 -- whether the chunk j keeps the rules of refusal 10, or its first bad group
-unfoldable pub chunk_state : Header → List ℕ → ℕ → ChunkAnswer
+unfoldable pub chunk_state : Header → List ℕ → ℕ → Verdict
 chunk_state h s j =
     chunk_answer h.width (limit_of (setting_in h)) (group_size (setting_in h)) (count_of h j) (chunk_of h s j)
 

@@ -1,20 +1,17 @@
 -- The words that the theorems of proofs/Theorems.antt, Readers.antt, Place.antt, Cut.antt, Written.antt and Understood.antt are stated in.
-use Rattle.std.specs.Prelude.{◌≡◌, ◌⊎◌, Bool, true, false, cond, not, List, [], ◌∷◌, ◌++◌, ℕ, zero, suc, ◌+◌, ◌-◌, ◌*◌, ◌/◌, ◌^◌, ◌≤◌, ◌<◌, min, ltb, length, take, drop, get_or}
+use Rattle.std.specs.Prelude.{◌≡◌, ◌⊎◌, Bool, true, false, cond, not, List, [], ◌∷◌, ◌++◌, ℕ, zero, suc, ◌+◌, ◌-◌, ◌*◌, ◌/◌, ◌^◌, ◌≤◌, ◌<◌, min, ltb, length, take, drop, get_or, Result, Ok, Err}
 use Rattle.blocks.specs.Bytes.{Below, digits}
 use Rattle.stream.specs.Setting.{known_level, stream_need, group_size, codes_of, patterns_of, limit_of}
 use Rattle.stream.specs.Group.{group_bytes, group_length, good_group}
-use Rattle.stream.specs.Chunk.{groups_in, chunk_bytes, chunk_codes}
+use Rattle.stream.specs.Chunk.{groups_in, good, chunk_bytes, chunk_codes}
 use Rattle.stream.specs.Header.{header_of, setting_in, chunks_in}
 use Rattle.stream.specs.Tables.{start_at, chunk_table_right, side_table_right, ids_in, some_high, first_high}
 use Rattle.stream.specs.Stream.{joined, count_of, chunk_of, chunk_state}
 use Rattle.stream.specs.Writing.{piece}
 use Rattle.stream.specs.Probe.{shown32, shown64}
 use Rattle.stream.specs.Operations.{check_answer, unpack_answer, unpack_out, probe_answer32, probe_answer64}
-use Rattle.stream.specs.declared.answers.Answer.{Answer}
-use Rattle.stream.specs.declared.answers.Answer.TheVariants.{Done, Refused}
-use Rattle.stream.specs.declared.answers.Probe32.TheVariants as p32
-use Rattle.stream.specs.declared.answers.Probe64.TheVariants as p64
-use Rattle.stream.specs.declared.chunk.ChunkAnswer.TheVariants.{Good}
+use Rattle.stream.specs.declared.answers.Refusal.{Refusal}
+use Rattle.stream.specs.declared.answers.Refusal.TheVariants.{UnknownLevel, NoHeader, NeedsMinor, BrokenHeader, BrokenTable}
 use Rattle.stream.specs.declared.header.Header.{Header}
 use Rattle.stream.specs.declared.setting.Setting.{Setting}
 
@@ -76,7 +73,7 @@ BadGroup s j g =
 -- the chunk j is the first bad one of a stream, and g its first bad group
 pub record Fault (s : List ℕ) (j g : ℕ) : Type 0 where
   pub chunk : j < (header_of s).chunks
-  pub earlier : (i : ℕ) → i < j → chunk_state (header_of s) s i ≡ Good
+  pub earlier : (i : ℕ) → i < j → chunk_state (header_of s) s i ≡ good
   pub group : BadGroup s j g
 
 -- the bytes of u at the place of the chunk j of s
@@ -101,46 +98,46 @@ pub record InChunk (s : List ℕ) (j p : ℕ) : Type 0 where
 -- ---- a stream that is cut
 
 -- the refusal of a stream that is cut to c bytes: its header is cut, or its data, or what stands behind the data
-unfoldable pub cut_number : Header → ℕ → ℕ
-cut_number h c = cond (ltb c 48) 5 (cond (ltb c h.end) 8 9)
+unfoldable pub cut_refusal : Header → ℕ → Refusal
+cut_refusal h c = cond (ltb c 48) NoHeader (cond (ltb c h.end) BrokenHeader BrokenTable)
 
 -- what check answers of it at any level
-unfoldable pub cut_answer : ℕ → Header → ℕ → Answer
+unfoldable pub cut_answer : ℕ → Header → ℕ → Result ℕ Refusal
 cut_answer level h c =
-    cond (not (known_level level)) (Refused 1 0)
-    (cond (ltb c 48) (Refused 5 0)
-    (cond (ltb level h.needed) (Refused 7 h.needed)
-    (Refused (cut_number h c) 0)))
+    cond (not (known_level level)) (Err UnknownLevel)
+    (cond (ltb c 48) (Err NoHeader)
+    (cond (ltb level h.needed) (Err (NeedsMinor h.needed))
+    (Err (cut_refusal h c))))
 
 -- some reader accepts the bytes s at a level: check, unpack of a width into some room, or probe of some index, which then shows a pattern
 pub data Accepts (level : ℕ) (s : List ℕ) : Type 0 where
-  by_check : (n : ℕ) → check_answer level s ≡ Done n → Accepts level s
-  by_unpack : (W room n : ℕ) → unpack_answer W level s room ≡ Done n → Accepts level s
-  by_probe32 : (i p : ℕ) → probe_answer32 level s i ≡ shown32 p → Accepts level s
-  by_probe64 : (i p : ℕ) → probe_answer64 level s i ≡ shown64 p → Accepts level s
+  by_check : (n : ℕ) → check_answer level s ≡ Ok n → Accepts level s
+  by_unpack : (W room n : ℕ) → unpack_answer W level s room ≡ Ok n → Accepts level s
+  by_probe32 : (i p : ℕ) → probe_answer32 level s i ≡ Ok (shown32 p) → Accepts level s
+  by_probe64 : (i p : ℕ) → probe_answer64 level s i ≡ Ok (shown64 p) → Accepts level s
 
 -- ---- what no reader may skip
 
 -- every reader refuses s at the level L as too new, and names the needed minor: check, unpack of any width into any room, and probe of any index
 pub record TooNew (L : ℕ) (s : List ℕ) (needed : ℕ) : Type 0 where
-  pub check : check_answer L s ≡ Refused 7 needed
-  pub unpack : (W : ℕ) (back : List ℕ) → (unpack_answer W L s (length back) ≡ Refused 7 needed) × (unpack_out W L s back ≡ back)
-  pub probe32 : (i : ℕ) → probe_answer32 L s i ≡ p32.Refused 7 needed
-  pub probe64 : (i : ℕ) → probe_answer64 L s i ≡ p64.Refused 7 needed
+  pub check : check_answer L s ≡ Err (NeedsMinor needed)
+  pub unpack : (W : ℕ) (back : List ℕ) → (unpack_answer W L s (length back) ≡ Err (NeedsMinor needed)) × (unpack_out W L s back ≡ back)
+  pub probe32 : (i : ℕ) → probe_answer32 L s i ≡ Err (NeedsMinor needed)
+  pub probe64 : (i : ℕ) → probe_answer64 L s i ≡ Err (NeedsMinor needed)
 
 -- the readers of the width W refuse s, which has n values, so at the level L: check, unpack into room for the values, and probe of each
-pub record RefusedBy (W L : ℕ) (s : List ℕ) (n number detail : ℕ) : Type 0 where
-  pub check : check_answer L s ≡ Refused number detail
-  pub unpack : (back : List ℕ) → n ≤ length back → (unpack_answer W L s (length back) ≡ Refused number detail) × (unpack_out W L s back ≡ back)
-  pub probe32 : W ≡ 32 → (i : ℕ) → i < n → probe_answer32 L s i ≡ p32.Refused number detail
-  pub probe64 : W ≡ 64 → (i : ℕ) → i < n → probe_answer64 L s i ≡ p64.Refused number detail
+pub record RefusedBy (W L : ℕ) (s : List ℕ) (n : ℕ) (refusal : Refusal) : Type 0 where
+  pub check : check_answer L s ≡ Err refusal
+  pub unpack : (back : List ℕ) → n ≤ length back → (unpack_answer W L s (length back) ≡ Err refusal) × (unpack_out W L s back ≡ back)
+  pub probe32 : W ≡ 32 → (i : ℕ) → i < n → probe_answer32 L s i ≡ Err refusal
+  pub probe64 : W ≡ 64 → (i : ℕ) → i < n → probe_answer64 L s i ≡ Err refusal
 
--- every reader refuses s at the level L, each by some number and detail: check, unpack of any width into any room, and probe of any index
+-- every reader refuses s at the level L, each by some refusal: check, unpack of any width into any room, and probe of any index
 pub record RefusedByAll (L : ℕ) (s : List ℕ) : Type 0 where
-  pub check : (number : ℕ) × (detail : ℕ) × (check_answer L s ≡ Refused number detail)
-  pub unpack : (W : ℕ) (back : List ℕ) → (number : ℕ) × (detail : ℕ) × (unpack_answer W L s (length back) ≡ Refused number detail) × (unpack_out W L s back ≡ back)
-  pub probe32 : (i : ℕ) → (number : ℕ) × (detail : ℕ) × (probe_answer32 L s i ≡ p32.Refused number detail)
-  pub probe64 : (i : ℕ) → (number : ℕ) × (detail : ℕ) × (probe_answer64 L s i ≡ p64.Refused number detail)
+  pub check : (refusal : Refusal) × (check_answer L s ≡ Err refusal)
+  pub unpack : (W : ℕ) (back : List ℕ) → (refusal : Refusal) × (unpack_answer W L s (length back) ≡ Err refusal) × (unpack_out W L s back ≡ back)
+  pub probe32 : (i : ℕ) → (refusal : Refusal) × (probe_answer32 L s i ≡ Err refusal)
+  pub probe64 : (i : ℕ) → (refusal : Refusal) × (probe_answer64 L s i ≡ Err refusal)
 
 -- what 15 with the detail id tells of any bytes: the tables are right, id is the first high one of the side table, and the needed minor is the right one,
 -- which the level reaches

@@ -10,8 +10,7 @@ ghost use Rattle.stream.specs.Access.{chunk_placed};
 ghost use Rattle.stream.specs.Rows.{first};
 ghost use Rattle.stream.specs.Operations.{chunk_row, chunk_rows, content_rows, own_rows};
 
-use crate::answers::Step;
-use crate::chunk::ChunkAnswer;
+use crate::answers::Refusal;
 use crate::header::Header;
 use crate::{chunk, header, setting, tables};
 
@@ -39,15 +38,7 @@ pub(crate) fn count_at(h: Header, j: usize) -> usize
     requires { j ≤ 1024 }
     ensures { (result ≡ count_of h j) × (result ≤ 1024) }
 {
-    let count = h.count;
-    let before = 1024 * j;
-    if count < before {
-        return 0;
-    }
-    if count - before < 1024 {
-        return count - before;
-    }
-    1024
+    h.count.saturating_sub(1024 * j).min(1024)
 }
 
 // Whether the bytes of a chunk lie within the data.
@@ -66,11 +57,11 @@ pub(crate) fn groups_at(h: Header, j: usize) -> usize
     ensures { (result ≡ groups_in (group_size (setting_in h)) (count_of h j)) × (result ≤ 1024) }
 {
     let size = setting::group_size(header::setting_in(h));
-    (count_at(h, j) + (size - 1)) / size
+    count_at(h, j).div_ceil(size)
 }
 
 // 10, for one chunk. The detail names the chunk and its first bad group.
-pub(crate) fn chunk_step(h: Header, bytes: &[u8], j: usize) -> Step
+pub(crate) fn chunk_step(h: Header, bytes: &[u8], j: usize) -> Result<(), Refusal>
     requires { Opened (length bytes.now) h × (chunk_table_right h bytes.now ≡ true) × (j < h.chunks) }
     ensures { result ≡ first (chunk_row h bytes.now j ∷ []) }
 {
@@ -78,50 +69,36 @@ pub(crate) fn chunk_step(h: Header, bytes: &[u8], j: usize) -> Step
     let part = chunk_at(h, bytes, j);
     let found = chunk::checked(t, part, count_at(h, j));
     match found {
-        ChunkAnswer::Good => Step::Pass,
-        ChunkAnswer::Bad(group) => Step::Stop(10, j * 32 + group),
+        Ok(()) => Ok(()),
+        Err(group) => Err(Refusal::BrokenChunk(j * 32 + group)),
     }
 }
 
 // 10, for every chunk in turn.
-fn chunk_steps(h: Header, bytes: &[u8]) -> Step
+fn chunk_steps(h: Header, bytes: &[u8]) -> Result<(), Refusal>
     requires { Opened (length bytes.now) h × (chunk_table_right h bytes.now ≡ true) }
     ensures { result ≡ first (chunk_rows h bytes.now) }
 {
-    let mut j: usize = 0;
-    while j < h.chunks {
-        let step = chunk_step(h, bytes, j);
-        match step {
-            Step::Pass => {}
-            Step::Stop(number, detail) => {
-                return Step::Stop(number, detail);
-            }
-        }
-        j += 1;
+    for j in 0..h.chunks {
+        chunk_step(h, bytes, j)?;
     }
-    Step::Pass
+    Ok(())
 }
 
 // 9 8 15 10: the tables, then every chunk.
-pub(crate) fn content_step(h: Header, bytes: &[u8]) -> Step
+pub(crate) fn content_step(h: Header, bytes: &[u8]) -> Result<(), Refusal>
     requires { Opened (length bytes.now) h }
     ensures { result ≡ first (content_rows h bytes.now) }
 {
-    let step = tables::table_step(h, bytes);
-    match step {
-        Step::Pass => chunk_steps(h, bytes),
-        Step::Stop(number, detail) => Step::Stop(number, detail),
-    }
+    tables::table_step(h, bytes)?;
+    chunk_steps(h, bytes)
 }
 
 // 9 8 15 10 for probe: the tables, then the chunk of one value.
-pub(crate) fn own_step(h: Header, bytes: &[u8], index: usize) -> Step
+pub(crate) fn own_step(h: Header, bytes: &[u8], index: usize) -> Result<(), Refusal>
     requires { Opened (length bytes.now) h × (index < h.count) }
     ensures { result ≡ first (own_rows h bytes.now index) }
 {
-    let step = tables::table_step(h, bytes);
-    match step {
-        Step::Pass => chunk_step(h, bytes, index / 1024),
-        Step::Stop(number, detail) => Step::Stop(number, detail),
-    }
+    tables::table_step(h, bytes)?;
+    chunk_step(h, bytes, index / 1024)
 }

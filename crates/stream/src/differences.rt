@@ -5,40 +5,21 @@ ghost use Rattle.numbers.specs.Difference.{difference_codes, difference_restored
 ghost use Rattle.blocks.specs.Bytes.{Below};
 ghost use Rattle.stream.specs.Relied.{Allowed};
 
-use crate::group::{Group, Narrow};
+use crate::group::Group;
 use crate::setting::Setting;
 use numbers::difference;
+use words::Word;
 
 // The codes of up to 32 values, as a group.
-pub(crate) fn coded32(before: u32, values: &[u32]) -> Narrow
+pub(crate) fn coded<T: Word>(before: T, values: &[T]) -> Group<T>
     requires { length values.now ≤ 32 }
-    ensures { (result.count ≡ length values.now) × (take result.count result.codes ≡ difference_codes 32 before values.now) }
+    ensures { (result.count ≡ length values.now) × (take result.count (T.values result.codes) ≡ difference_codes T.width (T.value before) (T.values values.now)) }
 {
-    let mut codes = [0u32; 32];
+    let mut codes = [T::of(0); 32];
     let mut last = before;
-    let mut i: usize = 0;
-    while i < values.len() {
-        codes[i] = difference::code32(last, values[i]);
+    for i in 0..values.len() {
+        codes[i] = difference::code(last, values[i]);
         last = values[i];
-        i += 1;
-    }
-    Narrow {
-        count: values.len(),
-        codes,
-    }
-}
-
-pub(crate) fn coded64(before: u64, values: &[u64]) -> Group
-    requires { length values.now ≤ 32 }
-    ensures { (result.count ≡ length values.now) × (take result.count result.codes ≡ difference_codes 64 before values.now) }
-{
-    let mut codes = [0u64; 32];
-    let mut last = before;
-    let mut i: usize = 0;
-    while i < values.len() {
-        codes[i] = difference::code64(last, values[i]);
-        last = values[i];
-        i += 1;
     }
     Group {
         count: values.len(),
@@ -48,31 +29,15 @@ pub(crate) fn coded64(before: u64, values: &[u64]) -> Group
 
 // The patterns of the first four codes, at the front of `out`, and the last of them. The sum is serial; four at a time the codes are unfolded side by
 // side, ahead of it.
-fn four32(before: u32, codes: &[u32], out: &mut [u32]) -> u32
+fn four<T: Word>(before: T, codes: &[T], out: &mut [T]) -> T
     requires { (4 ≤ length codes.now) × (4 ≤ length out.old) }
-    ensures value { result ≡ last_of before (running_sums 32 before (take 4 codes.now)) }
-    ensures out_after { out.new ≡ running_sums 32 before (take 4 codes.now) ++ drop 4 out.old }
+    ensures value { T.value result ≡ last_of (T.value before) (running_sums T.width (T.value before) (take 4 (T.values codes.now))) }
+    ensures out_after { T.values out.new ≡ running_sums T.width (T.value before) (take 4 (T.values codes.now)) ++ drop 4 (T.values out.old) }
 {
-    let a = difference::restored32(before, codes[0]);
-    let b = difference::restored32(a, codes[1]);
-    let c = difference::restored32(b, codes[2]);
-    let d = difference::restored32(c, codes[3]);
-    out[0] = a;
-    out[1] = b;
-    out[2] = c;
-    out[3] = d;
-    d
-}
-
-fn four64(before: u64, codes: &[u64], out: &mut [u64]) -> u64
-    requires { (4 ≤ length codes.now) × (4 ≤ length out.old) }
-    ensures value { result ≡ last_of before (running_sums 64 before (take 4 codes.now)) }
-    ensures out_after { out.new ≡ running_sums 64 before (take 4 codes.now) ++ drop 4 out.old }
-{
-    let a = difference::restored64(before, codes[0]);
-    let b = difference::restored64(a, codes[1]);
-    let c = difference::restored64(b, codes[2]);
-    let d = difference::restored64(c, codes[3]);
+    let a = difference::restored(before, codes[0]);
+    let b = difference::restored(a, codes[1]);
+    let c = difference::restored(b, codes[2]);
+    let d = difference::restored(c, codes[3]);
     out[0] = a;
     out[1] = b;
     out[2] = c;
@@ -81,57 +46,29 @@ fn four64(before: u64, codes: &[u64], out: &mut [u64]) -> u64
 }
 
 // The patterns of the first n codes, at the front of `out`, one by one: what is left behind the fours.
-fn one_by_one32(before: u32, codes: &[u32], n: usize, out: &mut [u32])
+fn one_by_one<T: Word>(before: T, codes: &[T], n: usize, out: &mut [T])
     requires { (n ≤ length codes.now) × (n ≤ length out.old) }
-    ensures { out.new ≡ running_sums 32 before (take n codes.now) ++ drop n out.old }
+    ensures { T.values out.new ≡ running_sums T.width (T.value before) (take n (T.values codes.now)) ++ drop n (T.values out.old) }
 {
     let mut last = before;
-    let mut i: usize = 0;
-    while i < n {
-        last = difference::restored32(last, codes[i]);
+    for i in 0..n {
+        last = difference::restored(last, codes[i]);
         out[i] = last;
-        i += 1;
-    }
-}
-
-fn one_by_one64(before: u64, codes: &[u64], n: usize, out: &mut [u64])
-    requires { (n ≤ length codes.now) × (n ≤ length out.old) }
-    ensures { out.new ≡ running_sums 64 before (take n codes.now) ++ drop n out.old }
-{
-    let mut last = before;
-    let mut i: usize = 0;
-    while i < n {
-        last = difference::restored64(last, codes[i]);
-        out[i] = last;
-        i += 1;
     }
 }
 
 // The patterns of the first n codes, at the front of `out`, four at a time.
-pub(crate) fn put_sums32(before: u32, codes: &[u32], n: usize, out: &mut [u32])
+pub(crate) fn put_sums<T: Word>(before: T, codes: &[T], n: usize, out: &mut [T])
     requires { (n ≤ length codes.now) × (n ≤ length out.old) }
-    ensures { out.new ≡ running_sums 32 before (take n codes.now) ++ drop n out.old }
+    ensures { T.values out.new ≡ running_sums T.width (T.value before) (take n (T.values codes.now)) ++ drop n (T.values out.old) }
 {
+    let fours = n / 4;
     let mut last = before;
-    let mut i: usize = 0;
-    while i + 4 <= n {
-        last = four32(last, &codes[i..], &mut out[i..]);
-        i += 4;
+    for k in 0..fours {
+        last = four(last, &codes[4 * k..], &mut out[4 * k..]);
     }
-    one_by_one32(last, &codes[i..], n - i, &mut out[i..]);
-}
-
-pub(crate) fn put_sums64(before: u64, codes: &[u64], n: usize, out: &mut [u64])
-    requires { (n ≤ length codes.now) × (n ≤ length out.old) }
-    ensures { out.new ≡ running_sums 64 before (take n codes.now) ++ drop n out.old }
-{
-    let mut last = before;
-    let mut i: usize = 0;
-    while i + 4 <= n {
-        last = four64(last, &codes[i..], &mut out[i..]);
-        i += 4;
-    }
-    one_by_one64(last, &codes[i..], n - i, &mut out[i..]);
+    let done = 4 * fours;
+    one_by_one(last, &codes[done..], n - done, &mut out[done..]);
 }
 
 // The pattern of one code, in a word of either width.
@@ -140,9 +77,9 @@ fn next(t: Setting, before: u64, c: u64) -> u64
     ensures { result ≡ difference_restored t.width before c }
 {
     if t.width == 32 {
-        difference::restored32(before as u32, c as u32) as u64
+        difference::restored(before as u32, c as u32) as u64
     } else {
-        difference::restored64(before, c)
+        difference::restored(before, c)
     }
 }
 
@@ -152,10 +89,8 @@ pub(crate) fn last_sum(t: Setting, before: u64, codes: &[u64], n: usize) -> u64
     ensures { result ≡ last_of before (running_sums t.width before (take n codes.now)) }
 {
     let mut last = before;
-    let mut i: usize = 0;
-    while i < n {
-        last = next(t, last, codes[i]);
-        i += 1;
+    for c in &codes[..n] {
+        last = next(t, last, *c);
     }
     last
 }

@@ -5,9 +5,9 @@ ghost use Rattle.std.specs.Float.Ieee.{size};
 ghost use Rattle.stream.specs.Group.{bytes_for, width_of, given_width, group_length, group_codes, within, group_answer};
 ghost use Rattle.stream.specs.Block.{block_codes};
 
-use crate::group::GroupAnswer;
 use crate::{group, group_read};
 use blocks::{block32, block64, bytes};
+use words::Word;
 
 // Whether a code is as wide as w: width less leading zeros is its bit length.
 fn as_wide(code: u64, w: usize) -> bool
@@ -42,12 +42,11 @@ fn reached_by_four(s: &[u8], w: usize) -> bool
     requires { (1 ≤ w) × (w ≤ 64) × (4 * w + 10 ≤ length s.now) }
     ensures { result ≡ eqb w (width_of (block_codes w 32 s.now)) }
 {
-    let mut i: usize = 0;
-    while i < 8 {
+    // Tried as `(0..8).any(..)`: check of groups of 32 took 5 to 9 % longer.
+    for i in 0..8 {
         if as_wide(four_codes(s, i, w), w) {
             return true;
         }
-        i += 1;
     }
     false
 }
@@ -62,7 +61,7 @@ fn block_width(s: &[u8], w: usize, n: usize) -> usize
             if w <= 32 {
                 let mut narrow = [0u32; 32];
                 block32::opened32(s, w, &mut narrow);
-                return group::width32(&narrow);
+                return group::width(&narrow);
             }
             let mut codes = [0u64; 32];
             block64::opened64(s, w, &mut codes);
@@ -81,8 +80,9 @@ fn blocks_reached(s: &[u8], w: usize, n: usize) -> bool
 {
     let mut from: usize = 0;
     let mut left = n;
+    // Tried as `for i in 0..n.div_ceil(32)`: the first block mostly settles it, and this function took a third more instructions.
     while 0 < left {
-        let count = group_read::block_count(left);
+        let count = usize::min(32, left);
         if block_width(&s[from..], w, count) == w {
             return true;
         }
@@ -106,28 +106,13 @@ fn smallest(s: &[u8], n: usize, w: usize) -> bool
 }
 
 // Whether no code's u, its half, is above the limit.
-fn limited(codes: &[u64], limit: u64) -> bool
-    ensures { result ≡ within limit codes.now }
+fn limited<T: Word>(codes: &[T], limit: u64) -> bool
+    ensures { result ≡ within limit (T.values codes.now) }
 {
-    let mut i: usize = 0;
-    while i < codes.len() {
-        if limit < codes[i] / 2 {
+    for code in codes {
+        if limit < code.wide() / 2 {
             return false;
         }
-        i += 1;
-    }
-    true
-}
-
-fn limited32(codes: &[u32], limit: u64) -> bool
-    ensures { result ≡ within limit codes.now }
-{
-    let mut i: usize = 0;
-    while i < codes.len() {
-        if limit < (codes[i] as u64) / 2 {
-            return false;
-        }
-        i += 1;
     }
     true
 }
@@ -140,7 +125,7 @@ fn full_limited(s: &[u8], w: usize, limit: u64) -> bool
     if w <= 32 {
         let mut narrow = [0u32; 32];
         block32::opened32(s, w, &mut narrow);
-        return limited32(&narrow, limit);
+        return limited(&narrow, limit);
     }
     let mut codes = [0u64; 32];
     block64::opened64(s, w, &mut codes);
@@ -170,8 +155,9 @@ fn blocks_limited(s: &[u8], w: usize, n: usize, limit: u64) -> bool
 {
     let mut from: usize = 0;
     let mut left = n;
+    // Tried as `for i in 0..n.div_ceil(32)`, which costs here what it costs in blocks_reached.
     while 0 < left {
-        let count = group_read::block_count(left);
+        let count = usize::min(32, left);
         if !block_limited(&s[from..], w, count, limit) {
             return false;
         }
@@ -197,34 +183,35 @@ fn limit_kept(s: &[u8], n: usize, w: usize, limit: u64) -> bool
     blocks_limited(s, w, n, limit)
 }
 
-// Refusal 10's rules for the group at the front of `s`. The width is tested before it is multiplied; the padding is the highest bits of the last byte.
-pub(crate) fn checked(s: &[u8], n: usize, width: u32, limit: u64) -> GroupAnswer
+// How many bytes the group at the front of `s` has, if it keeps the rules of refusal 10. The width is tested before it is multiplied; the padding is the
+// highest bits of the last byte.
+pub(crate) fn checked(s: &[u8], n: usize, width: u32, limit: u64) -> Option<usize>
     requires { (n ≤ 128) × (width ≤ 64) }
     ensures { result ≡ group_answer width limit n s.now }
 {
     if s.len() == 0 {
-        return GroupAnswer::Bad;
+        return None;
     }
     let w = bytes::wide(s[0]) as usize;
     if (width as usize) < w {
-        return GroupAnswer::Bad;
+        return None;
     }
     let bits = w * n;
     let end = (bits + 7) / 8;
     if s.len() <= end {
-        return GroupAnswer::Bad;
+        return None;
     }
     if w == 0 {
-        return GroupAnswer::Good(1);
+        return Some(1);
     }
     if bytes::wide(s[end]) >> (8 + bits - 8 * end) != 0 {
-        return GroupAnswer::Bad;
+        return None;
     }
     if !smallest(s, n, w) {
-        return GroupAnswer::Bad;
+        return None;
     }
     if !limit_kept(s, n, w, limit) {
-        return GroupAnswer::Bad;
+        return None;
     }
-    GroupAnswer::Good(1 + end)
+    Some(1 + end)
 }

@@ -2,14 +2,14 @@
 ghost use Rattle.std.specs.Prelude.{◌≡◌, ◌+◌, ◌^◌, ◌≤◌, ◌<◌, length};
 ghost use Rattle.stream.specs.Header.{word, header_of, k_of, said_mode, said_size, setting_in, setting_right, layout_right};
 ghost use Rattle.stream.specs.Relied.{Words, Allowed, Settled};
-ghost use Rattle.stream.specs.Rows.{first};
+ghost use Rattle.stream.specs.Rows.{first, answer};
 ghost use Rattle.stream.specs.Operations.{header_rows, opening_rows};
 ghost use Rattle.stream.specs.Access.{header_right};
-ghost use Rattle.stream.specs.Opening.{opened_by};
 
-use crate::answers::Step;
+use crate::answers::Refusal;
 use crate::setting;
 use crate::setting::Setting;
+use blocks::bytes as fields;
 use numbers::signed;
 
 // The numbers of the table "at | number" of document 01, in its order. `exponent` has the bits of k, and the three places are `table`,
@@ -30,26 +30,12 @@ pub struct Header {
     pub end: usize,
 }
 
-// What opening a stream finds: its header, or the first refusal that is given.
-#[derive(Drop)]
-pub enum Opening {
-    Open(Header),
-    Shut(usize, usize),
-}
-
-fn byte(b: u8) -> usize
-    ensures { (result ≡ b) × (result < 256) }
-{
-    b as usize
-}
-
 // The 32-bit little-endian number at a byte place.
 pub(crate) fn word_at(bytes: &[u8], at: usize) -> usize
     requires { at + 4 ≤ length bytes.now }
     ensures { (result ≡ word bytes.now at) × (result < 2 ^ 32) }
 {
-    byte(bytes[at])
-        + 256 * (byte(bytes[at + 1]) + 256 * (byte(bytes[at + 2]) + 256 * byte(bytes[at + 3])))
+    fields::quad(bytes, at) as usize
 }
 
 pub(crate) fn header_of(bytes: &[u8]) -> Header
@@ -130,7 +116,7 @@ fn layout_right(size: usize, h: Header) -> bool
     ensures { result ≡ layout_right size h }
 {
     !(1048576 < h.count)
-        & (h.chunks == (h.count + 1023) / 1024)
+        & (h.chunks == h.count.div_ceil(1024))
         & (h.table == 48)
         & (h.start == 48 + 4 * h.chunks)
         & (h.sides <= 64)
@@ -150,43 +136,34 @@ pub(crate) fn right(bytes: &[u8]) -> bool
 }
 
 // 6 7 8
-fn header_step(level: usize, size: usize, h: Header) -> Step
+fn header_step(level: usize, size: usize, h: Header) -> Result<(), Refusal>
     requires { Words h }
     ensures { result ≡ first (header_rows level size h) }
 {
     let needed = h.needed;
     if h.major != 1 {
-        return Step::Stop(6, 0);
+        return Err(Refusal::OtherMajor);
     }
     if level < needed {
-        return Step::Stop(7, needed);
+        return Err(Refusal::NeedsMinor(needed));
     }
     if setting_right(h) & layout_right(size, h) {
-        return Step::Pass;
+        return Ok(());
     }
-    Step::Stop(8, 0)
-}
-
-// What rows behind the header find, with the header where none is given.
-pub(crate) fn opening_of(step: Step, h: Header) -> Opening
-    ensures { result ≡ opened_by step h }
-{
-    match step {
-        Step::Pass => Opening::Open(h),
-        Step::Stop(number, detail) => Opening::Shut(number, detail),
-    }
+    Err(Refusal::BrokenHeader)
 }
 
 // 1 5 6 7 8: what every reader begins with; and the header where none of them is given, so that a reader has it from here.
-pub fn opened(level: usize, bytes: &[u8]) -> Opening
-    ensures { result ≡ opened_by (first (opening_rows level bytes.now)) (header_of bytes.now) }
+pub fn opened(level: usize, bytes: &[u8]) -> Result<Header, Refusal>
+    ensures { result ≡ answer (first (opening_rows level bytes.now)) (header_of bytes.now) }
 {
     if !setting::known_level(level) {
-        return Opening::Shut(1, 0);
+        return Err(Refusal::UnknownLevel);
     }
     if bytes.len() < 48 {
-        return Opening::Shut(5, 0);
+        return Err(Refusal::NoHeader);
     }
     let h = header_of(bytes);
-    opening_of(header_step(level, bytes.len(), h), h)
+    header_step(level, bytes.len(), h)?;
+    Ok(h)
 }

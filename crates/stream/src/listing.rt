@@ -7,7 +7,6 @@ ghost use Rattle.stream.specs.Stream.{joined};
 ghost use Rattle.stream.specs.Listing.{digit, decimal, signed_decimal, labelled, format_line, setting_line, count_line, chunk_line};
 ghost use Rattle.stream.specs.Listing.{stream_lines, refused_line, listing, Appends};
 
-use crate::answers::Answer;
 use crate::header::Header;
 use crate::{chunks, header, reading, setting, tables};
 use numbers::signed;
@@ -28,13 +27,8 @@ fn put_text(piece: &[u8], text: &mut [u8], at: usize) -> usize
     requires { at + length piece.now ≤ length text.old }
     ensures { Appends piece.now at result text.old text.new }
 {
-    let mut next = at;
-    let mut i: usize = 0;
-    while i < piece.len() {
-        next = put_byte(piece[i], text, next);
-        i += 1;
-    }
-    next
+    text[at..at + piece.len()].copy_from_slice(piece);
+    at + piece.len()
 }
 
 fn put_digit(d: usize, text: &mut [u8], at: usize) -> usize
@@ -131,10 +125,8 @@ fn put_chunk_lines(h: Header, bytes: &[u8], text: &mut [u8], at: usize) -> usize
     ensures { Appends (joined (chunk_line h bytes.now) h.chunks) at result text.old text.new }
 {
     let mut next = at;
-    let mut j: usize = 0;
-    while j < h.chunks {
+    for j in 0..h.chunks {
         next = put_chunk_line(h, bytes, j, text, next);
-        j += 1;
     }
     next
 }
@@ -169,8 +161,8 @@ fn put_listing(bytes: &[u8], text: &mut [u8]) -> usize
     }
     let found = reading::check(setting::HIGHEST_LEVEL, bytes);
     match found {
-        Answer::Done(_) => put_stream(bytes, text),
-        Answer::Refused(number, detail) => put_refused_line(number, detail, text),
+        Ok(_) => put_stream(bytes, text),
+        Err(refusal) => put_refused_line(refusal.number(), refusal.detail(), text),
     }
 }
 

@@ -4,7 +4,6 @@ ghost use Rattle.stream.specs.Access.{chunk_there, chunk_fits, chunk_read, chunk
 ghost use Rattle.stream.specs.Lent.{chosen};
 ghost use Rattle.stream.specs.Relied.{Opened};
 
-use crate::answers::ChunkRead;
 use crate::header::Header;
 use crate::{chunk, chunks, header, restore};
 
@@ -32,7 +31,7 @@ fn there(h: Header, bytes: &[u8], j: usize) -> bool
     chunk::whole(t, part, chunks::count_at(h, j))
 }
 
-// The values at the front of the output of the width; where the chunk is not there, it is as it was.
+// How many values the chunk has, if it is there; they land at the front of the output of the width, which else is as it was.
 fn read(
     width: usize,
     bytes: &[u8],
@@ -42,26 +41,26 @@ fn read(
     c64: &mut [u64],
     o32: &mut [u32],
     o64: &mut [u64],
-) -> ChunkRead
+) -> Option<usize>
     requires { (room ≡ length (chosen width o32.old o64.old)) × (128 ≤ length (chosen width c32.old c64.old)) }
     ensures value { result ≡ chunk_read width bytes.now j (length (chosen width o32.old o64.old)) }
     ensures o64_after { chosen width o32.new o64.new ≡ chunk_out width bytes.now j (chosen width o32.old o64.old) }
 {
     if !header::right(bytes) {
-        return ChunkRead::NotThere;
+        return None;
     }
     let h = header::header_of(bytes);
     if !fits(width, h, j, room) {
-        return ChunkRead::NotThere;
+        return None;
     }
     if !there(h, bytes, j) {
-        return ChunkRead::NotThere;
+        return None;
     }
     restore::restore_chunk(h, bytes, j, 0, c32, c64, o32, o64);
-    ChunkRead::Read(chunks::count_at(h, j))
+    Some(chunks::count_at(h, j))
 }
 
-pub fn values32(bytes: &[u8], j: usize, out: &mut [u32]) -> ChunkRead
+pub fn values32(bytes: &[u8], j: usize, out: &mut [u32]) -> Option<usize>
     ensures value { result ≡ chunk_read 32 bytes.now j (length out.old) }
     ensures out_after { out.new ≡ chunk_out 32 bytes.now j out.old }
 {
@@ -72,7 +71,7 @@ pub fn values32(bytes: &[u8], j: usize, out: &mut [u32]) -> ChunkRead
     read(32, bytes, j, room, &mut c32, &mut c64, out, &mut none)
 }
 
-pub fn values64(bytes: &[u8], j: usize, out: &mut [u64]) -> ChunkRead
+pub fn values64(bytes: &[u8], j: usize, out: &mut [u64]) -> Option<usize>
     ensures value { result ≡ chunk_read 64 bytes.now j (length out.old) }
     ensures out_after { out.new ≡ chunk_out 64 bytes.now j out.old }
 {

@@ -10,29 +10,36 @@ ghost use Rattle.stream.specs.Writing.{spell, piece, data_of, header_numbers, en
 ghost use Rattle.stream.specs.Packing.{most_bytes, short_row};
 ghost use Rattle.stream.specs.Operations.{length_rows, length_answer, pack_answer, pack_out};
 
-use crate::answers::{Answer, Step};
+use crate::answers::{Answer, Refusal};
 use crate::setting::Setting;
 use crate::{chunk, lent, setting};
 use blocks::bytes;
 
 // 1 2 3: what is refused before a value is looked at.
-fn length_step(width: usize, level: usize, mode: usize, k: i32, size: usize, n: usize) -> Step
+fn length_step(
+    width: usize,
+    level: usize,
+    mode: usize,
+    k: i32,
+    size: usize,
+    n: usize,
+) -> Result<(), Refusal>
     requires { known_width width ≡ true }
     ensures { result ≡ first (length_rows width level mode k size n) }
 {
     if !setting::known_level(level) {
-        return Step::Stop(1, 0);
+        return Err(Refusal::UnknownLevel);
     }
     if !setting::allowed(width, mode, k, size) {
-        return Step::Stop(2, 0);
+        return Err(Refusal::NotAllowed);
     }
     if level < setting::need_of(setting::setting_of(width, mode, k, size)) {
-        return Step::Stop(2, 0);
+        return Err(Refusal::NotAllowed);
     }
     if 1048576 < n {
-        return Step::Stop(3, 0);
+        return Err(Refusal::TooManyValues);
     }
-    Step::Pass
+    Ok(())
 }
 
 // "chunk count c = n/1024 rounded up"
@@ -40,7 +47,7 @@ fn chunks_of(n: usize) -> usize
     requires { n ≤ 1048576 }
     ensures { (result ≡ chunks_in n) × (result ≤ 1024) }
 {
-    (n + 1023) / 1024
+    n.div_ceil(1024)
 }
 
 // The longest that a stream of n values gets.
@@ -49,15 +56,7 @@ fn most(t: Setting, n: usize) -> usize
     ensures { result ≡ most_bytes t n }
 {
     let size = setting::group_size(t);
-    48 + 4 * chunks_of(n) + (n + (size - 1)) / size + n * (t.width as usize) / 8
-}
-
-// Where the chunk ends that starts at `from`, of n values.
-fn piece_end(from: usize, n: usize) -> usize
-    requires { from ≤ n }
-    ensures { result ≡ from + min 1024 (n - from) }
-{
-    if n - from < 1024 { n } else { from + 1024 }
+    48 + 4 * chunks_of(n) + n.div_ceil(size) + n * (t.width as usize) / 8
 }
 
 // A number in 4 bytes, lowest first.
@@ -72,7 +71,7 @@ fn put_word(out: &mut [u8], at: usize, n: u32)
 fn number_at(numbers: &[u32], i: usize) -> u32
     ensures { result ≡ get_or numbers.now i 0 }
 {
-    if i < numbers.len() { numbers[i] } else { 0 }
+    numbers.get(i).copied().unwrap_or(0)
 }
 
 // The numbers and then zeros, `count` in all, in 4 bytes each.
@@ -80,10 +79,8 @@ fn put_numbers(numbers: &[u32], count: usize, out: &mut [u8])
     requires { (length numbers.now ≤ count) × (4 * count ≤ length out.old) }
     ensures { out.new ≡ spell (numbers.now ++ replicate (count - length numbers.now) 0) ++ drop (4 * count) out.old }
 {
-    let mut i: usize = 0;
-    while i < count {
+    for i in 0..count {
         put_word(out, 4 * i, number_at(numbers, i));
-        i += 1;
     }
 }
 
@@ -116,8 +113,8 @@ fn part32(values: &[u32], j: usize) -> &[u32]
     requires { j ≤ 1024 }
     ensures { result.now ≡ piece values.now j }
 {
-    let from = lent::least(1024 * j, values.len());
-    let to = piece_end(from, values.len());
+    let from = usize::min(1024 * j, values.len());
+    let to = usize::min(from + 1024, values.len());
     &values[from..to]
 }
 
@@ -125,8 +122,8 @@ fn part64(values: &[u64], j: usize) -> &[u64]
     requires { j ≤ 1024 }
     ensures { result.now ≡ piece values.now j }
 {
-    let from = lent::least(1024 * j, values.len());
-    let to = piece_end(from, values.len());
+    let from = usize::min(1024 * j, values.len());
+    let to = usize::min(from + 1024, values.len());
     &values[from..to]
 }
 
@@ -137,27 +134,32 @@ fn measured(t: Setting, v32: &[u32], v64: &[u64], c32: &mut [u32], n: usize) -> 
 {
     let chunks = chunks_of(n);
     let mut end = 48 + 4 * chunks;
-    let mut j: usize = 0;
-    while j < chunks {
+    for j in 0..chunks {
         end += chunk::measured(t, part32(v32, j), part64(v64, j), c32);
-        j += 1;
     }
     end
 }
 
 // 4. An output as long as the longest stream of so many values needs no measuring pass.
-fn room_step(t: Setting, v32: &[u32], v64: &[u64], c32: &mut [u32], n: usize, room: usize) -> Step
+fn room_step(
+    t: Setting,
+    v32: &[u32],
+    v64: &[u64],
+    c32: &mut [u32],
+    n: usize,
+    room: usize,
+) -> Result<(), Refusal>
     requires { Allowed t × (n ≡ length (chosen t.width v32.now v64.now)) × (n ≤ 1048576) × (min 1024 (length v32.now) ≤ length c32.old) }
     ensures { result ≡ first (short_row t (chosen t.width v32.now v64.now) room ∷ []) }
 {
     if most(t, n) <= room {
-        return Step::Pass;
+        return Ok(());
     }
     let needed = measured(t, v32, v64, c32, n);
     if room < needed {
-        return Step::Stop(4, needed);
+        return Err(Refusal::NoRoom(needed));
     }
-    Step::Pass
+    Ok(())
 }
 
 // Where the first j chunks stand: chunk j, whose start is known, its start into the table and its bytes behind them. The next chunk's start is returned.
@@ -199,10 +201,8 @@ fn written(
     let chunks = chunks_of(n);
     put_front(level, t, n, out);
     let mut start: usize = 0;
-    let mut j: usize = 0;
-    while j < chunks {
+    for j in 0..chunks {
         start = put_chunk(t, v32, v64, c32, j, start, out);
-        j += 1;
     }
     let end = 48 + 4 * chunks + start;
     put_word(out, 44, end as u32);
@@ -224,19 +224,16 @@ fn measured_or_refused(
     requires { (known_width width ≡ true) × (n ≡ length (chosen width v32.now v64.now)) × (min 1024 (length v32.now) ≤ length c32.old) }
     ensures { result ≡ length_answer width level mode k size (chosen width v32.now v64.now) }
 {
-    let refused = length_step(
+    length_step(
         width as usize,
         level as usize,
         mode as usize,
         k,
         size as usize,
         n,
-    );
-    if let Step::Stop(number, detail) = refused {
-        return Answer::Refused(number, detail);
-    }
+    )?;
     let t = setting::setting_at(level, width as usize, mode as usize, k, size as usize);
-    Answer::Done(measured(t, v32, v64, c32, n))
+    Ok(measured(t, v32, v64, c32, n))
 }
 
 // The packed stream at the front of `out`; on a refusal the output is as it was.
@@ -256,23 +253,17 @@ fn packed_or_refused(
     ensures value { result ≡ pack_answer width level mode k size (chosen width v32.now v64.now) (length out.old) }
     ensures out_after { out.new ≡ pack_out width level mode k size (chosen width v32.now v64.now) out.old }
 {
-    let refused = length_step(
+    length_step(
         width as usize,
         level as usize,
         mode as usize,
         k,
         size as usize,
         n,
-    );
-    if let Step::Stop(number, detail) = refused {
-        return Answer::Refused(number, detail);
-    }
+    )?;
     let t = setting::setting_at(level, width as usize, mode as usize, k, size as usize);
-    let short = room_step(t, v32, v64, c32, n, out.len());
-    if let Step::Stop(number, detail) = short {
-        return Answer::Refused(number, detail);
-    }
-    Answer::Done(written(level, t, v32, v64, c32, n, out))
+    room_step(t, v32, v64, c32, n, out.len())?;
+    Ok(written(level, t, v32, v64, c32, n, out))
 }
 
 // How many bytes pack would use.

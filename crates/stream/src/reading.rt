@@ -1,55 +1,45 @@
 // The operations that read a whole stream: check and unpack.
 ghost use Rattle.std.specs.Prelude.{◌≡◌, ◌≤◌, length};
-ghost use Rattle.stream.specs.Rows.{first};
+ghost use Rattle.stream.specs.Rows.{first, answer};
 ghost use Rattle.stream.specs.Header.{header_of};
 ghost use Rattle.stream.specs.Lent.{chosen};
-ghost use Rattle.stream.specs.Opening.{opened_by};
 ghost use Rattle.stream.specs.Operations.{check_rows, check_answer, unpack_rows, unpack_answer, unpack_out};
 
-use crate::answers::Answer;
-use crate::header::Opening;
+use crate::answers::{Answer, Refusal};
+use crate::header::Header;
 use crate::{chunks, header, restore};
 
 // 1 5 6 7 8 9 8 15 10, and the header where none of them is given: what a library above this one begins with.
-pub fn check_opening(level: usize, bytes: &[u8]) -> Opening
-    ensures { result ≡ opened_by (first (check_rows level bytes.now)) (header_of bytes.now) }
+pub fn check_opening(level: usize, bytes: &[u8]) -> Result<Header, Refusal>
+    ensures { result ≡ answer (first (check_rows level bytes.now)) (header_of bytes.now) }
 {
-    let opening = header::opened(level, bytes);
-    match opening {
-        Opening::Open(h) => header::opening_of(chunks::content_step(h, bytes), h),
-        Opening::Shut(number, detail) => Opening::Shut(number, detail),
-    }
+    let h = header::opened(level, bytes)?;
+    chunks::content_step(h, bytes)?;
+    Ok(h)
 }
 
 // Reads a whole stream, and hands out nothing but how many values it has.
 pub fn check(level: u32, bytes: &[u8]) -> Answer
     ensures { result ≡ check_answer level bytes.now }
 {
-    let opening = check_opening(level as usize, bytes);
-    match opening {
-        Opening::Open(h) => Answer::Done(h.count),
-        Opening::Shut(number, detail) => Answer::Refused(number, detail),
-    }
+    let h = check_opening(level as usize, bytes)?;
+    Ok(h.count)
 }
 
 // 1 5 6 7 8 14 4 9 8 15 10. Every chunk is checked here, before the first value is written: a refused unpack leaves the output as it was.
-fn unpack_opening(width: usize, level: usize, bytes: &[u8], room: usize) -> Opening
-    ensures { result ≡ opened_by (first (unpack_rows width level bytes.now room)) (header_of bytes.now) }
+fn unpack_opening(width: usize, level: usize, bytes: &[u8], room: usize) -> Result<Header, Refusal>
+    ensures { result ≡ answer (first (unpack_rows width level bytes.now room)) (header_of bytes.now) }
 {
-    let opening = header::opened(level, bytes);
-    match opening {
-        Opening::Open(h) => {
-            let count = h.count;
-            if h.width != width {
-                return Opening::Shut(14, 0);
-            }
-            if room < count {
-                return Opening::Shut(4, count);
-            }
-            header::opening_of(chunks::content_step(h, bytes), h)
-        }
-        Opening::Shut(number, detail) => Opening::Shut(number, detail),
+    let h = header::opened(level, bytes)?;
+    let count = h.count;
+    if h.width != width {
+        return Err(Refusal::OtherWidth);
     }
+    if room < count {
+        return Err(Refusal::NoRoom(count));
+    }
+    chunks::content_step(h, bytes)?;
+    Ok(h)
 }
 
 // The values at the front of the output of the width; on a refusal it is as it was.
@@ -67,14 +57,9 @@ fn unpacked_or_refused(
     ensures value { result ≡ unpack_answer width level bytes.now (length (chosen width o32.old o64.old)) }
     ensures o64_after { chosen width o32.new o64.new ≡ unpack_out width level bytes.now (chosen width o32.old o64.old) }
 {
-    let opening = unpack_opening(width, level, bytes, room);
-    match opening {
-        Opening::Open(h) => {
-            restore::restore(h, bytes, c32, c64, o32, o64);
-            Answer::Done(h.count)
-        }
-        Opening::Shut(number, detail) => Answer::Refused(number, detail),
-    }
+    let h = unpack_opening(width, level, bytes, room)?;
+    restore::restore(h, bytes, c32, c64, o32, o64);
+    Ok(h.count)
 }
 
 pub fn unpack32(level: u32, bytes: &[u8], out: &mut [u32]) -> Answer

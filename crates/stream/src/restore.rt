@@ -1,15 +1,13 @@
 // The values of a stream that was accepted: each chunk's land in their own stretch of the lent output.
-ghost use Rattle.std.specs.Prelude.{◌≡◌, true, ◌++◌, ◌*◌, ◌+◌, ◌/◌, ◌≤◌, ◌<◌, length, drop};
+ghost use Rattle.std.specs.Prelude.{◌≡◌, Ok, true, ◌++◌, ◌*◌, ◌+◌, ◌/◌, ◌≤◌, ◌<◌, length, drop};
 ghost use Rattle.stream.specs.Setting.{group_size};
-ghost use Rattle.stream.specs.Chunk.{whole_chunk};
+ghost use Rattle.stream.specs.Chunk.{good, whole_chunk};
 ghost use Rattle.stream.specs.Header.{setting_in};
 ghost use Rattle.stream.specs.Lent.{chosen, landed};
 ghost use Rattle.stream.specs.Stream.{count_of, chunk_of, chunk_state, chunk_values, values_in, value_in};
 ghost use Rattle.stream.specs.Rows.{first};
 ghost use Rattle.stream.specs.Operations.{chunk_rows};
 ghost use Rattle.stream.specs.Relied.{Placed, Opened, Readable};
-ghost use Rattle.stream.specs.declared.answers.Step.TheVariants.{Pass};
-ghost use Rattle.stream.specs.declared.chunk.ChunkAnswer.TheVariants.{Good};
 
 use crate::header::Header;
 use crate::{chunk, chunks, header, lent};
@@ -32,8 +30,8 @@ pub(crate) fn restore_chunk(
     let t = header::setting_in(h);
     let n = chunks::count_at(h, j);
     let part = chunks::chunk_on(h, bytes, j);
-    let a32 = lent::least(place, o32.len());
-    let a64 = lent::least(place, o64.len());
+    let a32 = usize::min(place, o32.len());
+    let a64 = usize::min(place, o64.len());
     chunk::restored(t, part, n, c32, c64, &mut o32[a32..], &mut o64[a64..]);
 }
 
@@ -46,19 +44,17 @@ pub(crate) fn restore(
     o32: &mut [u32],
     o64: &mut [u64],
 )
-    requires { Readable h.width h bytes.now × (first (chunk_rows h bytes.now) ≡ Pass) × (h.count ≤ length (chosen h.width o32.old o64.old)) × (128 ≤ length (chosen h.width c32.old c64.old)) }
+    requires { Readable h.width h bytes.now × (first (chunk_rows h bytes.now) ≡ Ok tt) × (h.count ≤ length (chosen h.width o32.old o64.old)) × (128 ≤ length (chosen h.width c32.old c64.old)) }
     ensures { chosen h.width o32.new o64.new ≡ values_in h bytes.now ++ drop h.count (chosen h.width o32.old o64.old) }
 {
-    let mut j: usize = 0;
-    while j < h.chunks {
+    for j in 0..h.chunks {
         restore_chunk(h, bytes, j, 1024 * j, c32, c64, o32, o64);
-        j += 1;
     }
 }
 
 // One value, by its index, from its own chunk.
 pub(crate) fn value_at(h: Header, bytes: &[u8], i: usize) -> u64
-    requires { Readable h.width h bytes.now × (i < h.count) × (chunk_state h bytes.now (i / 1024) ≡ Good) }
+    requires { Readable h.width h bytes.now × (i < h.count) × (chunk_state h bytes.now (i / 1024) ≡ good) }
     ensures { result ≡ value_in h bytes.now i }
 {
     let j = i / 1024;

@@ -1,14 +1,11 @@
 // Levels and settings: what a level knows, how a setting is made from a call or a header, and what it says of codes.
-ghost use Rattle.std.specs.Prelude.{◌≡◌, true, ◌^◌, ◌≤◌, ◌<◌};
-ghost use Rattle.std.proofs.Math.IntN.{sub_ℕ};
+ghost use Rattle.std.specs.Prelude.{◌≡◌, true, ◌≤◌, ◌<◌};
 ghost use Rattle.bins.specs.Answers.{bin_answer};
-ghost use Rattle.numbers.specs.Signed.{bits_of};
 ghost use Rattle.stream.specs.Setting.{known_level, known_width, fraction_bits, need, stream_need, allowed_mode, allowed_setting, bin_for, setting_of, halves_at, setting_at};
 ghost use Rattle.stream.specs.Setting.{mode_number, k_bits, group_size, limit_of};
 ghost use Rattle.stream.specs.Relied.{Allowed};
 
 use bins::bin;
-use bins::bin::BinAnswer;
 
 // What everything below the header wants of a setting: natural numbers, with the bin for k. `halves` is the rule for them, which coding alone asks.
 #[derive(Clone, Copy)]
@@ -35,14 +32,14 @@ pub(crate) fn known_width(width: usize) -> bool
 }
 
 // The bin of k at a width, by the number rules of that width.
-fn bin_at(width: usize, k: i32) -> BinAnswer
+fn bin_at(width: usize, k: i32) -> Option<u32>
     requires { known_width width ≡ true }
     ensures { result ≡ bin_answer width (fraction_bits width) k }
 {
     if width == 32 {
-        return bin::bin32(k);
+        return bin::bin::<u32>(k);
     }
-    bin::bin64(k)
+    bin::bin::<u64>(k)
 }
 
 // Whether a mode is allowed, with its k.
@@ -51,11 +48,7 @@ fn allowed_mode(width: usize, mode: usize, k: i32) -> bool
     ensures { result ≡ allowed_mode width mode k }
 {
     if mode == 1 {
-        let bin = bin_at(width, k);
-        return match bin {
-            BinAnswer::Bin(_) => true,
-            BinAnswer::NotAllowed => false,
-        };
+        return bin_at(width, k).is_some();
     }
     ((mode == 0) | (mode == 2)) & (k == 0)
 }
@@ -76,11 +69,7 @@ fn bin_for(width: usize, mode: usize, k: i32) -> u32
     if mode != 1 {
         return 0;
     }
-    let bin = bin_at(width, k);
-    match bin {
-        BinAnswer::Bin(j) => j,
-        BinAnswer::NotAllowed => 0,
-    }
+    bin_at(width, k).unwrap_or(0)
 }
 
 // Where a setting is made, of a call's numbers or a header's. A reader has no use for the rule for halves, and a writer gets it from `setting_at`.
@@ -111,11 +100,8 @@ pub(crate) fn setting_at(level: u32, width: usize, mode: usize, k: i32, size: us
 {
     let t = setting_of(width, mode, k, size);
     Setting {
-        width: t.width,
-        mode: t.mode,
-        bin: t.bin,
-        size: t.size,
         halves: halves_at(level),
+        ..t
     }
 }
 
@@ -142,11 +128,7 @@ pub(crate) fn need_of(t: Setting) -> usize
 pub(crate) fn stream_need(t: Setting, high: bool) -> usize
     ensures { result ≡ stream_need t high }
 {
-    let need = need_of(t);
-    if high & (need < 12) {
-        return 12;
-    }
-    need
+    if high { need_of(t).max(12) } else { need_of(t) }
 }
 
 // The mode number of the header: "256 is added to the mode number for 128".
@@ -169,20 +151,9 @@ pub(crate) fn k_bits(t: Setting) -> u32
         return 0;
     }
     if t.width == 32 {
-        return difference_bits(t.bin, 150);
+        return t.bin.wrapping_sub(150);
     }
-    difference_bits(t.bin, 1075)
-}
-
-// The number a - b in two's complement.
-fn difference_bits(a: u32, b: u32) -> u32
-    requires { (a < 2 ^ 31) × (b < 2 ^ 31) }
-    ensures { result ≡ bits_of 32 (sub_ℕ a b) }
-{
-    if a < b {
-        return u32::MAX - (b - a - 1);
-    }
-    a - b
+    t.bin.wrapping_sub(1075)
 }
 
 // The size of a group.
@@ -201,10 +172,10 @@ pub(crate) fn limit_of(t: Setting) -> u64
         if t.mode != 1 {
             return 0x7FFF_FFFF;
         }
-        return bin::largest_u32(t.bin) as u64;
+        return bin::largest_u::<u32>(t.bin) as u64;
     }
     if t.mode != 1 {
         return 0x7FFF_FFFF_FFFF_FFFF;
     }
-    bin::largest_u64(t.bin)
+    bin::largest_u(t.bin)
 }

@@ -8,40 +8,35 @@ use crate::answers::SidePart;
 use crate::header;
 use crate::header::Header;
 
-// The first entry of the side table that has the id; the number of entries where none has it.
-fn entry_with(h: Header, bytes: &[u8], id: usize) -> usize
+// The first entry of the side table that has the id.
+fn entry_with(h: Header, bytes: &[u8], id: usize) -> Option<usize>
     requires { Layout (length bytes.now) h × (h.end + 12 * h.sides ≤ length bytes.now) }
-    ensures { result ≡ cond (has_id id (ids_in h bytes.now)) (entry_of id (ids_in h bytes.now)) h.sides }
+    ensures { result ≡ cond (has_id id (ids_in h bytes.now)) (Some (entry_of id (ids_in h bytes.now))) None }
 {
-    let mut i: usize = 0;
-    while i < h.sides {
+    for i in 0..h.sides {
         if header::word_at(bytes, h.end + 12 * i) == id {
-            return i;
+            return Some(i);
         }
-        i += 1;
     }
-    i
+    None
 }
 
-pub fn part(bytes: &[u8], id: u32) -> SidePart
+pub fn part(bytes: &[u8], id: u32) -> Option<SidePart>
     ensures { result ≡ side_part bytes.now id }
 {
     if !header::right(bytes) {
-        return SidePart::NoPart;
+        return None;
     }
     let h = header::header_of(bytes);
     if bytes.len() < h.end + 12 * h.sides {
-        return SidePart::NoPart;
+        return None;
     }
-    let i = entry_with(h, bytes, id as usize);
-    if i == h.sides {
-        return SidePart::NoPart;
-    }
+    let i = entry_with(h, bytes, id as usize)?;
     let at = h.end + 12 * i;
     let place = header::word_at(bytes, at + 4);
     let length = header::word_at(bytes, at + 8);
     if bytes.len() < place + length {
-        return SidePart::NoPart;
+        return None;
     }
-    SidePart::Part(place, length)
+    Some(SidePart { place, length })
 }

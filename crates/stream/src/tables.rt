@@ -5,7 +5,7 @@ ghost use Rattle.stream.specs.Rows.{first};
 ghost use Rattle.stream.specs.Operations.{side_rows, table_rows};
 ghost use Rattle.stream.specs.Tables.{start_at, chunk_table_right, side_table_right, ids_in, first_high};
 
-use crate::answers::Step;
+use crate::answers::Refusal;
 use crate::header::Header;
 use crate::{header, setting};
 
@@ -31,14 +31,12 @@ fn chunk_table_right(h: Header, bytes: &[u8]) -> bool
     if last != 0 {
         return false;
     }
-    let mut j: usize = 0;
-    while j < h.chunks {
+    for j in 0..h.chunks {
         let next = start_at(h, bytes, j + 1);
         if next <= last {
             return false;
         }
         last = next;
-        j += 1;
     }
     true
 }
@@ -53,8 +51,7 @@ fn side_table_right(h: Header, bytes: &[u8]) -> bool
         return false;
     }
     let mut floor: usize = 0;
-    let mut i: usize = 0;
-    while i < h.sides {
+    for i in 0..h.sides {
         let at = h.end + 12 * i;
         let id = header::word_at(bytes, at);
         if id < floor {
@@ -65,51 +62,47 @@ fn side_table_right(h: Header, bytes: &[u8]) -> bool
         }
         place += header::word_at(bytes, at + 8);
         floor = id + 1;
-        i += 1;
     }
     place == bytes.len()
 }
 
-// The first high id, or 0 where none is high. `id` is the last that was looked at, and 0 at first.
+// The first high id, or 0 where none is high.
 fn first_high(h: Header, bytes: &[u8]) -> usize
     requires { Layout (length bytes.now) h × (h.end + 12 * h.sides ≤ length bytes.now) }
     ensures { result ≡ first_high (ids_in h bytes.now) }
 {
-    let mut id: usize = 0;
-    let mut i: usize = 0;
-    while (i < h.sides) & (id < FIRST_HIGH_ID) {
-        id = header::word_at(bytes, h.end + 12 * i);
-        i += 1;
+    for i in 0..h.sides {
+        let id = header::word_at(bytes, h.end + 12 * i);
+        if FIRST_HIGH_ID <= id {
+            return id;
+        }
     }
-    if id < FIRST_HIGH_ID {
-        return 0;
-    }
-    id
+    0
 }
 
 // 8 15: only the ids tell what the need has to be. No high id is defined yet, so there is none that a reader understands.
-fn side_step(h: Header, bytes: &[u8]) -> Step
+fn side_step(h: Header, bytes: &[u8]) -> Result<(), Refusal>
     requires { Opened (length bytes.now) h × (h.end + 12 * h.sides ≤ length bytes.now) }
     ensures { result ≡ first (side_rows h (ids_in h bytes.now)) }
 {
     let id = first_high(h, bytes);
     let high = FIRST_HIGH_ID <= id;
     if h.needed != setting::stream_need(header::setting_in(h), high) {
-        return Step::Stop(8, 0);
+        return Err(Refusal::BrokenHeader);
     }
     if high {
-        return Step::Stop(15, id);
+        return Err(Refusal::MustBeUnderstood(id));
     }
-    Step::Pass
+    Ok(())
 }
 
 // 9 8 15
-pub(crate) fn table_step(h: Header, bytes: &[u8]) -> Step
+pub(crate) fn table_step(h: Header, bytes: &[u8]) -> Result<(), Refusal>
     requires { Opened (length bytes.now) h }
     ensures { result ≡ first (table_rows h bytes.now) }
 {
     if chunk_table_right(h, bytes) & side_table_right(h, bytes) {
         return side_step(h, bytes);
     }
-    Step::Stop(9, 0)
+    Err(Refusal::BrokenTable)
 }

@@ -13,7 +13,8 @@ use Rattle.stream.specs.Setting.{known_level}
 use Rattle.stream.specs.Header.{header_of}
 use Rattle.stream.specs.Rows.{Row, row, first}
 use Rattle.stream.specs.Operations.{opening_rows, header_rows, content_rows, width_row, check_rows}
-use Rattle.stream.specs.declared.answers.Step.TheVariants.{Pass}
+use Rattle.std.specs.Prelude.{Ok}
+use Rattle.stream.specs.declared.answers.Refusal.TheVariants.{UnknownLevel, NotAllowed, NoRoom, NoHeader, OtherMajor, NeedsMinor, BrokenHeader, OtherWidth, HasSideParts, NoTrueSummary}
 use Rattle.stream.proofs.Fitting.{Fits}
 use Rattle.stream.proofs.Law.Header.Numbers.{word_small}
 use Rattle.stream.proofs.Law.Header.Layout.{laid_out}
@@ -31,7 +32,7 @@ use Rattle.summary.proofs.Law.Named.{names_most}
 
 module _ (level : ℕ) (s : List ℕ) (bytes : Below 256 s) where
   -- the copy of an accepted stream without side parts is short
-  copy_short : first (check_rows level s) ≡ Pass → ltb 0 (header_of s).sides ≡ false → length (with_summary s) < 2 ^ 32
+  copy_short : first (check_rows level s) ≡ Ok tt → ltb 0 (header_of s).sides ≡ false → length (with_summary s) < 2 ^ 32
   copy_short pass none =
       let a : Accepted (header_of s) s = record { level = level; pass = pass; header = refl } in
       let few = ltb-false 0 (header_of s).sides none in
@@ -42,16 +43,16 @@ module _ (level : ℕ) (s : List ℕ) (bytes : Below 256 s) where
   add_fits room =
       answer_small (add_rows level s room) (length (with_summary s))
       (append_small (check_rows level s) (sides_row s ∷ room_for room (with_summary s) ∷ []) (check_small level s bytes)
-      (λ pass. row_small 16 _ 0 _ (lit< tt, lit< tt) (λ _. lit< tt) (λ none. row_small 4 _ _ [] (lit< tt, lit< tt) (λ _. copy_short pass none) (λ _. no_rows))))
+      (λ pass. row_small HasSideParts _ _ (λ _. lit< tt) (λ none. row_small (NoRoom _) _ [] (λ _. copy_short pass none) (λ _. no_rows))))
       (λ pass.
       let both = opened_both (check_rows level s) (sides_row s ∷ room_for room (with_summary s) ∷ []) pass in
-      copy_short both.0 (not_given 16 0 (ltb 0 (header_of s).sides) (passed_both (sides_row s) (room_for room (with_summary s) ∷ []) both.1).0))
+      copy_short both.0 (not_given HasSideParts (ltb 0 (header_of s).sides) (passed_both (sides_row s) (room_for room (with_summary s) ∷ []) both.1).0))
 
   pub test_fits : Fits (test_answer level s)
   unfolding test_answer test_rows summary_row
   test_fits =
       answer_small (test_rows level s) (header_of s).count
-      (append_small (check_rows level s) (summary_row s ∷ []) (check_small level s bytes) (λ _. plain 17 _ [] (lit< tt, lit< tt) no_rows))
+      (append_small (check_rows level s) (summary_row s ∷ []) (check_small level s bytes) (λ _. plain NoTrueSummary _ [] refl no_rows))
       (λ _. count_small level s bytes)
 
   module _ (W x : ℕ) where
@@ -60,19 +61,19 @@ module _ (level : ℕ) (s : List ℕ) (bytes : Below 256 s) where
     unfolding chunks_from
     list_short few = omega (arith, names_most (holds_in x (header_of s) s) (header_of s).chunks 0, few)
 
-    chunks_of : first (opening_rows level s) ≡ Pass → (header_of s).chunks ≤ 1024
+    chunks_of : first (opening_rows level s) ≡ Ok tt → (header_of s).chunks ≤ 1024
     chunks_of pass = let l = laid_out (length s) (header_of s) (opening level s pass).layout in omega (arith, l.few, l.chunks)
 
     -- 6 7 8, of which 7 has the needed minor, four bytes of the header
-    header_small : (rows : List Row) → (first (header_rows level (length s) (header_of s)) ≡ Pass → Small (2 ^ 32) rows) → Small (2 ^ 32) (header_rows level (length s) (header_of s) ++ rows)
+    header_small : (rows : List Row) → (first (header_rows level (length s) (header_of s)) ≡ Ok tt → Small (2 ^ 32) rows) → Small (2 ^ 32) (header_rows level (length s) (header_of s) ++ rows)
     unfolding header_rows header_of
     header_small rows behind =
         append_small (header_rows level (length s) (header_of s)) rows
-        (plain 6 _ _ (lit< tt, lit< tt) (row_small 7 _ _ _ (lit< tt, lit< tt) (λ _. word_small s 8 bytes) (λ _. plain 8 _ _ (lit< tt, lit< tt) no_rows)))
+        (plain OtherMajor _ _ refl (row_small (NeedsMinor _) _ _ (λ _. word_small s 8 bytes) (λ _. plain BrokenHeader _ _ refl no_rows)))
         behind
 
     -- the opening passes where its rows do, one by one
-    opening_of : not (known_level level) ≡ false → ltb (length s) 48 ≡ false → first (header_rows level (length s) (header_of s)) ≡ Pass → first (opening_rows level s) ≡ Pass
+    opening_of : not (known_level level) ≡ false → ltb (length s) 48 ≡ false → first (header_rows level (length s) (header_of s)) ≡ Ok tt → first (opening_rows level s) ≡ Ok tt
     unfolding opening_rows first
     opening_of one five header = rw (one, five) header
 
@@ -88,22 +89,22 @@ module _ (level : ℕ) (s : List ℕ) (bytes : Below 256 s) where
     rows_small : (room : ℕ) → Small (2 ^ 32) (list_rows W level x s room)
     unfolding list_rows x_row width_row summary_row room_for
     rows_small room =
-        row_small 1 _ 0 _ (lit< tt, lit< tt) (λ _. lit< tt)
-        (λ one. plain 2 _ _ (lit< tt, lit< tt)
-        (row_small 5 _ 0 _ (lit< tt, lit< tt) (λ _. lit< tt)
+        row_small UnknownLevel _ _ (λ _. lit< tt)
+        (λ one. plain NotAllowed _ _ refl
+        (row_small NoHeader _ _ (λ _. lit< tt)
         (λ five. append_small (header ++ middle) (last room)
-        (header_small middle (λ pass. plain 14 _ _ (lit< tt, lit< tt) (content_small level s bytes (opening_of one five pass))))
+        (header_small middle (λ pass. plain OtherWidth _ _ refl (content_small level s bytes (opening_of one five pass))))
         (λ pass.
-        plain 17 _ _ (lit< tt, lit< tt)
-        (row_small 4 _ _ [] (lit< tt, lit< tt) (λ _. list_short (chunks_of (opening_of one five (opened_both header middle pass).0))) (λ _. no_rows))))))
+        plain NoTrueSummary _ _ refl
+        (row_small (NoRoom _) _ [] (λ _. list_short (chunks_of (opening_of one five (opened_both header middle pass).0))) (λ _. no_rows))))))
 
     pub list_fits : (room : ℕ) → Fits (list_answer W level x s room)
     unfolding list_answer list_rows
     list_fits room =
         answer_small (list_rows W level x s room) (length (chunks_from x s)) (rows_small room)
         (λ pass.
-        let a = passed_both (row 1 (not (known_level level)) 0) (x_row W x ∷ row 5 (ltb (length s) 48) 0 ∷ (header ++ middle ++ last room)) pass in
-        let b = passed_both (x_row W x) (row 5 (ltb (length s) 48) 0 ∷ (header ++ middle ++ last room)) a.1 in
-        let c = passed_both (row 5 (ltb (length s) 48) 0) (header ++ middle ++ last room) b.1 in
+        let a = passed_both (row UnknownLevel (not (known_level level))) (x_row W x ∷ row NoHeader (ltb (length s) 48) ∷ (header ++ middle ++ last room)) pass in
+        let b = passed_both (x_row W x) (row NoHeader (ltb (length s) 48) ∷ (header ++ middle ++ last room)) a.1 in
+        let c = passed_both (row NoHeader (ltb (length s) 48)) (header ++ middle ++ last room) b.1 in
         let d = opened_both header middle (opened_both (header ++ middle) (last room) c.1).0 in
-        list_short (chunks_of (opening_of (not_given 1 0 (not (known_level level)) a.0) (not_given 5 0 (ltb (length s) 48) c.0) d.0)))
+        list_short (chunks_of (opening_of (not_given UnknownLevel (not (known_level level)) a.0) (not_given NoHeader (ltb (length s) 48) c.0) d.0)))

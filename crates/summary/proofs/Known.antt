@@ -19,7 +19,8 @@ use Rattle.stream.specs.Tables.{some_high, every, start_at, start_right, chunk_t
 use Rattle.stream.specs.Writing.{spell, entries, parts, placed, add_sides}
 use lib.Ieee.{size}
 use Rattle.stream.specs.Access.{has_id, entry_of, place_of, length_of, side_bytes}
-use Rattle.stream.specs.declared.answers.Answer.TheVariants.{Done, Refused}
+use Rattle.std.specs.Prelude.{Ok, Err}
+use Rattle.stream.specs.declared.answers.Refusal.TheVariants.{UnknownLevel, NotAllowed, NoRoom, OtherWidth, HasSideParts, NoTrueSummary}
 use Rattle.stream.specs.Group as group
 use Rattle.summary.specs.Order.{infinity_ordinal, not_a_number, rank, zero_or_minus_zero, at_least}
 use Rattle.summary.specs.Entry.{nans_in, others, smallest_from, largest_from, smallest_in, largest_in, smallest, largest, entry_length, entry_bytes, holds}
@@ -95,14 +96,14 @@ copied_known = refl
 
 -- add: accepted in room for 79 bytes, 4 in 78, and 16 where the summary is there already
 pub added_known :
-    map (λ (room : ℕ). add_answer 10 their_stream room) (79 ∷ 78 ∷ []) ++ map (λ (room : ℕ). add_answer 10 their_copy room) (200 ∷ 0 ∷ []) ≡ Done 79 ∷ Refused 4 79 ∷ Refused 16 0 ∷ Refused 16 0 ∷ []
+    map (λ (room : ℕ). add_answer 10 their_stream room) (79 ∷ 78 ∷ []) ++ map (λ (room : ℕ). add_answer 10 their_copy room) (200 ∷ 0 ∷ []) ≡ Ok 79 ∷ Err (NoRoom 79) ∷ Err HasSideParts ∷ Err HasSideParts ∷ []
 unfolding size signed_view folded unfolded bits_of number digits plus raised unstepped unrotated lossless_restored field bytes_for group.largest width_of given_width group_length group_number group_codes within good_group highest_level known_level known_width fraction_bits width_need mode_need size_need need some_high stream_need lossless_mode is_zero allowed_setting allowed_mode known_size bin_for group_size limit_of pattern_at patterns_after groups_in first_fault chunk_answer groups_codes chunk_codes first answer word header_of k_of chunks_in too_many need_right setting_right said_mode said_size layout_right every start_at start_right chunk_table_right part_at side_table_right ids_from ids_in joined count_of chunk_of chunk_state chunk_values spell header_rows opening_rows need_row side_rows table_rows fault_detail fault_row rows_from chunk_row chunk_rows content_rows width_row high_id side_id side_place side_length id_floor entry_right id_row check_rows check_answer entries parts placed add_sides ordinal infinity_ordinal not_a_number rank zero_or_minus_zero at_least nans_in others smallest_from largest_from smallest_in largest_in smallest largest entry_length entry_bytes summary_id chunk_entry summary_in summary with_summary same summary_true numbers_from holds_in chunks_from sides_row summary_row room_for add_rows add_answer test_rows test_answer x_row list_rows list_answer list_out has_id entry_of place_of length_of side_bytes their_stream their_copy
 added_known = refl
 
 -- test at levels 7 to 15; of a stream without a summary, of one that lies, and of one with further side parts
 pub tested_known :
     map (λ (level : ℕ). test_answer level their_copy) (7 ∷ 8 ∷ 9 ∷ 10 ∷ 11 ∷ 12 ∷ 13 ∷ 14 ∷ 15 ∷ []) ++ map (test_answer 10) (their_stream ∷ their_lie ∷ their_more ∷ [])
-    ≡ Refused 1 0 ∷ Done 3 ∷ Done 3 ∷ Done 3 ∷ Done 3 ∷ Done 3 ∷ Done 3 ∷ Done 3 ∷ Refused 1 0 ∷ Refused 17 0 ∷ Refused 17 0 ∷ Done 3 ∷ []
+    ≡ Err UnknownLevel ∷ Ok 3 ∷ Ok 3 ∷ Ok 3 ∷ Ok 3 ∷ Ok 3 ∷ Ok 3 ∷ Ok 3 ∷ Err UnknownLevel ∷ Err NoTrueSummary ∷ Err NoTrueSummary ∷ Ok 3 ∷ []
 unfolding size signed_view folded unfolded bits_of number digits plus raised unstepped unrotated lossless_restored field bytes_for group.largest width_of given_width group_length group_number group_codes within good_group highest_level known_level known_width fraction_bits width_need mode_need size_need need some_high stream_need lossless_mode is_zero allowed_setting allowed_mode known_size bin_for group_size limit_of pattern_at patterns_after groups_in first_fault chunk_answer groups_codes chunk_codes first answer word header_of k_of chunks_in too_many need_right setting_right said_mode said_size layout_right every start_at start_right chunk_table_right part_at side_table_right ids_from ids_in joined count_of chunk_of chunk_state chunk_values spell header_rows opening_rows need_row side_rows table_rows fault_detail fault_row rows_from chunk_row chunk_rows content_rows width_row high_id side_id side_place side_length id_floor entry_right id_row check_rows check_answer entries parts placed add_sides ordinal infinity_ordinal not_a_number rank zero_or_minus_zero at_least nans_in others smallest_from largest_from smallest_in largest_in smallest largest entry_length entry_bytes summary_id chunk_entry summary_in summary with_summary same summary_true numbers_from holds_in chunks_from sides_row summary_row room_for add_rows add_answer test_rows test_answer x_row list_rows list_answer list_out has_id entry_of place_of length_of side_bytes their_stream their_copy their_lie their_more
 tested_known = refl
 
@@ -110,6 +111,6 @@ tested_known = refl
 pub listed_known :
     map (λ (x : ℕ). list_answer 32 8 x their_copy 1) (1 ∷ 2 ∷ 0 ∷ 0x8000_0000 ∷ 0xFF80_0000 ∷ 0x7FC0_0000 ∷ [])
     ++ (list_answer 32 8 1 their_copy 0 ∷ list_answer 64 8 1 their_copy 1 ∷ list_answer 32 8 1 their_lie 0 ∷ list_answer 32 7 0x7FC0_0000 their_copy 1 ∷ [])
-    ≡ Done 1 ∷ Done 0 ∷ Done 1 ∷ Done 1 ∷ Done 1 ∷ Refused 2 0 ∷ Refused 4 1 ∷ Refused 14 0 ∷ Refused 17 0 ∷ Refused 1 0 ∷ []
+    ≡ Ok 1 ∷ Ok 0 ∷ Ok 1 ∷ Ok 1 ∷ Ok 1 ∷ Err NotAllowed ∷ Err (NoRoom 1) ∷ Err OtherWidth ∷ Err NoTrueSummary ∷ Err UnknownLevel ∷ []
 unfolding size signed_view folded unfolded bits_of number digits plus raised unstepped unrotated lossless_restored field bytes_for group.largest width_of given_width group_length group_number group_codes within good_group highest_level known_level known_width fraction_bits width_need mode_need size_need need some_high stream_need lossless_mode is_zero allowed_setting allowed_mode known_size bin_for group_size limit_of pattern_at patterns_after groups_in first_fault chunk_answer groups_codes chunk_codes first answer word header_of k_of chunks_in too_many need_right setting_right said_mode said_size layout_right every start_at start_right chunk_table_right part_at side_table_right ids_from ids_in joined count_of chunk_of chunk_state chunk_values spell header_rows opening_rows need_row side_rows table_rows fault_detail fault_row rows_from chunk_row chunk_rows content_rows width_row high_id side_id side_place side_length id_floor entry_right id_row check_rows check_answer entries parts placed add_sides ordinal infinity_ordinal not_a_number rank zero_or_minus_zero at_least nans_in others smallest_from largest_from smallest_in largest_in smallest largest entry_length entry_bytes holds summary_id chunk_entry summary_in summary with_summary same summary_true numbers_from holds_in chunks_from sides_row summary_row room_for add_rows add_answer test_rows test_answer x_row list_rows list_answer list_out has_id entry_of place_of length_of side_bytes their_stream their_copy their_lie
 listed_known = refl

@@ -13,23 +13,22 @@ use lib.Ieee.{Float, nan, inf, fin, Format, of_bits, lt, eq, le}
 use lib.ListN.{length, take, drop, get_or, replicate, length-drop, get_or-append}
 use lib.Seq.{take_at, drop_at, length-take-le}
 use Rattle.blocks.specs.Bytes.{Below}
-use Rattle.stream.specs.Rows.{Row, row, first, Decides, numbers_of, answer, after}
+use Rattle.stream.specs.Rows.{number_of, Row, row, first, Decides, numbers_of, answer, after}
 use Rattle.stream.specs.Setting.{known_level, known_width, fraction_bits}
 use Rattle.stream.specs.Header.{header_of}
 use Rattle.stream.specs.Stream.{count_of, chunk_values, values}
 use Rattle.stream.specs.Tables.{side_id, side_place, side_length, side_table_right, ids_in}
 use Rattle.stream.specs.Access.{has_id, entry_of, place_of, length_of, side_bytes}
 use Rattle.stream.specs.Operations.{opening_rows, header_rows, content_rows, width_row, check_rows, check_answer}
-use Rattle.stream.specs.declared.answers.Answer.TheVariants.{Done, Refused}
-use Rattle.stream.specs.declared.answers.Step.{Step}
-use Rattle.stream.specs.declared.answers.Step.TheVariants.{Pass, Stop}
+use Rattle.std.specs.Prelude.{⊤, Result, Ok, Err}
+use Rattle.stream.specs.declared.answers.Refusal.{Refusal}
+use Rattle.stream.specs.declared.answers.Refusal.TheVariants.{UnknownLevel, NotAllowed, NoRoom, NoHeader, BrokenChunk, OtherWidth, HasSideParts, NoTrueSummary}
 use Rattle.stream.specs.declared.header.Header.{Header}
 use Rattle.stream.proofs.Law.Plain.Truth.{and_left, and_right}
-use Rattle.stream.proofs.Law.Rows.First.{and_then, without, others, shut, first_append, then_none, passed, passed_both, opened, opened_both, not_given, decides, decided}
+use Rattle.stream.proofs.Law.Rows.First.{and_then, without, others, shut, first_append, then_none, passed, passed_both, opened, opened_both, not_given, decides, decided, done_pass, refused_stop}
 use Rattle.stream.proofs.Law.Rows.Passed.{checking, opening_passes}
 use Rattle.stream.proofs.Law.Access.{entry_inside}
 use Rattle.stream.proofs.Law.Values.Counts.{length_chunk}
-use Rattle.stream.proofs.Law.Values.ThreeReaders.{done_pass, refused_stop}
 use Rattle.stream.proofs.Readers.{check_order}
 use Rattle.stream.proofs.Access.{a_chunk_is_a_stretch}
 use Rattle.stream.proofs.Understood.{a_high_id_is_never_skipped}
@@ -52,34 +51,34 @@ use Rattle.summary.proofs.Law.ListRows.{x_no_number, last_short, last_done, chec
 
 -- ---- demand 1: "Bad input gets one refusal, the first in the stated order, with its stated detail. A refused call changes nothing it was lent."
 
-pub refused_add : (level : ℕ) (s : List ℕ) (room number detail : ℕ) → add_answer level s room ≡ Refused number detail ↔ Decides (add_rows level s room) number detail
+pub refused_add : (level : ℕ) (s : List ℕ) (room : ℕ) (refusal : Refusal) → add_answer level s room ≡ Err refusal ↔ Decides (add_rows level s room) refusal
 unfolding add_answer answer
-refused_add level s room number detail = (
-  λ e. decides (add_rows level s room) number detail (refused_stop (first (add_rows level s room)) (length (with_summary s)) number detail e),
-  λ d. ap (λ (a : Step). answer a (length (with_summary s))) (decided (add_rows level s room) number detail d),
+refused_add level s room refusal = (
+  λ e. decides (add_rows level s room) refusal (refused_stop (first (add_rows level s room)) (length (with_summary s)) refusal e),
+  λ d. ap (λ (a : Result ⊤ Refusal). answer a (length (with_summary s))) (decided (add_rows level s room) refusal d),
 )
 
-pub refused_test : (level : ℕ) (s : List ℕ) (number detail : ℕ) → test_answer level s ≡ Refused number detail ↔ Decides (test_rows level s) number detail
+pub refused_test : (level : ℕ) (s : List ℕ) (refusal : Refusal) → test_answer level s ≡ Err refusal ↔ Decides (test_rows level s) refusal
 unfolding test_answer answer
-refused_test level s number detail = (
-  λ e. decides (test_rows level s) number detail (refused_stop (first (test_rows level s)) (header_of s).count number detail e),
-  λ d. ap (λ (a : Step). answer a (header_of s).count) (decided (test_rows level s) number detail d),
+refused_test level s refusal = (
+  λ e. decides (test_rows level s) refusal (refused_stop (first (test_rows level s)) (header_of s).count refusal e),
+  λ d. ap (λ (a : Result ⊤ Refusal). answer a (header_of s).count) (decided (test_rows level s) refusal d),
 )
 
-pub refused_list : (W level x : ℕ) (s : List ℕ) (room number detail : ℕ) → list_answer W level x s room ≡ Refused number detail ↔ Decides (list_rows W level x s room) number detail
+pub refused_list : (W level x : ℕ) (s : List ℕ) (room : ℕ) (refusal : Refusal) → list_answer W level x s room ≡ Err refusal ↔ Decides (list_rows W level x s room) refusal
 unfolding list_answer answer
-refused_list W level x s room number detail = (
-  λ e. decides (list_rows W level x s room) number detail (refused_stop (first (list_rows W level x s room)) (length (chunks_from x s)) number detail e),
-  λ d. ap (λ (a : Step). answer a (length (chunks_from x s))) (decided (list_rows W level x s room) number detail d),
+refused_list W level x s room refusal = (
+  λ e. decides (list_rows W level x s room) refusal (refused_stop (first (list_rows W level x s room)) (length (chunks_from x s)) refusal e),
+  λ d. ap (λ (a : Result ⊤ Refusal). answer a (length (chunks_from x s))) (decided (list_rows W level x s room) refusal d),
 )
 
-pub refused_add_untouched : (level : ℕ) (s out : List ℕ) (number detail : ℕ) → add_answer level s (length out) ≡ Refused number detail → add_out level s out ≡ out
+pub refused_add_untouched : (level : ℕ) (s out : List ℕ) (refusal : Refusal) → add_answer level s (length out) ≡ Err refusal → add_out level s out ≡ out
 unfolding add_answer add_out after
-refused_add_untouched level s out number detail e = rw (refused_stop (first (add_rows level s (length out))) (length (with_summary s)) number detail e)
+refused_add_untouched level s out refusal e = rw (refused_stop (first (add_rows level s (length out))) (length (with_summary s)) refusal e)
 
-pub refused_list_untouched : (W level x : ℕ) (s out : List ℕ) (number detail : ℕ) → list_answer W level x s (length out) ≡ Refused number detail → list_out W level x s out ≡ out
+pub refused_list_untouched : (W level x : ℕ) (s out : List ℕ) (refusal : Refusal) → list_answer W level x s (length out) ≡ Err refusal → list_out W level x s out ≡ out
 unfolding list_answer list_out after
-refused_list_untouched W level x s out number detail e = rw (refused_stop (first (list_rows W level x s (length out))) (length (chunks_from x s)) number detail e)
+refused_list_untouched W level x s out refusal e = rw (refused_stop (first (list_rows W level x s (length out))) (length (chunks_from x s)) refusal e)
 
 -- ---- the stated order: add 1 5 6 7 8 9 8 15 10 16 4, test 1 5 6 7 8 9 8 15 10 17, list 1 2 5 6 7 8 14 9 8 15 10 17 4, with a row 15 for each side part and
 -- a row 10 for each chunk
@@ -87,7 +86,7 @@ refused_list_untouched W level x s out number detail e = rw (refused_stop (first
 numbers_append : (a b : List Row) → numbers_of (a ++ b) ≡ numbers_of a ++ numbers_of b
 unfolding numbers_of
 numbers_append [] b = refl
-numbers_append (row number given detail ∷ a) b = ap (λ (l : List ℕ). number ∷ l) (numbers_append a b)
+numbers_append (row refusal given ∷ a) b = ap (λ (l : List ℕ). number_of refusal ∷ l) (numbers_append a b)
 
 -- the rows of a check, with others behind
 behind_check : (level : ℕ) (s : List ℕ) (rows : List Row)
@@ -143,25 +142,25 @@ summary_true_lem s right t =
 test_of_true : (L : ℕ) (s : List ℕ) → summary_true s ≡ true → test_answer L s ≡ check_answer L s
 unfolding test_answer check_answer test_rows summary_row first
 test_of_true L s e =
-    ap (λ (x : Step). answer x (header_of s).count)
+    ap (λ (x : Result ⊤ Refusal). answer x (header_of s).count)
     (first_append (check_rows L s) (summary_row s ∷ []) ∙ ap (and_then (first (check_rows L s))) (rw e) ∙ then_none (first (check_rows L s)))
 
-accepted_test : (level : ℕ) (s : List ℕ) (n : ℕ) → test_answer level s ≡ Done n → (check_answer level s ≡ Done n) × TrueSummary s
+accepted_test : (level : ℕ) (s : List ℕ) (n : ℕ) → test_answer level s ≡ Ok n → (check_answer level s ≡ Ok n) × TrueSummary s
 unfolding test_answer check_answer test_rows summary_row answer
 accepted_test level s n e =
     let done = done_pass (first (test_rows level s)) (header_of s).count n e in
     let both = opened_both (check_rows level s) (summary_row s ∷ []) done.0 in
-    let true-one = not-false (summary_true s) (not_given 17 0 (not (summary_true s)) both.1) in
-    (rw both.0 (ap Done done.1), true_summary s true-one)
+    let true-one = not-false (summary_true s) (not_given NoTrueSummary (not (summary_true s)) both.1) in
+    (rw both.0 (ap Ok done.1), true_summary s true-one)
 
-true_test : (level : ℕ) (s : List ℕ) (n : ℕ) → (check_answer level s ≡ Done n) × TrueSummary s → test_answer level s ≡ Done n
+true_test : (level : ℕ) (s : List ℕ) (n : ℕ) → (check_answer level s ≡ Ok n) × TrueSummary s → test_answer level s ≡ Ok n
 unfolding check_answer
 true_test level s n (e, t) =
     let pass = (done_pass (first (check_rows level s)) (header_of s).count n e).0 in
     test_of_true level s (summary_true_lem s (checking level s pass).1.sides t) ∙ e
 
-not_both : (n number detail : ℕ) → Done n ≡ Refused number detail → ⊥
-not_both n number detail e = let z : ◌≡◌ {A = ℕ} 0 1 = cc in omega arith
+not_both : (n : ℕ) (refusal : Refusal) → Ok n ≡ Err refusal → ⊥
+not_both n refusal e = let z : ◌≡◌ {A = ℕ} 0 1 = cc in omega arith
 
 le_nan : (x : Float) → le x nan ≡ false
 unfolding le lt eq
@@ -171,21 +170,21 @@ le_nan (fin b m e) = refl
 
 -- ---- what is added
 
-module _ (level : ℕ) (s out : List ℕ) (size : ℕ) (done : add_answer level s (length out) ≡ Done size) where
-  add_passes : (first (add_rows level s (length out)) ≡ Pass) × (length (with_summary s) ≡ size)
+module _ (level : ℕ) (s out : List ℕ) (size : ℕ) (done : add_answer level s (length out) ≡ Ok size) where
+  add_passes : (first (add_rows level s (length out)) ≡ Ok tt) × (length (with_summary s) ≡ size)
   unfolding add_answer
   add_passes = done_pass (first (add_rows level s (length out))) (length (with_summary s)) size done
 
-  both_pass : (first (check_rows level s) ≡ Pass) × (first (sides_row s ∷ room_for (length out) (with_summary s) ∷ []) ≡ Pass)
+  both_pass : (first (check_rows level s) ≡ Ok tt) × (first (sides_row s ∷ room_for (length out) (with_summary s) ∷ []) ≡ Ok tt)
   unfolding add_rows
   both_pass = opened_both (check_rows level s) (sides_row s ∷ room_for (length out) (with_summary s) ∷ []) add_passes.0
 
   -- it was accepted, and had no side parts
-  pub what_is_added_to : (check_answer level s ≡ Done (header_of s).count) × ((header_of s).sides ≡ 0)
+  pub what_is_added_to : (check_answer level s ≡ Ok (header_of s).count) × ((header_of s).sides ≡ 0)
   unfolding check_answer answer sides_row
   what_is_added_to =
       let none = (passed_both (sides_row s) (room_for (length out) (with_summary s) ∷ []) both_pass.1).0 in
-      let few = ltb-false 0 (header_of s).sides (not_given 16 0 (ltb 0 (header_of s).sides) none) in
+      let few = ltb-false 0 (header_of s).sides (not_given HasSideParts (ltb 0 (header_of s).sides) none) in
       (rw both_pass.0, omega (arith, few))
 
   -- the copy stands at the front of the output, and past it nothing is altered
@@ -197,7 +196,7 @@ module _ (level : ℕ) (s out : List ℕ) (size : ℕ) (done : add_answer level 
   unfolding room_for
   the_copy_fits =
       let four = (passed_both (sides_row s) (room_for (length out) (with_summary s) ∷ []) both_pass.1).1 in
-      omega (arith, ltb-false (length out) (length (with_summary s)) (not_given 4 (length (with_summary s)) (ltb (length out) (length (with_summary s))) four), add_passes.1)
+      omega (arith, ltb-false (length out) (length (with_summary s)) (not_given (NoRoom (length (with_summary s))) (ltb (length out) (length (with_summary s))) four), add_passes.1)
 
   the_copy : take size (add_out level s out) ≡ with_summary s
   the_copy = ap (take size) the_copy_is_left.1 ∙ take_at (with_summary s) (drop size out) size add_passes.1
@@ -224,24 +223,24 @@ module _ (level : ℕ) (s out : List ℕ) (size : ℕ) (done : add_answer level 
         ∙ test_of_true L (with_summary s) (copy_true level s both_pass.0 bytes what_is_added_to.1)
         ∙ (copy_read_as level s both_pass.0 bytes what_is_added_to.1).check L
 
-sides_given : (s : List ℕ) (rows : List Row) → 0 < (header_of s).sides → first (sides_row s ∷ rows) ≡ Stop 16 0
+sides_given : (s : List ℕ) (rows : List Row) → 0 < (header_of s).sides → first (sides_row s ∷ rows) ≡ Err HasSideParts
 unfolding sides_row first
 sides_given s rows some = rw (lt-ltb 0 (header_of s).sides some)
 
-both_off : (s out : List ℕ) → (header_of s).sides ≡ 0 → length (with_summary s) ≤ length out → first (sides_row s ∷ room_for (length out) (with_summary s) ∷ []) ≡ Pass
+both_off : (s out : List ℕ) → (header_of s).sides ≡ 0 → length (with_summary s) ≤ length out → first (sides_row s ∷ room_for (length out) (with_summary s) ∷ []) ≡ Ok tt
 unfolding sides_row room_for first
 both_off s out none room = rw (le-ltb 0 (header_of s).sides (omega (arith, none)), le-ltb (length out) (length (with_summary s)) room)
 
 -- and it is given to what check accepts and what has no side parts, where there is room for the copy
-pub add_takes : (level : ℕ) (s out : List ℕ) (n : ℕ) → check_answer level s ≡ Done n → (header_of s).sides ≡ 0 → length (with_summary s) ≤ length out
-    → add_answer level s (length out) ≡ Done (length (with_summary s))
+pub add_takes : (level : ℕ) (s out : List ℕ) (n : ℕ) → check_answer level s ≡ Ok n → (header_of s).sides ≡ 0 → length (with_summary s) ≤ length out
+    → add_answer level s (length out) ≡ Ok (length (with_summary s))
 unfolding check_answer add_answer add_rows answer
 add_takes level s out n e none room =
     let pass = (done_pass (first (check_rows level s)) (header_of s).count n e).0 in
     rw (opened (check_rows level s) (sides_row s ∷ room_for (length out) (with_summary s) ∷ []) pass ∙ both_off s out none room)
 
 -- 16, in plain words
-pub side_parts_are_refused_by_16 : (level : ℕ) (s : List ℕ) (room n : ℕ) → check_answer level s ≡ Done n → 0 < (header_of s).sides → add_answer level s room ≡ Refused 16 0
+pub side_parts_are_refused_by_16 : (level : ℕ) (s : List ℕ) (room n : ℕ) → check_answer level s ≡ Ok n → 0 < (header_of s).sides → add_answer level s room ≡ Err HasSideParts
 unfolding check_answer add_answer add_rows answer
 side_parts_are_refused_by_16 level s room n e some =
     let pass = (done_pass (first (check_rows level s)) (header_of s).count n e).0 in
@@ -249,11 +248,11 @@ side_parts_are_refused_by_16 level s room n e some =
 
 -- ---- what a test accepts: exactly the true summaries
 
-pub a_test_accepts_exactly_the_true_summaries : (level : ℕ) (s : List ℕ) (n : ℕ) → test_answer level s ≡ Done n ↔ (check_answer level s ≡ Done n) × TrueSummary s
+pub a_test_accepts_exactly_the_true_summaries : (level : ℕ) (s : List ℕ) (n : ℕ) → test_answer level s ≡ Ok n ↔ (check_answer level s ≡ Ok n) × TrueSummary s
 a_test_accepts_exactly_the_true_summaries level s n = (accepted_test level s n, true_test level s n)
 
 -- 17, in plain words: no summary, or a false one
-pub all_else_is_refused_by_17 : (level : ℕ) (s : List ℕ) (n : ℕ) → check_answer level s ≡ Done n → (TrueSummary s → ⊥) → test_answer level s ≡ Refused 17 0
+pub all_else_is_refused_by_17 : (level : ℕ) (s : List ℕ) (n : ℕ) → check_answer level s ≡ Ok n → (TrueSummary s → ⊥) → test_answer level s ≡ Err NoTrueSummary
 unfolding check_answer
 all_else_is_refused_by_17 level s n e lie =
     let pass = (done_pass (first (check_rows level s)) (header_of s).count n e).0 in
@@ -265,11 +264,11 @@ all_else_is_refused_by_17 level s n e lie =
 
 -- what a true summary says: "for each chunk: a count of not-a-numbers, the smallest and the largest other value .. all of the restored values. Chunks stand in
 -- order; .. with no gaps"
-module _ (level : ℕ) (s : List ℕ) (n : ℕ) (done : check_answer level s ≡ Done n) (t : TrueSummary s) where
+module _ (level : ℕ) (s : List ℕ) (n : ℕ) (done : check_answer level s ≡ Ok n) (t : TrueSummary s) where
   abbrev own : Header
   own = header_of s
 
-  passes : first (check_rows level s) ≡ Pass
+  passes : first (check_rows level s) ≡ Ok tt
   unfolding check_answer
   passes = (done_pass (first (check_rows level s)) own.count n done).0
 
@@ -297,8 +296,8 @@ module _ (level : ℕ) (s : List ℕ) (n : ℕ) (done : check_answer level s ≡
 
 -- ---- what a list names
 
-module _ (W level x : ℕ) (s out : List ℕ) (k : ℕ) (done : list_answer W level x s (length out) ≡ Done k) where
-  list_passes : (first (list_rows W level x s (length out)) ≡ Pass) × (length (chunks_from x s) ≡ k)
+module _ (W level x : ℕ) (s out : List ℕ) (k : ℕ) (done : list_answer W level x s (length out) ≡ Ok k) where
+  list_passes : (first (list_rows W level x s (length out)) ≡ Ok tt) × (length (chunks_from x s) ≡ k)
   unfolding list_answer
   list_passes = done_pass (first (list_rows W level x s (length out))) (length (chunks_from x s)) k done
 
@@ -308,15 +307,15 @@ module _ (W level x : ℕ) (s out : List ℕ) (k : ℕ) (done : list_answer W le
   the_list_is_left = (sym list_passes.1, rw (list_passes.0, list_passes.1))
 
   -- the rows, one by one
-  rows_pass : (first (check_rows level s) ≡ Pass) × ((header_of s).width ≡ W) × (first (summary_row s ∷ room_for (length out) (chunks_from x s) ∷ []) ≡ Pass)
+  rows_pass : (first (check_rows level s) ≡ Ok tt) × ((header_of s).width ≡ W) × (first (summary_row s ∷ room_for (length out) (chunks_from x s) ∷ []) ≡ Ok tt)
   unfolding list_rows check_rows opening_rows width_row
   rows_pass =
       let h = header_of s in
       let last = summary_row s ∷ room_for (length out) (chunks_from x s) ∷ [] in
       let header = header_rows level (length s) h in
       let front = header ++ (width_row W h ∷ content_rows h s) in
-      let five = row 5 (ltb (length s) 48) 0 in
-      let one = row 1 (not (known_level level)) 0 in
+      let five = row NoHeader (ltb (length s) 48) in
+      let one = row UnknownLevel (not (known_level level)) in
       let a = passed_both one (x_row W x ∷ five ∷ (front ++ last)) list_passes.0 in
       let b = passed_both (x_row W x) (five ∷ (front ++ last)) a.1 in
       let c = passed_both five (front ++ last) b.1 in
@@ -324,7 +323,7 @@ module _ (W level x : ℕ) (s out : List ℕ) (k : ℕ) (done : list_answer W le
       let e = opened_both header (width_row W h ∷ content_rows h s) d.0 in
       let f = passed_both (width_row W h) (content_rows h s) e.1 in (
         passed one (five ∷ (header ++ content_rows h s)) a.0 ∙ passed five (header ++ content_rows h s) c.0 ∙ opened header (content_rows h s) e.0 ∙ f.1,
-        eqb-true h.width W (not-false (eqb h.width W) (not_given 14 0 (not (eqb h.width W)) f.0)),
+        eqb-true h.width W (not-false (eqb h.width W) (not_given OtherWidth (not (eqb h.width W)) f.0)),
         d.1,
       )
 
@@ -332,17 +331,17 @@ module _ (W level x : ℕ) (s out : List ℕ) (k : ℕ) (done : list_answer W le
   unfolding room_for
   the_list_fits =
       let four = (passed_both (summary_row s) (room_for (length out) (chunks_from x s) ∷ []) rows_pass.2).1 in
-      omega (arith, ltb-false (length out) (length (chunks_from x s)) (not_given 4 (length (chunks_from x s)) (ltb (length out) (length (chunks_from x s))) four), list_passes.1)
+      omega (arith, ltb-false (length out) (length (chunks_from x s)) (not_given (NoRoom (length (chunks_from x s))) (ltb (length out) (length (chunks_from x s))) four), list_passes.1)
 
   pub past_the_list : drop k (list_out W level x s out) ≡ drop k out
   past_the_list = ap (drop k) the_list_is_left.1 ∙ drop_at (chunks_from x s) (drop k out) k (sym the_list_is_left.0)
 
   -- a summary that lies is never listed from
-  pub a_list_is_made_of_a_true_summary : (check_answer level s ≡ Done (header_of s).count) × TrueSummary s
+  pub a_list_is_made_of_a_true_summary : (check_answer level s ≡ Ok (header_of s).count) × TrueSummary s
   unfolding check_answer answer summary_row
   a_list_is_made_of_a_true_summary =
       let given = (passed_both (summary_row s) (room_for (length out) (chunks_from x s) ∷ []) rows_pass.2).0 in
-      (rw rows_pass.0, true_summary s (not-false (summary_true s) (not_given 17 0 (not (summary_true s)) given)))
+      (rw rows_pass.0, true_summary s (not-false (summary_true s) (not_given NoTrueSummary (not (summary_true s)) given)))
 
   -- each number greater than the one before: no chunk stands twice, and none out of order
   listed_at : (i : ℕ) → i < k → get_or (list_out W level x s out) i 0 ≡ get_or (chunks_from x s) i 0
@@ -398,26 +397,26 @@ module _ (W level x : ℕ) (s out : List ℕ) (k : ℕ) (done : list_answer W le
         )
 
 -- and where a test of a stream of the width accepts, and x is a number, it is given in room for what it names, and else refused by 4 with their number
-pub a_list_is_given : (W level x : ℕ) (s : List ℕ) (n : ℕ) → test_answer level s ≡ Done n → (header_of s).width ≡ W → not_a_number W (fraction_bits W) x ≡ false
-    → (k : ℕ) × ((out : List ℕ) → (k ≤ length out → list_answer W level x s (length out) ≡ Done k) × (length out < k → list_answer W level x s (length out) ≡ Refused 4 k))
+pub a_list_is_given : (W level x : ℕ) (s : List ℕ) (n : ℕ) → test_answer level s ≡ Ok n → (header_of s).width ≡ W → not_a_number W (fraction_bits W) x ≡ false
+    → (k : ℕ) × ((out : List ℕ) → (k ≤ length out → list_answer W level x s (length out) ≡ Ok k) × (length out < k → list_answer W level x s (length out) ≡ Err (NoRoom k)))
 unfolding test_answer test_rows summary_row
 a_list_is_given W level x s n e width number =
     let h = header_of s in
     let done = done_pass (first (test_rows level s)) h.count n e in
     let both = opened_both (check_rows level s) (summary_row s ∷ []) done.0 in
-    let true-one = not-false (summary_true s) (not_given 17 0 (not (summary_true s)) both.1) in
+    let true-one = not-false (summary_true s) (not_given NoTrueSummary (not (summary_true s)) both.1) in
     let o = (checking level s both.0).0 in
     let front : ListOpened W level x s = record { known = o.known; number = number; opening = opening_passes level s o; width = width } in
     let k = length (chunks_from x s) in (
       k,
       λ out. (
-        λ fits. sym (check_passes W level x s out front both.0 (Done k) _ (last_done x s out true-one k refl fits _ refl)).0,
-        λ short. sym (check_passes W level x s out front both.0 (Refused 4 k) out (last_short x s out true-one k refl short)).0,
+        λ fits. sym (check_passes W level x s out front both.0 (Ok k) _ (last_done x s out true-one k refl fits _ refl)).0,
+        λ short. sym (check_passes W level x s out front both.0 (Err (NoRoom k)) out (last_short x s out true-one k refl short)).0,
       ),
     )
 
 -- 2, in plain words, whatever the bytes are
-pub a_not_a_number_is_refused_by_2 : (W level x : ℕ) (s out : List ℕ) → known_level level ≡ true → not_a_number W (fraction_bits W) x ≡ true → list_answer W level x s (length out) ≡ Refused 2 0
+pub a_not_a_number_is_refused_by_2 : (W level x : ℕ) (s out : List ℕ) → known_level level ≡ true → not_a_number W (fraction_bits W) x ≡ true → list_answer W level x s (length out) ≡ Err NotAllowed
 a_not_a_number_is_refused_by_2 W level x s out known e = sym (x_no_number W level x s out known e).0
 
 -- "a chunk of not-a-numbers only is never listed"
@@ -427,11 +426,11 @@ a_chunk_of_not_a_numbers_is_never_named f x s j all p = false≢true (sym (le_na
 
 -- document 02, R-4: what must be understood is not skipped here either
 pub a_high_id_is_not_skipped : (level : ℕ) (s : List ℕ) (i : ℕ) → i < (header_of s).sides → 2 ^ 31 ≤ side_id (header_of s) s i
-    → ((out : List ℕ) (n : ℕ) → add_answer level s (length out) ≡ Done n → ⊥) × ((n : ℕ) → test_answer level s ≡ Done n → ⊥)
-    × ((W x : ℕ) (out : List ℕ) (k : ℕ) → list_answer W level x s (length out) ≡ Done k → ⊥)
+    → ((out : List ℕ) (n : ℕ) → add_answer level s (length out) ≡ Ok n → ⊥) × ((n : ℕ) → test_answer level s ≡ Ok n → ⊥)
+    × ((W x : ℕ) (out : List ℕ) (k : ℕ) → list_answer W level x s (length out) ≡ Ok k → ⊥)
 a_high_id_is_not_skipped level s i l high =
     let refused = (a_high_id_is_never_skipped level s i l high).check in
-    let never : (n : ℕ) → check_answer level s ≡ Done n → ⊥ = λ n e. not_both n refused.0 refused.1 (sym e ∙ refused.2) in (
+    let never : (n : ℕ) → check_answer level s ≡ Ok n → ⊥ = λ n e. not_both n refused.0 (sym e ∙ refused.1) in (
       λ out n e. never (header_of s).count (what_is_added_to level s out n e).0,
       λ n e. never n (accepted_test level s n e).0,
       λ W x out k e. never (header_of s).count (a_list_is_made_of_a_true_summary W level x s out k e).0,
@@ -439,44 +438,44 @@ a_high_id_is_not_skipped level s i l high =
 
 -- ---- 10 is the check's own, with its detail: so it names the first bad chunk and its first bad group (`check_names_the_place` of `stream`)
 
-lacks : (detail : ℕ) (rows : List Row) → without 10 (numbers_of rows) ≡ true → first rows ≡ Stop 10 detail → ⊥
+lacks : (detail : ℕ) (rows : List Row) → without 10 (numbers_of rows) ≡ true → first rows ≡ Err (BrokenChunk detail) → ⊥
 unfolding first
 lacks detail rows none e =
-    let never : Pass ≡ Stop 10 detail = (others 10 detail rows [] none (ap first (append-nil rows) ∙ e)).1 in
+    let never : Ok tt ≡ Err (BrokenChunk detail) = (others (BrokenChunk detail) rows [] none (ap first (append-nil rows) ∙ e)).1 in
     let z : ◌≡◌ {A = ℕ} 0 1 = cc in omega arith
 
-in_front : (detail : ℕ) (before rows : List Row) → without 10 (numbers_of rows) ≡ true → first (before ++ rows) ≡ Stop 10 detail → first before ≡ Stop 10 detail
+in_front : (detail : ℕ) (before rows : List Row) → without 10 (numbers_of rows) ≡ true → first (before ++ rows) ≡ Err (BrokenChunk detail) → first before ≡ Err (BrokenChunk detail)
 in_front detail before rows none e = go (first before) refl
   where
-    go : (a : Step) → first before ≡ a → first before ≡ Stop 10 detail
-    go Pass p = absurd (lacks detail rows none (sym (opened before rows p) ∙ e))
-    go (Stop x y) p = p ∙ sym (shut x y before rows p) ∙ e
+    go : (a : Result ⊤ Refusal) → first before ≡ a → first before ≡ Err (BrokenChunk detail)
+    go (Ok u) p = absurd (lacks detail rows none (sym (opened before rows p) ∙ e))
+    go (Err x) p = p ∙ sym (shut x before rows p) ∙ e
 
-pub add_names_the_place : (level : ℕ) (s : List ℕ) (room detail : ℕ) → add_answer level s room ≡ Refused 10 detail → check_answer level s ≡ Refused 10 detail
+pub add_names_the_place : (level : ℕ) (s : List ℕ) (room detail : ℕ) → add_answer level s room ≡ Err (BrokenChunk detail) → check_answer level s ≡ Err (BrokenChunk detail)
 unfolding add_answer add_rows sides_row room_for check_answer answer numbers_of without
 add_names_the_place level s room detail e =
-    let stop = refused_stop (first (add_rows level s room)) (length (with_summary s)) 10 detail e in
+    let stop = refused_stop (first (add_rows level s room)) (length (with_summary s)) (BrokenChunk detail) e in
     rw (in_front detail (check_rows level s) (sides_row s ∷ room_for room (with_summary s) ∷ []) refl stop)
 
-pub test_names_the_place : (level : ℕ) (s : List ℕ) (detail : ℕ) → test_answer level s ≡ Refused 10 detail → check_answer level s ≡ Refused 10 detail
+pub test_names_the_place : (level : ℕ) (s : List ℕ) (detail : ℕ) → test_answer level s ≡ Err (BrokenChunk detail) → check_answer level s ≡ Err (BrokenChunk detail)
 unfolding test_answer test_rows summary_row check_answer answer numbers_of without
 test_names_the_place level s detail e =
-    let stop = refused_stop (first (test_rows level s)) (header_of s).count 10 detail e in
+    let stop = refused_stop (first (test_rows level s)) (header_of s).count (BrokenChunk detail) e in
     rw (in_front detail (check_rows level s) (summary_row s ∷ []) refl stop)
 
-pub list_names_the_place : (W level x : ℕ) (s : List ℕ) (room detail : ℕ) → list_answer W level x s room ≡ Refused 10 detail → check_answer level s ≡ Refused 10 detail
+pub list_names_the_place : (W level x : ℕ) (s : List ℕ) (room detail : ℕ) → list_answer W level x s room ≡ Err (BrokenChunk detail) → check_answer level s ≡ Err (BrokenChunk detail)
 unfolding list_answer list_rows x_row width_row header_rows summary_row room_for check_answer check_rows opening_rows answer numbers_of without
 list_names_the_place W level x s room detail e =
     let h = header_of s in
-    let one = row 1 (not (known_level level)) 0 in
-    let five = row 5 (ltb (length s) 48) 0 in
+    let one = row UnknownLevel (not (known_level level)) in
+    let five = row NoHeader (ltb (length s) 48) in
     let header = header_rows level (length s) h in
     let content = content_rows h s in
     let last = summary_row s ∷ room_for room (chunks_from x s) ∷ [] in
     let front = one ∷ x_row W x ∷ five ∷ (header ++ (width_row W h ∷ [])) in
-    let stop = refused_stop (first (list_rows W level x s room)) (length (chunks_from x s)) 10 detail e in
+    let stop = refused_stop (first (list_rows W level x s room)) (length (chunks_from x s)) (BrokenChunk detail) e in
     let whole = in_front detail (one ∷ x_row W x ∷ five ∷ (header ++ (width_row W h ∷ content))) last refl stop in
-    let both = others 10 detail front content refl whole in
+    let both = others (BrokenChunk detail) front content refl whole in
     let a = passed_both one (x_row W x ∷ five ∷ (header ++ (width_row W h ∷ []))) both.0 in
     let b = passed_both (x_row W x) (five ∷ (header ++ (width_row W h ∷ []))) a.1 in
     let c = passed_both five (header ++ (width_row W h ∷ [])) b.1 in

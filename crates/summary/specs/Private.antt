@@ -1,14 +1,11 @@
 -- Words for the crate's own functions: they walk a chunk's values by their ranks, and ask for a stream that was accepted. No promise to a user cites them; the laws of proofs/Law say what they
 -- are in the words of Order and Entry.
-use Rattle.std.specs.Prelude.{◌≡◌, ℕ, ◌+◌, ◌-◌, ◌*◌, ◌^◌, ◌≤◌, ◌<◌, min, max, true, false, cond, List, [], ◌∷◌, ltb, eqb, length, take, drop}
+use Rattle.std.specs.Prelude.{◌≡◌, ℕ, ◌+◌, ◌-◌, ◌*◌, ◌^◌, ◌≤◌, ◌<◌, min, max, true, false, cond, List, [], ◌∷◌, ltb, eqb, length, take, drop, Ok}
 use Rattle.bins.specs.Tolerance.{ordinal}
 use Rattle.stream.specs.Header.{header_of}
 use Rattle.stream.specs.Setting.{known_level, fraction_bits}
 use Rattle.stream.specs.Rows.{first}
 use Rattle.stream.specs.Operations.{opening_rows, check_rows}
-use Rattle.stream.specs.declared.answers.ChunkRead.{ChunkRead}
-use Rattle.stream.specs.declared.answers.ChunkRead.TheVariants.{Read, NotThere}
-use Rattle.stream.specs.declared.answers.Step.TheVariants.{Pass}
 use Rattle.stream.specs.declared.header.Header.{Header}
 use Rattle.summary.specs.declared.entry.Entry.{Entry}
 use Rattle.summary.specs.Order.{not_a_number, rank}
@@ -35,17 +32,12 @@ high_rank W m (p ∷ ps) = cond (not_a_number W m p) (high_rank W m ps) (max (ra
 -- h is the header of bytes that a check has accepted, at some level
 pub record Accepted (h : Header) (s : List ℕ) : Type 0 where
   pub level : ℕ
-  pub pass : first (check_rows level s) ≡ Pass
+  pub pass : first (check_rows level s) ≡ Ok tt
   pub header : h ≡ header_of s
 
 -- what an entry says of values is right
 abbrev pub entry_says : Entry → ℕ → ℕ → List ℕ → Type 0
 entry_says e W m vs = (e.nans ≡ nans_in W m vs) × (e.smallest ≡ smallest W m vs) × (e.largest ≡ largest W m vs)
-
--- how many values were read
-unfoldable pub count_read : ChunkRead → ℕ
-count_read (Read n) = n
-count_read NotThere = 0
 
 -- the summary of an accepted stream lies at the place, and it is true
 pub record Summarised (h : Header) (s : List ℕ) (place : ℕ) : Type 0 where
@@ -62,5 +54,5 @@ pub record Comparable (h : Header) (x : ℕ) : Type 0 where
 pub record ListOpened (W level x : ℕ) (s : List ℕ) : Type 0 where
   pub known : known_level level ≡ true
   pub number : not_a_number W (fraction_bits W) x ≡ false
-  pub opening : first (opening_rows level s) ≡ Pass
+  pub opening : first (opening_rows level s) ≡ Ok tt
   pub width : (header_of s).width ≡ W

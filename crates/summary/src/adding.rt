@@ -8,22 +8,10 @@ ghost use Rattle.summary.specs.Operations.{sides_row, room_for, add_answer, add_
 ghost use Rattle.summary.specs.Private.{Accepted};
 
 use crate::{chunks, entry};
-use blocks::bytes as words;
-use stream::answers::Answer;
-use stream::header::{Header, Opening};
+use blocks::bytes as fields;
+use stream::answers::{Answer, Refusal};
+use stream::header::Header;
 use stream::reading;
-
-// The bytes, at the front of `out`.
-fn copied(bytes: &[u8], out: &mut [u8])
-    requires { length bytes.now ≤ length out.old }
-    ensures { out.new ≡ bytes.now ++ drop (length bytes.now) out.old }
-{
-    let mut i: usize = 0;
-    while i < bytes.len() {
-        out[i] = bytes[i];
-        i += 1;
-    }
-}
 
 // The entries of all chunks in order, at the front of `out`.
 fn put_entries(h: Header, bytes: &[u8], v32: &mut [u32], v64: &mut [u64], out: &mut [u8])
@@ -31,15 +19,13 @@ fn put_entries(h: Header, bytes: &[u8], v32: &mut [u32], v64: &mut [u64], out: &
     ensures { out.new ≡ summary_in h bytes.now ++ drop (h.chunks * entry_length h.width) out.old }
 {
     let size = entry::entry_length(h.width);
-    let mut j: usize = 0;
-    while j < h.chunks {
+    for j in 0..h.chunks {
         let e = chunks::entry_of(h, bytes, j, v32, v64);
         entry::put_entry(h.width, e, out, j * size);
-        j += 1;
     }
 }
 
-// The summary at the front of `out`. The scratch is a chunk of the width.
+// The summary at the front of `out`. The scratch is a chunk of the width: which of the two arrays is the long one is known as the program runs.
 fn put_summary(h: Header, bytes: &[u8], out: &mut [u8])
     requires { Accepted h bytes.now × (h.chunks * entry_length h.width ≤ length out.old) }
     ensures { out.new ≡ summary_in h bytes.now ++ drop (h.chunks * entry_length h.width) out.old }
@@ -62,11 +48,11 @@ fn put_copy(h: Header, bytes: &[u8], out: &mut [u8])
 {
     let end = bytes.len();
     let part = h.chunks * entry::entry_length(h.width);
-    copied(bytes, out);
-    words::half(out, 40, 1);
-    words::half(out, end, 1);
-    words::half(out, end + 4, (end + 12) as u64);
-    words::half(out, end + 8, part as u64);
+    out[..end].copy_from_slice(bytes);
+    fields::half(out, 40, 1);
+    fields::half(out, end, 1);
+    fields::half(out, end + 4, (end + 12) as u64);
+    fields::half(out, end + 8, part as u64);
     put_summary(h, bytes, &mut out[end + 12..]);
 }
 
@@ -77,23 +63,20 @@ fn added(h: Header, bytes: &[u8], out: &mut [u8]) -> Answer
     ensures out_after { out.new ≡ after (first (sides_row bytes.now ∷ room_for (length out.old) (with_summary bytes.now) ∷ [])) (with_summary bytes.now ++ drop (length (with_summary bytes.now)) out.old) out.old }
 {
     if 0 < h.sides {
-        return Answer::Refused(16, 0);
+        return Err(Refusal::HasSideParts);
     }
     let size = bytes.len() + 12 + h.chunks * entry::entry_length(h.width);
     if out.len() < size {
-        return Answer::Refused(4, size);
+        return Err(Refusal::NoRoom(size));
     }
     put_copy(h, bytes, out);
-    Answer::Done(size)
+    Ok(size)
 }
 
 pub fn add_summary(level: u32, bytes: &[u8], out: &mut [u8]) -> Answer
     ensures value { result ≡ add_answer level bytes.now (length out.old) }
     ensures out_after { out.new ≡ add_out level bytes.now out.old }
 {
-    let opening = reading::check_opening(level as usize, bytes);
-    match opening {
-        Opening::Open(h) => added(h, bytes, out),
-        Opening::Shut(number, detail) => Answer::Refused(number, detail),
-    }
+    let h = reading::check_opening(level as usize, bytes)?;
+    added(h, bytes, out)
 }

@@ -3,33 +3,22 @@ ghost use Rattle.std.specs.Prelude.{◌≡◌, ◌≤◌, ◌<◌, length};
 ghost use Rattle.stream.specs.Setting.{fraction_bits};
 ghost use Rattle.stream.specs.Stream.{chunk_values};
 ghost use Rattle.stream.specs.Lent.{chosen};
-ghost use Rattle.summary.specs.Private.{Accepted, entry_says, count_read};
+ghost use Rattle.summary.specs.Private.{Accepted, entry_says};
 
 use crate::entry;
 use crate::entry::Entry;
-use stream::answers::ChunkRead;
 use stream::header::Header;
 use stream::one_chunk;
 
-// How many values were read.
-fn count_read(read: ChunkRead) -> usize
-    ensures { result ≡ count_read read }
-{
-    match read {
-        ChunkRead::Read(n) => n,
-        ChunkRead::NotThere => 0,
-    }
-}
-
-// The entry of chunk j. Its values go through the scratch of the width, which has room for a chunk.
+// The entry of chunk j. Its values, which an accepted stream has, go through the scratch of the width, which has room for a chunk.
 pub(crate) fn entry_of(h: Header, bytes: &[u8], j: usize, v32: &mut [u32], v64: &mut [u64]) -> Entry
     requires { Accepted h bytes.now × (j < h.chunks) × (1024 ≤ length (chosen h.width v32.old v64.old)) }
     ensures { entry_says result h.width (fraction_bits h.width) (chunk_values h bytes.now j) }
 {
     if h.width == 32 {
-        let n = count_read(one_chunk::values32(bytes, j, v32));
-        return entry::summed32(&v32[..n]);
+        let n = one_chunk::values32(bytes, j, v32).unwrap();
+        return entry::summed(&v32[..n]);
     }
-    let n = count_read(one_chunk::values64(bytes, j, v64));
-    entry::summed64(&v64[..n])
+    let n = one_chunk::values64(bytes, j, v64).unwrap();
+    entry::summed(&v64[..n])
 }

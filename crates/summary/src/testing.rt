@@ -7,26 +7,26 @@ ghost use Rattle.summary.specs.Operations.{test_answer};
 ghost use Rattle.summary.specs.Private.{Accepted};
 
 use crate::{chunks, entry};
-use stream::answers::{Answer, SidePart};
-use stream::header::{Header, Opening};
+use stream::answers::{Answer, Refusal};
+use stream::header::Header;
 use stream::{reading, sides};
 
 // "Side part 1"
 pub(crate) const SUMMARY_ID: u32 = 1;
 
-// Whether each chunk's entry in a part of the right length is that of its values.
+// Whether each chunk's entry in a part of the right length is that of its values. Not by `.all(..)`: its closure would change the scratch, and of such a closure
+// a proof knows nothing.
 fn entries_right(h: Header, bytes: &[u8], part: &[u8], v32: &mut [u32], v64: &mut [u64]) -> bool
     requires { Accepted h bytes.now × (1024 ≤ length (chosen h.width v32.old v64.old)) × (length part.now ≡ h.chunks * entry_length h.width) }
     ensures { result ≡ same part.now (summary_in h bytes.now) }
 {
     let size = entry::entry_length(h.width);
-    let mut j: usize = 0;
-    while j < h.chunks {
+    for j in 0..h.chunks {
         let e = chunks::entry_of(h, bytes, j, v32, v64);
-        if !entry::same(e, entry::entry_at(h.width, part, j * size)) {
+        let stated = entry::entry_at(h.width, part, j * size);
+        if e != stated {
             return false;
         }
-        j += 1;
     }
     true
 }
@@ -54,24 +54,18 @@ pub(crate) fn summary_true(h: Header, bytes: &[u8]) -> bool
     requires { Accepted h bytes.now }
     ensures { result ≡ summary_true bytes.now }
 {
-    let found = sides::part(bytes, SUMMARY_ID);
-    match found {
-        SidePart::Part(place, length) => part_right(h, bytes, &bytes[place..place + length]),
-        SidePart::NoPart => false,
+    match sides::part(bytes, SUMMARY_ID) {
+        Some(part) => part_right(h, bytes, &bytes[part.place..part.place + part.length]),
+        None => false,
     }
 }
 
 pub fn test_summary(level: u32, bytes: &[u8]) -> Answer
     ensures { result ≡ test_answer level bytes.now }
 {
-    let opening = reading::check_opening(level as usize, bytes);
-    match opening {
-        Opening::Open(h) => {
-            if summary_true(h, bytes) {
-                return Answer::Done(h.count);
-            }
-            Answer::Refused(17, 0)
-        }
-        Opening::Shut(number, detail) => Answer::Refused(number, detail),
+    let h = reading::check_opening(level as usize, bytes)?;
+    if summary_true(h, bytes) {
+        return Ok(h.count);
     }
+    Err(Refusal::NoTrueSummary)
 }

@@ -49,7 +49,7 @@ module _ (L : ℕ) where
   sub_low : (i : ℕ) → i < L → sub_ℕ i L ≡ negsuc (L - suc i)
   sub_low i h = rw (lt-ltb i L h)
 
-  sub_high : (i : ℕ) → L ≤ i → sub_ℕ i L ≡ pos (i - L)
+  pub sub_high : (i : ℕ) → L ≤ i → sub_ℕ i L ≡ pos (i - L)
   sub_high i h = rw (le-ltb i L h)
 
   -- larger bins have larger exponents

@@ -1,5 +1,5 @@
 -- Small laws of numbers that several law modules cite.
-use Rattle.std.proofs.Common.{◌≡◌, ℕ, suc, ◌+◌, ◌-◌, ◌*◌, ◌/◌, ◌%◌, ◌^◌, ◌<◌, ◌≤◌, true, false, eqb, ◌⊎◌, sym, ap, ◌∙◌, inl, inr, le_trans, le_of_eq, lt_of_lt_of_le, mod-eq_of_lt, div-lt_iff_lt-mul, one-mul, lt_of_not-le, le-div_iff_mul-le, arith, pow_pos, eq-eqb, ne_eqb}
+use Rattle.std.proofs.Common.{◌≡◌, ℕ, suc, ◌+◌, ◌-◌, ◌*◌, ◌/◌, ◌%◌, ◌^◌, ◌<◌, ◌≤◌, Bool, true, false, cond, eqb, ltb, refl, Less, Equal, Greater, is_lt, nat_cmp, ◌⊎◌, sym, ap, ◌∙◌, inl, inr, le_trans, le_of_eq, lt_of_lt_of_le, mod-eq_of_lt, div-lt_iff_lt-mul, one-mul, lt_of_not-le, le-div_iff_mul-le, arith, pow_pos, eq-eqb, ne_eqb}
 use native.Mathlib.Nat.{mod-eq-sub-mod, div-eq_of_lt, two-pow-succ}
 use native.Mathlib.Decide.{dec_le}
 
@@ -48,3 +48,12 @@ fraction_only m o e = lt_of_lt_of_le ((div-lt_iff_lt-mul (pow_pos m)).0 (let q :
 
 pub led_by_one : (m o : ℕ) → (o / 2 ^ m ≡ 0 → ⊥) → 2 ^ m ≤ o
 led_by_one m o s = le_trans (le_of_eq (sym (one-mul (2 ^ m)))) ((le-div_iff_mul-le (pow_pos m)).0 (let q : 1 ≤ o / 2 ^ m = omega arith in q))
+
+-- what `<` tells of two words, which are ordered as their numbers are
+pub less_is : (a b : ℕ) → is_lt (nat_cmp a b) ≡ ltb a b
+less_is a b = go (ltb a b) (eqb a b)
+  where
+    go : (less equal : Bool) → is_lt (cond less Less (cond equal Equal Greater)) ≡ less
+    go true equal = refl
+    go false true = refl
+    go false false = refl

@@ -1,4 +1,4 @@
--- The tolerance code with no branch, once over W and m: what the functions of src/tolerance.rt that serve both sides of T at once return.
+-- The tolerance code with no branch, once over W and m: what the functions of src/whole.rt that serve both sides of T at once return.
 use Rattle.std.proofs.Common.{◌≡◌, ℕ, suc, ◌+◌, ◌-◌, ◌*◌, ◌/◌, ◌%◌, ◌^◌, ◌<◌, ◌≤◌, min, ◌⊎◌, sym, ap, ◌∙◌, ap₂, inl, inr, lt_of_lt_of_le, mul-le-mul_right, mod-eq_of_lt, div-lt_iff_lt-mul, add-mul, mul-le-mul_left, one-mul, div-add-mod', zero-mul, mul-one, arith, pow_pos, pow_mono}
 use native.Mathlib.Nat.{sub_self, two-pow-succ, div-eq_of_lt, add-div_right}
 use lib.Count.{count_leading_zeros}

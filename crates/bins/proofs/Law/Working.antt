@@ -1,4 +1,4 @@
--- What the functions of src/tolerance.rt ask and return, once over W and m: each width's proof cites these.
+-- What the functions of src/ ask and return, once over W and m: their proofs cite these.
 use Rattle.std.proofs.Common.{◌≡◌, ℕ, suc, ◌+◌, ◌-◌, ◌*◌, ◌/◌, ◌%◌, ◌^◌, ◌<◌, ◌≤◌, min, ◌⊎◌, sym, ap, ◌∙◌, ap₂, inl, inr, le_of_eq, lt_of_lt_of_le, le_of_suc-le-suc, mod-lt, mod-eq_of_lt, div-lt_iff_lt-mul, one-mul, div-add-mod', add-one, arith, pow_pos, pow_mono, pow-add}
 use native.Mathlib.Nat.{two-pow-succ}
 use lib.Count.{count_leading_zeros, leading_unique}

@@ -3,38 +3,18 @@
 use mathlib.Core.Path.{◌≡◌, sym, ap, ap₂, ◌∙◌, subst}
 use mathlib.Core.Logic.{◌⊎◌, inl, inr}
 use mathlib.Core.Bool.{Bool, cond}
-use mathlib.Core.List.{List, [], ◌∷◌, ◌++◌, append_assoc}
+use mathlib.Core.List.{List, ◌++◌, append_assoc}
 use Prim.Native.Nat.{ℕ, ◌+◌, ◌-◌, ◌*◌, ◌/◌, ◌%◌, ◌^◌, ◌≤◌, ◌<◌, min}
-use native.Mathlib.Nat.{div-div-eq-div-mul}
-use native.Mathlib.Numerals.{towards_suc}
 use native.Mathlib.Omega.{arith}
 use borrow.Author.Tests.{lt-ltb, le-ltb}
-use lib.ListN.{length, take, drop, set, length-append, length-drop}
+use lib.ListN.{length, take, drop, length-append, length-drop}
 use lib.Pow.{mod-mod-pow}
-use lib.Seq.{sets, sets-eq, take_at, drop_at, drop-drop}
+use lib.Seq.{take_at, drop_at, drop-drop}
 use Rattle.blocks.specs.Bytes.{digits}
 use Rattle.blocks.specs.Put.{word_put, Standing}
 use Rattle.blocks.proofs.Law.Digits.{byte, length_digits, digits_append, digits_mod}
 use Rattle.blocks.proofs.Law.Words.{pow_pow}
 use Rattle.blocks.proofs.Law.Truth.{le_or_lt}
-
--- ---- four stores
-
-four_digits : (x : ℕ) → digits 256 4 x ≡ x % 256 ∷ x / 256 % 256 ∷ x / 65536 % 256 ∷ x / 16777216 % 256 ∷ []
-unfolding digits
-four_digits x = simp div-div-eq-div-mul
-
-four_sets : (l : List ℕ) (at a b c d : ℕ) → set (set (set (set l at a) (at + 1) b) (at + 2) c) (at + 3) d ≡ sets l at (a ∷ b ∷ c ∷ d ∷ [])
-four_sets l at a b c d = simp towards_suc
-
-pub four_stores : (out : List ℕ) (at x : ℕ) → at + 4 ≤ length out
-    → set (set (set (set out at (x % 256)) (at + 1) (x / 256 % 256)) (at + 2) (x / 65536 % 256)) (at + 3) (x / 16777216 % 256)
-    ≡ take at out ++ digits 256 4 x ++ drop (at + 4) out
-four_stores out at x h =
-    four_sets out at _ _ _ _
-    ∙ ap (sets out at) (sym (four_digits x))
-    ∙ sets-eq (digits 256 4 x) out at (rw length_digits h)
-    ∙ ap (λ (k : ℕ). take at out ++ digits 256 4 x ++ drop (at + k) out) (length_digits 256 4 x)
 
 -- ---- what one step puts
 

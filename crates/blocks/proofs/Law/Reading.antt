@@ -1,32 +1,48 @@
 -- What a load, and the code of some bits at a bit, give.
 -- Assumes nothing.
-use mathlib.Core.Path.{◌≡◌, sym, ap, ap₂, ◌∙◌, subst₂}
-use mathlib.Core.List.{List}
-use Prim.Native.Nat.{ℕ, ◌+◌, ◌-◌, ◌*◌, ◌/◌, ◌%◌, ◌^◌, ◌≤◌, ◌<◌}
-use native.Mathlib.Nat.{zero-lt-suc, add-zero, mul_comm, mod-lt, div-div-eq-div-mul, sub-add_cancel, add-sub_of_le}
+use mathlib.Core.Path.{◌≡◌, refl, sym, ap, ap₂, ◌∙◌, subst₂}
+use mathlib.Core.List.{List, [], ◌∷◌}
+use Prim.Native.Nat.{ℕ, zero, suc, ◌+◌, ◌-◌, ◌*◌, ◌/◌, ◌%◌, ◌^◌, ◌≤◌, ◌<◌}
+use native.Mathlib.Nat.{zero-lt-suc, mod-lt, div-div-eq-div-mul, sub-add_cancel, add-sub_of_le}
+use native.Mathlib.Numerals.{towards_suc}
 use native.Mathlib.Omega.{arith}
 use lib.Bits.{bit_and}
-use lib.ListN.{length, take, drop, get_or, length-drop}
+use lib.ListN.{length, take, drop, get_or}
 use lib.Pow.{pow_pos, pow-add, shr_lt, mod-mod-pow}
-use lib.Seq.{take-add, drop-cons, drop-drop, length-take-le}
+use lib.Seq.{drop-cons}
+use mir.Syntax.{w32, w64}
+use Rattle.std.specs.Int.{from_le_bytes}
 use Rattle.blocks.specs.Bytes.{Below, number}
-use Rattle.blocks.proofs.Law.Digits.{byte, number_append, number_part, number_at}
+use Rattle.blocks.proofs.Law.Digits.{byte, number_part, number_at}
 use Rattle.blocks.proofs.Law.Words.{bit_place, field_in_word, field_past_word, masked, join_low}
 
--- ---- a load is two loads of half as many bytes
+-- ---- a load: what its bytes spell is the library's sum of what each is worth
 
-pub load_halves : (s : List ℕ) (at j k : ℕ) → at + j ≤ length s
-    → number 256 (take (j + k) (drop at s)) ≡ number 256 (take j (drop at s)) + number 256 (take k (drop (at + j) s)) * 256 ^ j
-load_halves s at j k h =
-    ap (number 256) (take-add j k (drop at s))
-    ∙ number_append 256 byte (take j (drop at s)) (take k (drop j (drop at s)))
-    ∙ ap₂ (λ (n : ℕ) (r : List ℕ). number 256 (take j (drop at s)) + 256 ^ n * number 256 (take k r))
-    (length-take-le j (drop at s) (rw length-drop (omega arith))) (drop-drop j at s)
-    ∙ ap (λ (n : ℕ). number 256 (take j (drop at s)) + n) (mul_comm (256 ^ j) (number 256 (take k (drop (at + j) s))))
+-- the k bytes from a place on
+abbrev listed : List ℕ → ℕ → ℕ → List ℕ
+listed s at zero = []
+listed s at (suc k) = get_or s at 0 ∷ listed s (suc at) k
 
-pub load_byte : (s : List ℕ) (at : ℕ) → at < length s → number 256 (take 1 (drop at s)) ≡ get_or s at 0
+taken : (s : List ℕ) (k at : ℕ) → at + k ≤ length s → take k (drop at s) ≡ listed s at k
+taken s zero at h = refl
+taken s (suc k) at h = ap (take (suc k)) (drop-cons s at 0 (omega arith)) ∙ ap (λ (r : List ℕ). get_or s at 0 ∷ r) (taken s k (suc at) (omega arith))
+
+four_number : (a b c d : ℕ) → number 256 (a ∷ b ∷ c ∷ d ∷ []) ≡ from_le_bytes w32 (a ∷ b ∷ c ∷ d ∷ [])
 unfolding number
-load_byte s at h = ap (λ (r : List ℕ). number 256 (take 1 r)) (drop-cons s at 0 h) ∙ add-zero (get_or s at 0)
+four_number a b c d = omega arith
+
+eight_number : (a b c d e f g h : ℕ) → number 256 (a ∷ b ∷ c ∷ d ∷ e ∷ f ∷ g ∷ h ∷ []) ≡ from_le_bytes w64 (a ∷ b ∷ c ∷ d ∷ e ∷ f ∷ g ∷ h ∷ [])
+unfolding number
+eight_number a b c d e f g h = omega arith
+
+pub quad_read : (s : List ℕ) (at : ℕ) → at + 4 ≤ length s
+    → from_le_bytes w32 (get_or s at 0 ∷ get_or s (at + 1) 0 ∷ get_or s (at + 2) 0 ∷ get_or s (at + 3) 0 ∷ []) ≡ number 256 (take 4 (drop at s))
+quad_read s at h = simp towards_suc (sym (ap (number 256) (taken s 4 at h) ∙ four_number (get_or s at 0) _ _ _))
+
+pub load_read : (s : List ℕ) (at : ℕ) → at + 8 ≤ length s
+    → from_le_bytes w64 (get_or s at 0 ∷ get_or s (at + 1) 0 ∷ get_or s (at + 2) 0 ∷ get_or s (at + 3) 0
+    ∷ get_or s (at + 4) 0 ∷ get_or s (at + 5) 0 ∷ get_or s (at + 6) 0 ∷ get_or s (at + 7) 0 ∷ []) ≡ number 256 (take 8 (drop at s))
+load_read s at h = simp towards_suc (sym (ap (number 256) (taken s 8 at h) ∙ eight_number (get_or s at 0) _ _ _ _ _ _ _))
 
 -- ---- the code of w bits at a bit
 

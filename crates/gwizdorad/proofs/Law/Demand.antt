@@ -19,10 +19,11 @@ use Rattle.numbers.specs.Difference.{difference_codes, running_sums}
 use Rattle.numbers.specs.Answers.{code_answer, pattern_answer}
 use Rattle.numbers.specs.Bound.{bound_answer, bound_number, bound_detail}
 use Rattle.numbers.specs.Theorem.{Format, Reads, Nearest, Within, Returned, BoundFor}
-use Rattle.numbers.specs.declared.bound.BoundAnswer.{BoundAnswer}
-use Rattle.numbers.specs.declared.bound.BoundAnswer.TheVariants.{Exponent, UnknownWidth, NoTolerance, TooSmall}
-use Rattle.numbers.specs.declared.tolerance.CodeAnswer.TheVariants as code
-use Rattle.numbers.specs.declared.tolerance.PatternAnswer.TheVariants as pattern
+use Rattle.std.specs.Prelude.{Some, None, Result, Ok, Err}
+use Rattle.numbers.specs.declared.bound.BoundError.{BoundError}
+use Rattle.numbers.specs.declared.bound.BoundError.TheVariants.{UnknownWidth, NoTolerance, TooSmall}
+use Rattle.numbers.specs.declared.tolerance.PatternError.{PatternError}
+use Rattle.numbers.specs.declared.tolerance.PatternError.TheVariants.{NotAllowed, AboveLargest}
 use Rattle.numbers.proofs.Theorems.{format_32, format_64, every_pattern_is_restored, every_list_is_restored, a_coded_k_is_allowed, an_allowed_k_has_a_bin, a_code_is_restored, the_code_is_the_nearest, the_code_beyond, the_code_has_the_sign, binary32_value, binary64_value, binary32_magnitude, binary64_magnitude, binary32_returned, binary64_returned, bound_for_binary32, bound_for_binary64}
 use Rattle.blocks.specs.Bytes.{Below}
 use Rattle.stream.specs.Setting.{highest_level, known_level, known_width, fraction_bits, lossless_mode, allowed_mode, allowed_setting, setting_of, halves_at, ruled, setting_at, width_need, mode_need, size_need, need, stream_need, k_bits, mode_number, group_size, code_at, codes_after}
@@ -32,7 +33,7 @@ use Rattle.stream.specs.Stream.{values}
 use Rattle.stream.specs.Writing.{piece_bytes, data_of, starts_of, header_numbers, end_of, body, stream, Side, placed, ids_of, WellFormedSides}
 use Rattle.stream.specs.Packing.{Packable, Sent}
 use Rattle.stream.specs.Operations.{pack_answer, pack_out}
-use Rattle.stream.specs.declared.answers.Answer.TheVariants.{Done}
+use Rattle.std.specs.Prelude.{Ok}
 use Rattle.stream.proofs.Law.Plain.Truth.{and_left, and_right, either, or_false}
 use Rattle.stream.proofs.Law.Setting.Allowed.{need_128, need_mode_2, level_small, width_some, mode_allowed}
 use Rattle.stream.proofs.Law.Written.Numbers.{spell_put}
@@ -81,8 +82,8 @@ format_at : (W : ℕ) → known_width W ≡ true → Format W (fraction_bits W)
 unfolding fraction_bits
 format_at = of_a_width (λ (W : ℕ). Format W (fraction_bits W)) format_32 format_64
 
-pub within_at : (W halves : ℕ) (k : ℤ) (p c : ℕ) → known_width W ≡ true → p < 2 ^ W → code_answer W (fraction_bits W) halves k p ≡ code.Code c
-    → (q : ℕ) × (pattern_answer W (fraction_bits W) k c ≡ pattern.Pattern q) × Returned (format_of W) (bin_of W (fraction_bits W) k) p q
+pub within_at : (W halves : ℕ) (k : ℤ) (p c : ℕ) → known_width W ≡ true → p < 2 ^ W → code_answer W (fraction_bits W) halves k p ≡ Some c
+    → (q : ℕ) × (pattern_answer W (fraction_bits W) k c ≡ Ok q) × Returned (format_of W) (bin_of W (fraction_bits W) k) p q
 within_at W halves k p c width h e =
     let allowed = a_coded_k_is_allowed W (fraction_bits W) (format_at W width) halves k p c e in
     let r = a_code_is_restored W (fraction_bits W) (format_at W width) k allowed halves p c h e in
@@ -172,67 +173,67 @@ module _ (W : ℕ) (k : ℤ) (u : ℕ) (negative : Bool) (width : known_width W 
 -- when the number rules refuse
 module _ (W m halves : ℕ) (k : ℤ) (p : ℕ) where
   pub coded_at : (old : ℕ) → halves ≤ 1 → allowed_k W m k ≡ true
-      → (code_answer W m halves k p ≡ code.Code (tolerance_code W m halves (bin_of W m k) p)) × (code_out (code_answer W m halves k p) old ≡ tolerance_code W m halves (bin_of W m k) p)
+      → (code_answer W m halves k p ≡ Some (tolerance_code W m halves (bin_of W m k) p)) × (code_out (code_answer W m halves k p) old ≡ tolerance_code W m halves (bin_of W m k) p)
   unfolding code_answer known_halves code_out
   coded_at old known e = (rw (le-leb halves 1 known, e), rw (le-leb halves 1 known, e))
 
-  pub code_refused : code_answer W m halves k p ≡ code.NotAllowed ↔ (1 < halves) ⊎ (allowed_k W m k ≡ false)
+  pub code_refused : code_answer W m halves k p ≡ None ↔ (1 < halves) ⊎ (allowed_k W m k ≡ false)
   unfolding code_answer known_halves
   code_refused = (λ e. go (leb halves 1) refl (allowed_k W m k) refl e, back)
     where
-      go : (a : Bool) → leb halves 1 ≡ a → (b : Bool) → allowed_k W m k ≡ b → code_answer W m halves k p ≡ code.NotAllowed → (1 < halves) ⊎ (allowed_k W m k ≡ false)
+      go : (a : Bool) → leb halves 1 ≡ a → (b : Bool) → allowed_k W m k ≡ b → code_answer W m halves k p ≡ None → (1 < halves) ⊎ (allowed_k W m k ≡ false)
       go false known b is e = inl (leb-false halves 1 known)
       go true known false is e = inr is
       go true known true is e =
-          let z : code.Code (tolerance_code W m halves (bin_of W m k) p) ≡ code.NotAllowed = rw (known, is) at e in
+          let z : Some (tolerance_code W m halves (bin_of W m k) p) ≡ None = rw (known, is) at e in
           inr (let none : allowed_k W m k ≡ false = cc in none)
 
-      back : (1 < halves) ⊎ (allowed_k W m k ≡ false) → code_answer W m halves k p ≡ code.NotAllowed
+      back : (1 < halves) ⊎ (allowed_k W m k ≡ false) → code_answer W m halves k p ≡ None
       back (inl unknown) = rw (lt-leb halves 1 unknown)
       back (inr is) = refused (leb halves 1) is
         where
-          refused : (a : Bool) → allowed_k W m k ≡ false → cond (a && allowed_k W m k) (code.Code (tolerance_code W m halves (bin_of W m k) p)) code.NotAllowed ≡ code.NotAllowed
+          refused : (a : Bool) → allowed_k W m k ≡ false → cond (a && allowed_k W m k) (Some (tolerance_code W m halves (bin_of W m k) p)) None ≡ None
           refused true z = rw z
           refused false z = refl
 
 module _ (W m : ℕ) (k : ℤ) where
   pub decoded_at : (c old : ℕ) → allowed_k W m k ≡ true → c / 2 ≤ largest_u W m (bin_of W m k)
-      → (pattern_answer W m k c ≡ pattern.Pattern (tolerance_restored W m (bin_of W m k) c)) × (pattern_out (pattern_answer W m k c) old ≡ tolerance_restored W m (bin_of W m k) c)
+      → (pattern_answer W m k c ≡ Ok (tolerance_restored W m (bin_of W m k) c)) × (pattern_out (pattern_answer W m k c) old ≡ tolerance_restored W m (bin_of W m k) c)
   unfolding pattern_answer pattern_out
   decoded_at c old e most = (rw (e, le-leb (c / 2) (largest_u W m (bin_of W m k)) most), rw (e, le-leb (c / 2) (largest_u W m (bin_of W m k)) most))
 
-  pub pattern_refused : (c : ℕ) → pattern_answer W m k c ≡ pattern.NotAllowed ↔ allowed_k W m k ≡ false
+  pub pattern_refused : (c : ℕ) → pattern_answer W m k c ≡ Err NotAllowed ↔ allowed_k W m k ≡ false
   unfolding pattern_answer
   pattern_refused c = (λ e. go (allowed_k W m k) refl (leb (c / 2) (largest_u W m (bin_of W m k))) refl e, λ e. rw e)
     where
-      go : (b : Bool) → allowed_k W m k ≡ b → (l : Bool) → leb (c / 2) (largest_u W m (bin_of W m k)) ≡ l → pattern_answer W m k c ≡ pattern.NotAllowed
+      go : (b : Bool) → allowed_k W m k ≡ b → (l : Bool) → leb (c / 2) (largest_u W m (bin_of W m k)) ≡ l → pattern_answer W m k c ≡ Err NotAllowed
           → allowed_k W m k ≡ false
       go false is l least e = is
-      go true is true least e = let z : pattern.Pattern (tolerance_restored W m (bin_of W m k) c) ≡ pattern.NotAllowed = rw (is, least) at e in cc
-      go true is false least e = let z : pattern.AboveLargest ≡ pattern.NotAllowed = rw (is, least) at e in cc
+      go true is true least e = let z : Ok (tolerance_restored W m (bin_of W m k) c) ≡ Err NotAllowed = rw (is, least) at e in cc
+      go true is false least e = let z : ◌≡◌ {A = Result ℕ PatternError} (Err AboveLargest) (Err NotAllowed) = rw (is, least) at e in cc
 
-  pub pattern_above : (c : ℕ) → pattern_answer W m k c ≡ pattern.AboveLargest ↔ (allowed_k W m k ≡ true) × (largest_u W m (bin_of W m k) < c / 2)
+  pub pattern_above : (c : ℕ) → pattern_answer W m k c ≡ Err AboveLargest ↔ (allowed_k W m k ≡ true) × (largest_u W m (bin_of W m k) < c / 2)
   unfolding pattern_answer
   pattern_above c = (λ e. go (allowed_k W m k) refl (leb (c / 2) (largest_u W m (bin_of W m k))) refl e, λ e. rw (e.0, lt-leb (c / 2) (largest_u W m (bin_of W m k)) e.1))
     where
-      go : (b : Bool) → allowed_k W m k ≡ b → (l : Bool) → leb (c / 2) (largest_u W m (bin_of W m k)) ≡ l → pattern_answer W m k c ≡ pattern.AboveLargest
+      go : (b : Bool) → allowed_k W m k ≡ b → (l : Bool) → leb (c / 2) (largest_u W m (bin_of W m k)) ≡ l → pattern_answer W m k c ≡ Err AboveLargest
           → (allowed_k W m k ≡ true) × (largest_u W m (bin_of W m k) < c / 2)
-      go false is l least e = let z : pattern.NotAllowed ≡ pattern.AboveLargest = rw is at e in absurd (let n : ◌≡◌ {A = ℕ} 0 1 = cc in omega (arith, n))
+      go false is l least e = let z : ◌≡◌ {A = Result ℕ PatternError} (Err NotAllowed) (Err AboveLargest) = rw is at e in absurd (let n : ◌≡◌ {A = ℕ} 0 1 = cc in omega (arith, n))
       go true is true least e =
-          let z : pattern.Pattern (tolerance_restored W m (bin_of W m k) c) ≡ pattern.AboveLargest = rw (is, least) at e in
+          let z : Ok (tolerance_restored W m (bin_of W m k) c) ≡ Err AboveLargest = rw (is, least) at e in
           absurd (let n : ◌≡◌ {A = ℕ} 0 1 = cc in omega (arith, n))
       go true is false least e = (is, leb-false (c / 2) (largest_u W m (bin_of W m k)) least)
 
 -- bound's details are 0
-pub bound_detail_lem : (a : BoundAnswer) → (bound_number a ≡ 0 → ⊥) → bound_detail a ≡ pos 0
+pub bound_detail_lem : (a : Result ℤ BoundError) → (bound_number a ≡ 0 → ⊥) → bound_detail a ≡ pos 0
 unfolding bound_number bound_detail
-bound_detail_lem (Exponent k) refused = absurd (refused refl)
-bound_detail_lem UnknownWidth refused = refl
-bound_detail_lem NoTolerance refused = refl
-bound_detail_lem TooSmall refused = refl
+bound_detail_lem (Ok k) refused = absurd (refused refl)
+bound_detail_lem (Err UnknownWidth) refused = refl
+bound_detail_lem (Err NoTolerance) refused = refl
+bound_detail_lem (Err TooSmall) refused = refl
 
 -- a width that is not known
-pub unknown_width : (W t : ℕ) → known_width W ≡ false → bound_answer W t ≡ UnknownWidth
+pub unknown_width : (W t : ℕ) → known_width W ≡ false → bound_answer W t ≡ Err UnknownWidth
 unfolding known_width bound_answer
 unknown_width W t e = let neither = or_false (eqb W 32) (eqb W 64) e in rw (neither.0, neither.1)
 
@@ -311,7 +312,7 @@ needs_13 W mode k group = max-le (max-le (one (eqb W 64) 10 8 (lit≤ tt) (lit�
 
 -- ---- the values of a packed stream
 
-module _ (W level mode : ℕ) (k : ℤ) (group : ℕ) (vs out : List ℕ) (size : ℕ) (done : pack_answer W level mode k group vs (length out) ≡ Done size)
+module _ (W level mode : ℕ) (k : ℤ) (group : ℕ) (vs out : List ℕ) (size : ℕ) (done : pack_answer W level mode k group vs (length out) ≡ Ok size)
     (packable : Packable W level mode k group vs) where
   whole : length (take size (pack_out W level mode k group vs out)) ≡ size
   whole = ap length (accepted_bytes W level mode k group vs out size done) ∙ sym (accepted_leaves W level mode k group vs out size done).0

@@ -1,5 +1,5 @@
 -- The laws of bound: the answer by the magnitude's digits, and that it is the largest. Once over W and m.
-use Rattle.std.proofs.Common.{◌≡◌, ℕ, zero, suc, ◌+◌, ◌-◌, ◌*◌, ◌/◌, ◌%◌, ◌^◌, ◌<◌, ◌≤◌, min, Bool, true, false, T, ◌⊎◌, ℤ, pos, negsuc, ◌+ℤ◌, ◌-ℤ◌, neg_ℤ, nat_abs, sym, refl, ap, ◌∙◌, subst, ap₂, inl, inr, le_refl, mod-lt, le_antisymm, mul-pos, arith, pow_pos, pow_mono, to_z-of_z, SFits, to_z, of_z, le-ltb, lt-ltb, le-leb}
+use Rattle.std.proofs.Common.{◌≡◌, ℕ, zero, suc, ◌+◌, ◌-◌, ◌*◌, ◌/◌, ◌%◌, ◌^◌, ◌<◌, ◌≤◌, min, Bool, true, false, T, ◌⊎◌, ℤ, pos, negsuc, ◌+ℤ◌, ◌-ℤ◌, neg_ℤ, nat_abs, sym, refl, ap, ◌∙◌, subst, ap₂, inl, inr, le_refl, mod-lt, le_antisymm, mul-pos, arith, pow_pos, pow_mono, to_z-of_z, SFits, to_z, of_z, le-ltb, lt-ltb, le-leb, Result, Ok, Err}
 use native.Mathlib.Nat.{le_step, min-le_right, two-pow-succ}
 use borrow.Author.Tests.{lt-leb}
 use lib.IntN.{sub_ℕ}
@@ -10,7 +10,8 @@ use lib.Ieee.Digits.{size-lt, size_reaches, size-le}
 use mir.Syntax.{Width}
 use mir.Val.{hbits}
 use mir.Facts.{to_z_pos}
-use Rattle.numbers.specs.declared.bound.BoundAnswer.TheVariants.{Exponent, NoTolerance, TooSmall}
+use Rattle.numbers.specs.declared.bound.BoundError.{BoundError}
+use Rattle.numbers.specs.declared.bound.BoundError.TheVariants.{NoTolerance, TooSmall}
 use Rattle.bins.specs.Tolerance.{k_offset, last_bin, allowed_k, bin_of, magnitude}
 use Rattle.numbers.specs.Bound.{is_tolerance, exponent_of, not_above, largest_up_to, bound_at}
 use Rattle.numbers.specs.Theorem.{Format, IsBound}
@@ -64,37 +65,37 @@ module _ (m o : ℕ) where
 
 module _ (W m t : ℕ) where
   pub largest_found : (n j : ℕ) → j ≤ n → not_above W m t j ≡ true → ((i : ℕ) → j < i → i ≤ n → not_above W m t i ≡ false)
-      → largest_up_to W m t n ≡ Exponent (exponent_of W m j)
+      → largest_up_to W m t n ≡ Ok (exponent_of W m j)
   unfolding largest_up_to
-  largest_found zero j h y rest = let e : j ≡ 0 = omega arith in rw (rw e at y) (ap (λ (i : ℕ). Exponent (exponent_of W m i)) (sym e))
+  largest_found zero j h y rest = let e : j ≡ 0 = omega arith in rw (rw e at y) (ap (λ (i : ℕ). Ok (exponent_of W m i)) (sym e))
   largest_found (suc n) j h y rest = go (λ l. largest_found n j l y (λ i a b. rest i a (le_step b))) (le_or_lt j n)
     where
-      go : (j ≤ n → largest_up_to W m t n ≡ Exponent (exponent_of W m j)) → (j ≤ n) ⊎ (n < j) → largest_up_to W m t (suc n) ≡ Exponent (exponent_of W m j)
+      go : (j ≤ n → largest_up_to W m t n ≡ Ok (exponent_of W m j)) → (j ≤ n) ⊎ (n < j) → largest_up_to W m t (suc n) ≡ Ok (exponent_of W m j)
       go again (inl l) = rw (rest (suc n) (omega arith) (le_refl (suc n))) (again l)
-      go again (inr l) = let e : j ≡ suc n = omega arith in rw (rw e at y) (ap (λ (i : ℕ). Exponent (exponent_of W m i)) (sym e))
+      go again (inr l) = let e : j ≡ suc n = omega arith in rw (rw e at y) (ap (λ (i : ℕ). Ok (exponent_of W m i)) (sym e))
 
-  pub largest_none : (n : ℕ) → ((i : ℕ) → i ≤ n → not_above W m t i ≡ false) → largest_up_to W m t n ≡ TooSmall
+  pub largest_none : (n : ℕ) → ((i : ℕ) → i ≤ n → not_above W m t i ≡ false) → largest_up_to W m t n ≡ Err TooSmall
   unfolding largest_up_to
   largest_none zero none = rw (none 0 (le_refl 0))
   largest_none (suc n) none = rw (none (suc n) (le_refl (suc n))) (largest_none n (λ i h. none i (le_step h)))
 
   -- the trying ends with an exponent or with none
-  pub found_or_none : (n : ℕ) → (largest_up_to W m t n ≡ TooSmall) ⊎ ((k : ℤ) × (largest_up_to W m t n ≡ Exponent k))
+  pub found_or_none : (n : ℕ) → (largest_up_to W m t n ≡ Err TooSmall) ⊎ ((k : ℤ) × (largest_up_to W m t n ≡ Ok k))
   unfolding largest_up_to
   found_or_none zero = go (not_above W m t zero) refl
     where
-      go : (b : Bool) → not_above W m t zero ≡ b → (largest_up_to W m t zero ≡ TooSmall) ⊎ ((k : ℤ) × (largest_up_to W m t zero ≡ Exponent k))
+      go : (b : Bool) → not_above W m t zero ≡ b → (largest_up_to W m t zero ≡ Err TooSmall) ⊎ ((k : ℤ) × (largest_up_to W m t zero ≡ Ok k))
       go true y = inr (exponent_of W m zero, rw y)
       go false y = inl (rw y)
   found_or_none (suc n) = go (found_or_none n) (not_above W m t (suc n)) refl
     where
-      go : (largest_up_to W m t n ≡ TooSmall) ⊎ ((k : ℤ) × (largest_up_to W m t n ≡ Exponent k)) → (b : Bool) → not_above W m t (suc n) ≡ b
-          → (largest_up_to W m t (suc n) ≡ TooSmall) ⊎ ((k : ℤ) × (largest_up_to W m t (suc n) ≡ Exponent k))
+      go : (largest_up_to W m t n ≡ Err TooSmall) ⊎ ((k : ℤ) × (largest_up_to W m t n ≡ Ok k)) → (b : Bool) → not_above W m t (suc n) ≡ b
+          → (largest_up_to W m t (suc n) ≡ Err TooSmall) ⊎ ((k : ℤ) × (largest_up_to W m t (suc n) ≡ Ok k))
       go before true y = inr (exponent_of W m (suc n), rw y)
       go (inl e) false y = inl (rw y e)
       go (inr e) false y = inr (e.0, rw y e.1)
 
-  pub none_is : (n : ℕ) → largest_up_to W m t n ≡ TooSmall → (i : ℕ) → i ≤ n → not_above W m t i ≡ false
+  pub none_is : (n : ℕ) → largest_up_to W m t n ≡ Err TooSmall → (i : ℕ) → i ≤ n → not_above W m t i ≡ false
   unfolding largest_up_to
   none_is zero e i h = go (not_above W m t zero) refl
     where
@@ -102,12 +103,12 @@ module _ (W m t : ℕ) where
       is = omega arith
 
       go : (b : Bool) → not_above W m t zero ≡ b → not_above W m t i ≡ false
-      go true y = let z : Exponent (exponent_of W m zero) ≡ TooSmall = rw y at e in cc
+      go true y = let z : Ok (exponent_of W m zero) ≡ Err TooSmall = rw y at e in cc
       go false y = rw is y
   none_is (suc n) e i h = go (none_is n) (not_above W m t (suc n)) refl
     where
-      go : (largest_up_to W m t n ≡ TooSmall → (i : ℕ) → i ≤ n → not_above W m t i ≡ false) → (b : Bool) → not_above W m t (suc n) ≡ b → not_above W m t i ≡ false
-      go again true y = let z : Exponent (exponent_of W m (suc n)) ≡ TooSmall = rw y at e in cc
+      go : (largest_up_to W m t n ≡ Err TooSmall → (i : ℕ) → i ≤ n → not_above W m t i ≡ false) → (b : Bool) → not_above W m t (suc n) ≡ b → not_above W m t i ≡ false
+      go again true y = let z : Ok (exponent_of W m (suc n)) ≡ Err TooSmall = rw y at e in cc
       go again false y = last (again (rw y at e)) (le_or_lt i n)
         where
           last : ((i : ℕ) → i ≤ n → not_above W m t i ≡ false) → (i ≤ n) ⊎ (n < i) → not_above W m t i ≡ false
@@ -122,7 +123,7 @@ module _ (W m t : ℕ) where
     pub below : not_above W m t bin ≡ true
     pub above : (i : ℕ) → i ≤ n → not_above W m t i ≡ true → i ≤ bin
 
-  top_is : (n : ℕ) (k : ℤ) → not_above W m t n ≡ true → Exponent (exponent_of W m n) ≡ Exponent k → Largest n k
+  top_is : (n : ℕ) (k : ℤ) → not_above W m t n ≡ true → ◌≡◌ {A = Result ℤ BoundError} (Ok (exponent_of W m n)) (Ok k) → Largest n k
   top_is n k y e = record { bin = n; is = (cc); within = le_refl n; below = y; above = λ i h z. h }
 
   one_more : (n : ℕ) (k : ℤ) → not_above W m t (suc n) ≡ false → Largest n k → Largest (suc n) k
@@ -132,10 +133,10 @@ module _ (W m t : ℕ) where
       go i z (inl l) h = r.above i l z
       go i z (inr l) h = let e : i ≡ suc n = omega arith in let q : true ≡ false = sym (rw e at z) ∙ y in absurd (let d : ◌≡◌ {A = ℕ} 0 1 = cc in omega arith)
 
-  never : (k : ℤ) → TooSmall ≡ Exponent k → ⊥
+  never : (k : ℤ) → Err TooSmall ≡ Ok k → ⊥
   never k e = let d : ◌≡◌ {A = ℕ} 0 1 = cc in omega arith
 
-  pub largest_is : (n : ℕ) (k : ℤ) → largest_up_to W m t n ≡ Exponent k → Largest n k
+  pub largest_is : (n : ℕ) (k : ℤ) → largest_up_to W m t n ≡ Ok k → Largest n k
   unfolding largest_up_to
   largest_is zero k e = go (not_above W m t zero) refl
     where
@@ -144,7 +145,7 @@ module _ (W m t : ℕ) where
       go false y = absurd (never k (rw y at e))
   largest_is (suc n) k e = go (largest_is n k) (not_above W m t (suc n)) refl
     where
-      go : (largest_up_to W m t n ≡ Exponent k → Largest n k) → (b : Bool) → not_above W m t (suc n) ≡ b → Largest (suc n) k
+      go : (largest_up_to W m t n ≡ Ok k → Largest n k) → (b : Bool) → not_above W m t (suc n) ≡ b → Largest (suc n) k
       go again true y = top_is (suc n) k y (rw y at e)
       go again false y = one_more n k y (again (rw y at e))
 
@@ -167,7 +168,7 @@ module _ (W m t : ℕ) where
         lt-leb (2 ^ (j + (k_offset 64 52 - k_offset W m))) (2 * x) (omega (arith, two-pow-succ (size x), size-lt x))
 
     pub bound_is : is_tolerance t ≡ true → k_offset 64 52 - k_offset W m ≤ size (magnitude 52 t)
-        → bound_at W m t ≡ Exponent (exponent_of W m (min (size (magnitude 52 t) - (k_offset 64 52 - k_offset W m)) (last_bin W m)))
+        → bound_at W m t ≡ Ok (exponent_of W m (min (size (magnitude 52 t) - (k_offset 64 52 - k_offset W m)) (last_bin W m)))
     unfolding bound_at
     bound_is e h =
         let lift = k_offset 64 52 - k_offset W m in
@@ -176,13 +177,13 @@ module _ (W m t : ℕ) where
         (largest_found (last_bin W m) (min (d - lift) (last_bin W m)) (min-le_right (d - lift) (last_bin W m))
         (not_above_yes (min (d - lift) (last_bin W m)) (omega arith)) (λ i a b. not_above_no i (omega arith)))
 
-    pub bound_none : is_tolerance t ≡ true → size (magnitude 52 t) < k_offset 64 52 - k_offset W m → bound_at W m t ≡ TooSmall
+    pub bound_none : is_tolerance t ≡ true → size (magnitude 52 t) < k_offset 64 52 - k_offset W m → bound_at W m t ≡ Err TooSmall
     unfolding bound_at
     bound_none e h = rw e (largest_none (last_bin W m) (λ i a. not_above_no i (omega arith)))
 
 -- ---- what the functions of src/bound.rt ask and return
 
-pub refused_is : (W m t : ℕ) → is_tolerance t ≡ false → NoTolerance ≡ bound_at W m t
+pub refused_is : (W m t : ℕ) → is_tolerance t ≡ false → Err NoTolerance ≡ bound_at W m t
 unfolding bound_at
 refused_is W m t e = rw e
 
@@ -242,43 +243,43 @@ module _ (W m : ℕ) (format : Format W m) where
             record { le = subst T (sym (ap₂ le_z (sym (exponent_back other a)) r.is ∙ sub_mono (k_offset W m) (bin_of W m other) r.bin up)) tt };
       }
 
-  pub bound_sound : (t : ℕ) (k : ℤ) → bound_at W m t ≡ Exponent k → IsBound W m t k
+  pub bound_sound : (t : ℕ) (k : ℤ) → bound_at W m t ≡ Ok k → IsBound W m t k
   unfolding bound_at
   bound_sound t k e = go (is_tolerance t) refl
     where
       go : (b : Bool) → is_tolerance t ≡ b → IsBound W m t k
       go true y = largest_bound t k (largest_is W m t (last_bin W m) k (rw y at e))
-      go false y = absurd (let z : NoTolerance ≡ Exponent k = rw y at e in let d : ◌≡◌ {A = ℕ} 0 1 = cc in omega arith)
+      go false y = absurd (let z : Err NoTolerance ≡ Ok k = rw y at e in let d : ◌≡◌ {A = ℕ} 0 1 = cc in omega arith)
 
-  pub bound_refused : (t : ℕ) → bound_at W m t ≡ TooSmall → (k : ℤ) → allowed_k W m k ≡ true → not_above W m t (bin_of W m k) ≡ false
+  pub bound_refused : (t : ℕ) → bound_at W m t ≡ Err TooSmall → (k : ℤ) → allowed_k W m k ≡ true → not_above W m t (bin_of W m k) ≡ false
   unfolding bound_at
   bound_refused t e k a = go (is_tolerance t) refl
     where
       go : (b : Bool) → is_tolerance t ≡ b → not_above W m t (bin_of W m k) ≡ false
       go true y = none_is W m t (last_bin W m) (rw y at e) (bin_of W m k) (bin_small W m k format.least format.order a)
-      go false y = let z : NoTolerance ≡ TooSmall = rw y at e in cc
+      go false y = let z : Err NoTolerance ≡ Err TooSmall = rw y at e in cc
 
   -- the other way: where there is a bound, it is answered
   pub bound_complete : (t : ℕ) (k : ℤ) → is_tolerance t ≡ true → IsBound W m t k → ((other : ℤ) → IsBound W m t other → other ≡ k)
-      → bound_at W m t ≡ Exponent k
+      → bound_at W m t ≡ Ok k
   unfolding bound_at
   bound_complete t k tolerance is one = rw tolerance (go (found_or_none W m t (last_bin W m)))
     where
-      go : (largest_up_to W m t (last_bin W m) ≡ TooSmall) ⊎ ((other : ℤ) × (largest_up_to W m t (last_bin W m) ≡ Exponent other))
-          → largest_up_to W m t (last_bin W m) ≡ Exponent k
+      go : (largest_up_to W m t (last_bin W m) ≡ Err TooSmall) ⊎ ((other : ℤ) × (largest_up_to W m t (last_bin W m) ≡ Ok other))
+          → largest_up_to W m t (last_bin W m) ≡ Ok k
       go (inl e) =
           let no = none_is W m t (last_bin W m) e (bin_of W m k) (bin_small W m k format.least format.order is.allowed) in
           let z : true ≡ false = sym is.below ∙ no in
           cc
-      go (inr e) = e.1 ∙ ap Exponent (one e.0 (largest_bound t e.0 (largest_is W m t (last_bin W m) e.0 e.1)))
+      go (inr e) = e.1 ∙ ap (λ (i : ℤ). Ok i) (one e.0 (largest_bound t e.0 (largest_is W m t (last_bin W m) e.0 e.1)))
 
   -- and 12 is answered exactly where the tolerance is none
-  pub bound_untold : (t : ℕ) → bound_at W m t ≡ NoTolerance → is_tolerance t ≡ false
+  pub bound_untold : (t : ℕ) → bound_at W m t ≡ Err NoTolerance → is_tolerance t ≡ false
   unfolding bound_at
   bound_untold t e = go (found_or_none W m t (last_bin W m)) (is_tolerance t) refl
     where
-      go : (largest_up_to W m t (last_bin W m) ≡ TooSmall) ⊎ ((k : ℤ) × (largest_up_to W m t (last_bin W m) ≡ Exponent k))
+      go : (largest_up_to W m t (last_bin W m) ≡ Err TooSmall) ⊎ ((k : ℤ) × (largest_up_to W m t (last_bin W m) ≡ Ok k))
           → (b : Bool) → is_tolerance t ≡ b → is_tolerance t ≡ false
-      go (inl none) true y = let z : TooSmall ≡ NoTolerance = sym none ∙ rw y at e in cc
-      go (inr some) true y = let z : Exponent some.0 ≡ NoTolerance = sym some.1 ∙ rw y at e in cc
+      go (inl none) true y = let z : Err TooSmall ≡ Err NoTolerance = sym none ∙ rw y at e in cc
+      go (inr some) true y = let z : Ok some.0 ≡ Err NoTolerance = sym some.1 ∙ rw y at e in cc
       go either false y = y

@@ -1,9 +1,9 @@
 -- What bound answers, of the number that IEEE 754 reads in the tolerance's pattern (lib.Ieee).
-use Rattle.std.proofs.Common.{◌≡◌, ℕ, ◌+◌, ◌-◌, ◌*◌, ◌%◌, ◌^◌, ◌<◌, ◌≤◌, Bool, true, false, ltb, ◌⊎◌, ℤ, pos, ◌+ℤ◌, nat_abs, sym, refl, ap, ◌∙◌, subst, inl, inr, mod-eq_of_lt, mul_comm, div-lt_iff_lt-mul, mul-suc, arith, pow_pos, ltb-true, lt-ltb, le-leb, leb-false, leb-true}
+use Rattle.std.proofs.Common.{◌≡◌, ℕ, ◌+◌, ◌-◌, ◌*◌, ◌%◌, ◌^◌, ◌<◌, ◌≤◌, Bool, true, false, ltb, ◌⊎◌, ℤ, pos, ◌+ℤ◌, nat_abs, sym, refl, ap, ◌∙◌, subst, inl, inr, mod-eq_of_lt, mul_comm, div-lt_iff_lt-mul, mul-suc, arith, pow_pos, ltb-true, lt-ltb, le-leb, leb-false, leb-true, Ok, Err}
 use borrow.Author.Tests.{lt-leb}
 use lib.Ieee.{binary64, prec, hid, ones, top}
 use lib.Ieee as Ieee
-use Rattle.numbers.specs.declared.bound.BoundAnswer.TheVariants.{Exponent, TooSmall}
+use Rattle.numbers.specs.declared.bound.BoundError.TheVariants.{TooSmall}
 use Rattle.bins.specs.Tolerance.{k_offset, last_bin, allowed_k, bin_of, magnitude}
 use Rattle.numbers.specs.Bound.{is_tolerance, exponent_of, not_above, largest_up_to, bound_at}
 use Rattle.numbers.specs.Theorem.{Format, IsBound, Reads, Reaches, LargestFor, BoundFor, a_k, no_tolerance, too_small}
@@ -93,14 +93,14 @@ module _ (W m : ℕ) (format : Format W m) (lower : k_offset W m ≤ k_offset 64
   unfolding bound_at
   bound_for = go (is_tolerance t) refl (Bound.found_or_none W m t (last_bin W m))
     where
-      go : (b : Bool) → is_tolerance t ≡ b → (largest_up_to W m t (last_bin W m) ≡ TooSmall) ⊎ ((k : ℤ) × (largest_up_to W m t (last_bin W m) ≡ Exponent k))
+      go : (b : Bool) → is_tolerance t ≡ b → (largest_up_to W m t (last_bin W m) ≡ Err TooSmall) ⊎ ((k : ℤ) × (largest_up_to W m t (last_bin W m) ≡ Ok k))
           → BoundFor W m t (bound_at W m t)
       go false y either = subst (BoundFor W m t) (Bound.refused_is W m t y) (no_tolerance (other_reads t y))
       go true y (inl none) =
-          let e : bound_at W m t ≡ TooSmall = rw y none in
+          let e : bound_at W m t ≡ Err TooSmall = rw y none in
           subst (BoundFor W m t) (sym e)
           (too_small (magnitude 52 t) (tolerance_reads t y) (Bound.magnitude_some 52 t (Bound.tolerance_some t y)) (λ k a. missed k a (Bound.bound_refused W m format t e k a)))
       go true y (inr (k, some)) =
-          let e : bound_at W m t ≡ Exponent k = rw y some in
+          let e : bound_at W m t ≡ Ok k = rw y some in
           subst (BoundFor W m t) (sym e)
           (a_k (magnitude 52 t) (tolerance_reads t y) (Bound.magnitude_some 52 t (Bound.tolerance_some t y)) k (largest_for k (Bound.bound_sound W m format t k e)))

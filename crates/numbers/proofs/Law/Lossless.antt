@@ -2,6 +2,7 @@
 -- With H = 2 ^ (W - 1) and F = 2 ^ (m + 1) as plain numbers, the exponent step is three linear pieces, and so is its inverse.
 use Rattle.std.proofs.Common.{◌≡◌, ℕ, suc, ◌+◌, ◌-◌, ◌*◌, ◌/◌, ◌%◌, ◌^◌, ◌<◌, ◌≤◌, Bool, true, false, ◌&&◌, eqb, ltb, leb, ◌⊎◌, pos, negsuc, sym, refl, ap, ◌∙◌, inl, inr, add-zero, mod-lt, mod-eq_of_lt, div-lt_iff_lt-mul, add-mul, add_comm, one-mul, le-div_iff_mul-le, zero-mul, arith, pow_pos, pow_mono, pow-add, le-ltb, lt-ltb, eqb-true, le-leb, leb-false, leb-true}
 use native.Mathlib.Nat.{add-div_right, add-mul-div_right, add-mod_right, add-mul-mod_self_right, mod-add-div', div-eq_of_lt, zero-div}
+use Rattle.std.proofs.Math.Nat.{mul-div_cancel}
 use borrow.Author.Tests.{eqb-false, lt-leb}
 use lib.Arith.{digits_div, digits_mod}
 use Rattle.numbers.specs.Signed.{signed_view, unfolded, bits_of}
@@ -45,6 +46,28 @@ module _ (W : ℕ) (some : 0 < W) where
       go : (r % 2 ≤ 0) ⊎ (0 < r % 2) → r / 2 + r % 2 * 2 ^ (W - 1) < 2 ^ W
       go (inl g) = rw (let e : r % 2 ≡ 0 = omega arith in e) (omega (arith, half_below r h, twice_half W some))
       go (inr g) = rw (let e : r % 2 ≡ 1 = omega arith in e) (omega (arith, half_below r h, twice_half W some))
+
+  -- the lowest bit, put highest
+  pub bit_below : (r : ℕ) → r % 2 * 2 ^ (W - 1) < 2 ^ W
+  bit_below r = go (le_or_lt (r % 2) 0)
+    where
+      go : (r % 2 ≤ 0) ⊎ (0 < r % 2) → r % 2 * 2 ^ (W - 1) < 2 ^ W
+      go (inl g) = rw (let e : r % 2 ≡ 0 = omega arith in e) (omega (arith, zero-mul (2 ^ (W - 1)), pow_pos W))
+      go (inr g) = rw (let e : r % 2 ≡ 1 = omega arith in e) (omega (arith, one-mul (2 ^ (W - 1)), twice_half W some, pow_pos (W - 1)))
+
+-- a unit, and the highest bit with one, are words
+pub unit_below : (W m : ℕ) → m + 3 ≤ W → 2 ^ m * 2 < 2 ^ W
+unit_below W m room =
+    let up : 2 ^ (m + 2) ≤ 2 ^ W = pow_mono (omega arith) in
+    let four : 2 ^ (m + 2) ≡ 2 ^ (m + 1) + 2 ^ (m + 1) = twice_half (m + 2) (omega arith) ∙ ap (λ (n : ℕ). 2 ^ n + 2 ^ n) (let e : m + 2 - 1 ≡ m + 1 = omega arith in e) in
+    let two : 2 ^ (m + 1) ≡ 2 ^ m + 2 ^ m = twice_half (m + 1) (omega arith) ∙ ap (λ (n : ℕ). 2 ^ n + 2 ^ n) (let e : m + 1 - 1 ≡ m = omega arith in e) in
+    omega (arith, up, four, two, pow_pos m)
+
+pub highest_and_unit : (W m : ℕ) → m + 3 ≤ W → 2 ^ (W - 1) + 2 ^ (m + 1) < 2 ^ W
+highest_and_unit W m room =
+    let up : 2 ^ (m + 2) ≤ 2 ^ (W - 1) = pow_mono (omega arith) in
+    let four : 2 ^ (m + 2) ≡ 2 ^ (m + 1) + 2 ^ (m + 1) = twice_half (m + 2) (omega arith) ∙ ap (λ (n : ℕ). 2 ^ n + 2 ^ n) (let e : m + 2 - 1 ≡ m + 1 = omega arith in e) in
+    omega (arith, up, four, twice_half W (omega arith), pow_pos (m + 1))
 
 module _ (W m : ℕ) (room : m + 2 ≤ W) where
   H_twice : 2 ^ W ≡ 2 ^ (W - 1) + 2 ^ (W - 1)
@@ -179,10 +202,10 @@ module _ (W m : ℕ) (room : m + 2 ≤ W) where
   -- ---- the exponent number in three cases: zero, up to the middle, above it
 
   -- the middle exponent is 2 ^ (W - 1) in units of the field, and with the next one the numbers above it begin
-  middle_units : 2 ^ (W - 2 - m) * 2 ^ (m + 1) ≡ 2 ^ (W - 1)
+  pub middle_units : 2 ^ (W - 2 - m) * 2 ^ (m + 1) ≡ 2 ^ (W - 1)
   middle_units = sym (pow-add 2 (W - 2 - m) (m + 1)) ∙ ap (λ (n : ℕ). 2 ^ n) (let q : W - 2 - m + (m + 1) ≡ W - 1 = omega arith in q)
 
-  next_units : (2 ^ (W - 2 - m) + 1) * 2 ^ (m + 1) ≡ 2 ^ (W - 1) + 2 ^ (m + 1)
+  pub next_units : (2 ^ (W - 2 - m) + 1) * 2 ^ (m + 1) ≡ 2 ^ (W - 1) + 2 ^ (m + 1)
   next_units = add-mul (2 ^ (W - 2 - m)) 1 (2 ^ (m + 1)) ∙ (let q : 2 ^ (W - 2 - m) * 2 ^ (m + 1) + 1 * 2 ^ (m + 1) ≡ 2 ^ (W - 1) + 2 ^ (m + 1) = omega (arith, middle_units, one-mul (2 ^ (m + 1))) in q)
 
   field_zero : (r : ℕ) → r < 2 ^ (m + 1) → field m r ≡ 0
@@ -340,6 +363,9 @@ module _ (W m : ℕ) (room : m + 2 ≤ W) where
   from_middle : (s : ℕ) → 2 ^ (W - 2 - m) ≤ field m s → 2 ^ (W - 1) ≤ s
   unfolding field
   from_middle s h = omega (arith, (le-div_iff_mul-le (pow_pos (m + 1))).0 h, middle_units)
+
+  pub middle_is : 2 ^ (W - 1) / 2 ^ (m + 1) ≡ 2 ^ (W - 2 - m)
+  middle_is = ap (λ (x : ℕ). x / 2 ^ (m + 1)) (sym middle_units) ∙ mul-div_cancel (2 ^ (W - 2 - m)) (pow_pos (m + 1))
 
   -- the inverse is one sum with the amount of the case
   pub added : (s n : ℕ) → s < 2 ^ W → (field m s ≡ 0 → n ≡ 0) → (1 ≤ field m s → field m s < 2 ^ (W - 2 - m) → n ≡ 2 ^ (W - 2 - m))

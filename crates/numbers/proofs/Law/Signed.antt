@@ -1,15 +1,10 @@
--- The laws of the signed view and its fold, once over W; and what the functions of src/signed.rt ask, once over the machine's width w.
-use Rattle.std.proofs.Common.{◌≡◌, ℕ, zero, suc, ◌+◌, ◌-◌, ◌*◌, ◌/◌, ◌%◌, ◌^◌, ◌<◌, ◌≤◌, true, false, ltb, ◌⊎◌, ℤ, pos, negsuc, ◌-ℤ◌, nat_abs, sym, refl, ap, ◌∙◌, inl, inr, mod-eq_of_lt, mul_comm, one-mul, zero-add, zero-mul, add-one, arith, pow_pos, to_z-of_z, Fits, SFits, to_z, of_z, le-ltb, lt-ltb, eq-eqb, ne_eqb}
-use lib.Arith.{digits_mod}
+-- The laws of the signed view and its fold, once over W.
+use Rattle.std.proofs.Common.{◌≡◌, ℕ, suc, ◌+◌, ◌-◌, ◌*◌, ◌/◌, ◌%◌, ◌^◌, ◌<◌, ◌≤◌, ◌⊎◌, ℤ, pos, negsuc, sym, refl, ap, ◌∙◌, inl, inr, mod-eq_of_lt, mul_comm, one-mul, zero-mul, arith, pow_pos, to_z, of_z, w32, le-ltb, lt-ltb, eq-eqb, ne_eqb}
+use lib.Arith.{digits_div, digits_mod}
 use lib.Bits.{bit_and, bit_xor, xor_add_and, xor_zero_r, and_mask}
-use lib.Signed.{mag, lt_z}
-use mir.Syntax.{Width}
-use mir.Val.{bits, hbits}
-use mir.ValLaws.{bits-suc}
-use mir.Facts.{to_z_pos}
+use native.Mathlib.Nat.{div-eq_of_lt}
 use Rattle.numbers.specs.Signed.{signed_view, folded, unfolded, bits_of}
 use Rattle.bins.proofs.Law.Number.{le_or_lt, twice_half}
-use Rattle.bins.proofs.Law.Machine.{half_twice}
 
 -- ---- there and back
 
@@ -75,96 +70,6 @@ module _ (W : ℕ) (some : 0 < W) where
       go (inl g) = rw (le-ltb s (2 ^ (W - 1)) g) (omega (arith, T))
       go (inr g) = rw (lt-ltb s (2 ^ (W - 1)) g) (omega (arith, T))
 
--- ---- the machine's own signed numbers
-
-minus_one : (n : ℕ) → negsuc 0 -ℤ pos n ≡ negsuc n
-minus_one zero = refl
-minus_one (suc n) = ap (λ (k : ℕ). negsuc (suc k)) (zero-add n)
-
-minus_one_neg : (n : ℕ) → negsuc 0 -ℤ negsuc n ≡ pos n
-minus_one_neg n = rw (le-ltb (suc n) 1 (omega arith)) (ap pos (let e : suc n - 1 ≡ n = omega arith in e))
-
-module _ (w : Width) where
-  half_is : 2 ^ (bits w - 1) ≡ 2 ^ hbits w
-  half_is = ap (λ (n : ℕ). 2 ^ (n - 1)) (bits-suc w) ∙ ap (λ (n : ℕ). 2 ^ n) (let e : suc (hbits w) - 1 ≡ hbits w = omega arith in e)
-
-  -- -1 - n at a number n of the lower half
-  pub below_fits : (n : ℕ) → n < 2 ^ hbits w → SFits w (negsuc 0 -ℤ to_z w n)
-  below_fits n h = rw (to_z_pos w h, minus_one n) (record { sfits = h })
-
-  pub below_is : (n : ℕ) → n < 2 ^ hbits w → to_z w (of_z w (negsuc 0 -ℤ to_z w n)) ≡ negsuc n
-  below_is n h = to_z-of_z (below_fits n h) ∙ rw (to_z_pos w h) (minus_one n)
-
-  -- the signed view, in its two halves
-  pub view_low : (s : ℕ) → s < 2 ^ hbits w → to_z w s ≡ signed_view (bits w) s
-  unfolding signed_view
-  view_low s h = to_z_pos w h ∙ rw (lt-ltb s (2 ^ (bits w - 1)) (omega (arith, half_is)))
-
-  top_small : (s : ℕ) → 2 ^ hbits w ≤ s → s < 2 ^ bits w → 2 ^ bits w - 1 - s < 2 ^ hbits w
-  top_small s h l = omega (arith, half_twice w)
-
-  pub view_fits : (s : ℕ) → 2 ^ hbits w ≤ s → s < 2 ^ bits w → SFits w (negsuc 0 -ℤ to_z w (2 ^ bits w - 1 - s))
-  view_fits s h l = below_fits (2 ^ bits w - 1 - s) (top_small s h l)
-
-  pub view_high : (s : ℕ) → 2 ^ hbits w ≤ s → s < 2 ^ bits w → to_z w (of_z w (negsuc 0 -ℤ to_z w (2 ^ bits w - 1 - s))) ≡ signed_view (bits w) s
-  unfolding signed_view
-  view_high s h l =
-      below_is (2 ^ bits w - 1 - s) (top_small s h l)
-      ∙ rw (le-ltb s (2 ^ (bits w - 1)) (omega (arith, half_is))) (ap negsuc (let e : 2 ^ bits w - 1 - s ≡ 2 ^ bits w - suc s = omega arith in e))
-
-  -- half of a code
-  half_small : (c : ℕ) → c < 2 ^ bits w → c / 2 < 2 ^ hbits w
-  half_small c h = omega (arith, half_twice w)
-
-  -- ---- a signed number by its test against 0: what is cast is natural and in the lower half
-
-  positive_is : (x : ℤ) → SFits w x → lt_z (to_z w (of_z w x)) (pos 0) ≡ false → x ≡ pos (mag x)
-  positive_is (pos n) f t = refl
-  positive_is (negsuc n) f t = let e : true ≡ false = rw (to_z-of_z f) at t in cc
-
-  negative_is : (x : ℤ) → SFits w x → lt_z (to_z w (of_z w x)) (pos 0) ≡ true → x ≡ negsuc (mag x)
-  negative_is (pos n) f t = let e : ltb n 0 ≡ true = rw (to_z-of_z f) at t in let z : false ≡ true = sym (le-ltb n 0 (omega arith)) ∙ e in cc
-  negative_is (negsuc n) f t = refl
-
-  -- what is asked beside `cast_Fits` of a number y that is cast to unsigned, where y is a natural number of the lower half
-  module _ (y : ℤ) (n : ℕ) (is : y ≡ pos n) (small : n < 2 ^ hbits w) where
-    pub one_more_fits : Fits w (nat_abs y + 1)
-    one_more_fits = rw is (record { fits = omega (arith, half_twice w) })
-
-    pub under_top : nat_abs y ≤ 2 ^ bits w - 1
-    under_top = rw is (omega (arith, half_twice w))
-
-  module _ (x : ℤ) (f : SFits w x) (t : lt_z (to_z w (of_z w x)) (pos 0) ≡ false) where
-    pub positive_cast : to_z w (of_z w x) ≡ pos (mag x)
-    positive_cast = to_z-of_z f ∙ positive_is x f t
-
-    pub positive_size : nat_abs (to_z w (of_z w x)) ≡ nat_abs x
-    positive_size = ap nat_abs (to_z-of_z f)
-
-    pub positive_bits : nat_abs (to_z w (of_z w x)) ≡ bits_of (bits w) x
-    unfolding bits_of
-    positive_bits = ap nat_abs positive_cast ∙ sym (ap (bits_of (bits w)) (positive_is x f t))
-
-  module _ (x : ℤ) (f : SFits w x) (t : lt_z (to_z w (of_z w x)) (pos 0) ≡ true) where
-    opposite : negsuc 0 -ℤ to_z w (of_z w x) ≡ pos (mag x)
-    opposite = ap (λ (z : ℤ). negsuc 0 -ℤ z) (to_z-of_z f ∙ negative_is x f t) ∙ minus_one_neg (mag x)
-
-    pub negative_fits : SFits w (negsuc 0 -ℤ to_z w (of_z w x))
-    negative_fits = rw opposite (record { sfits = f.sfits })
-
-    pub negative_cast : to_z w (of_z w (negsuc 0 -ℤ to_z w (of_z w x))) ≡ pos (mag x)
-    negative_cast = to_z-of_z negative_fits ∙ opposite
-
-    pub negative_size : nat_abs (to_z w (of_z w (negsuc 0 -ℤ to_z w (of_z w x)))) + 1 ≡ nat_abs x
-    negative_size = ap (λ (z : ℤ). nat_abs z + 1) negative_cast ∙ add-one (mag x) ∙ sym (ap nat_abs (negative_is x f t))
-
-    pub negative_bits : 2 ^ bits w - 1 - nat_abs (to_z w (of_z w (negsuc 0 -ℤ to_z w (of_z w x)))) ≡ bits_of (bits w) x
-    unfolding bits_of
-    negative_bits =
-        ap (λ (z : ℤ). 2 ^ bits w - 1 - nat_abs z) negative_cast
-        ∙ (let e : 2 ^ bits w - 1 - mag x ≡ 2 ^ bits w - suc (mag x) = omega arith in e)
-        ∙ sym (ap (bits_of (bits w)) (negative_is x f t))
-
 -- ---- the fold without a branch
 
 -- every bit turned, or none
@@ -178,37 +83,76 @@ turned W a n h e =
 unturned : (W a n : ℕ) → n ≡ 0 → bit_xor a (n * (2 ^ W - 1)) ≡ a
 unturned W a n e = ap (bit_xor a) (ap (λ (k : ℕ). k * (2 ^ W - 1)) e ∙ zero-mul (2 ^ W - 1)) ∙ xor_zero_r a
 
-module _ (w : Width) where
-  pub fold_by_bits : (x : ℤ) → SFits w x → (b n : ℕ) → b ≡ bits_of (bits w) x → n ≡ folded x % 2 → bit_xor (b % 2 ^ hbits w * 2) (n * (2 ^ bits w - 1)) ≡ folded x
-  unfolding bits_of folded
-  fold_by_bits (pos k) f b n e g =
-      unturned (bits w) (b % 2 ^ hbits w * 2) n (omega arith)
-      ∙ ap (λ (z : ℕ). z * 2) (ap (λ (z : ℕ). z % 2 ^ hbits w) e ∙ mod-eq_of_lt f.sfits) ∙ mul_comm k 2
-  fold_by_bits (negsuc k) f b n e g =
-      let T = half_twice w in
-      let l : b % 2 ^ hbits w ≡ 2 ^ hbits w - suc k =
-      ap (λ (z : ℕ). z % 2 ^ hbits w) (e ∙ (let q : 2 ^ bits w - suc k ≡ 1 * 2 ^ hbits w + (2 ^ hbits w - suc k) = omega (arith, T, f.sfits) in q))
-      ∙ digits_mod 1 (let q : 2 ^ hbits w - suc k < 2 ^ hbits w = omega (arith, pow_pos (hbits w)) in q) in
-      turned (bits w) (b % 2 ^ hbits w * 2) n (omega (arith, l, T, pow_pos (hbits w))) (omega arith)
-      ∙ (let q : 2 ^ bits w - 1 - b % 2 ^ hbits w * 2 ≡ 2 * k + 1 = omega (arith, l, T, f.sfits) in q)
+module _ (W : ℕ) (some : 0 < W) where
+  T_twice : 2 ^ W ≡ 2 ^ (W - 1) + 2 ^ (W - 1)
+  T_twice = twice_half W some
 
-  pub negative_even : (x : ℤ) → SFits w x → lt_z (to_z w (of_z w x)) (pos 0) ≡ false → 0 ≡ folded x % 2
-  unfolding folded
-  negative_even x f t = sym (ap (λ (z : ℤ). folded z % 2) (positive_is w x f t) ∙ (let q : 2 * mag x % 2 ≡ 0 = omega arith in q))
+  -- the highest bit of a word
+  highest : (s : ℕ) → 2 ^ (W - 1) ≤ s → s < 2 ^ W → (s / 2 ^ (W - 1) ≡ 1) × (s % 2 ^ (W - 1) ≡ s - 2 ^ (W - 1))
+  highest s g h =
+      let e : 1 * 2 ^ (W - 1) + (s - 2 ^ (W - 1)) ≡ s = omega arith in
+      let l : s - 2 ^ (W - 1) < 2 ^ (W - 1) = omega (arith, T_twice) in
+      (ap (λ (x : ℕ). x / 2 ^ (W - 1)) (sym e) ∙ digits_div 1 l, ap (λ (x : ℕ). x % 2 ^ (W - 1)) (sym e) ∙ digits_mod 1 l)
 
-  pub negative_odd : (x : ℤ) → SFits w x → lt_z (to_z w (of_z w x)) (pos 0) ≡ true → 1 ≡ folded x % 2
-  unfolding folded
-  negative_odd x f t = sym (ap (λ (z : ℤ). folded z % 2) (negative_is w x f t) ∙ (let q : (2 * mag x + 1) % 2 ≡ 1 = omega arith in q))
+  pub sign_fits : (s : ℕ) → s < 2 ^ W → s / 2 ^ (W - 1) * (2 ^ W - 1) < 2 ^ W
+  sign_fits s h = go (le_or_lt (2 ^ (W - 1)) s)
+    where
+      go : (2 ^ (W - 1) ≤ s) ⊎ (s < 2 ^ (W - 1)) → s / 2 ^ (W - 1) * (2 ^ W - 1) < 2 ^ W
+      go (inl g) = rw ((highest s g h).0) (omega (arith, pow_pos W))
+      go (inr g) = rw (div-eq_of_lt g) (omega (arith, pow_pos W, zero-mul (2 ^ W - 1)))
 
-  pub unfold_by_bits : (c : ℕ) → c < 2 ^ bits w → signed_view (bits w) (bit_xor (c / 2) (c % 2 * (2 ^ bits w - 1))) ≡ unfolded c
-  unfolding signed_view unfolded
+  pub fold_by_bits : (s : ℕ) → s < 2 ^ W → bit_xor (s % 2 ^ (W - 1) * 2) (s / 2 ^ (W - 1) * (2 ^ W - 1)) ≡ folded (signed_view W s)
+  unfolding signed_view folded
+  fold_by_bits s h = go (le_or_lt (2 ^ (W - 1)) s)
+    where
+      go : (2 ^ (W - 1) ≤ s) ⊎ (s < 2 ^ (W - 1)) → bit_xor (s % 2 ^ (W - 1) * 2) (s / 2 ^ (W - 1) * (2 ^ W - 1)) ≡ folded (signed_view W s)
+      go (inl g) =
+          let r = (highest s g h).1 in
+          turned W (s % 2 ^ (W - 1) * 2) (s / 2 ^ (W - 1)) (omega (arith, r, T_twice)) ((highest s g h).0)
+          ∙ rw (le-ltb s (2 ^ (W - 1)) g) (omega (arith, r, T_twice))
+      go (inr g) =
+          unturned W (s % 2 ^ (W - 1) * 2) (s / 2 ^ (W - 1)) (div-eq_of_lt g)
+          ∙ rw (lt-ltb s (2 ^ (W - 1)) g) (ap (λ (z : ℕ). z * 2) (mod-eq_of_lt g) ∙ mul_comm s 2)
+
+  pub unfold_by_bits : (c : ℕ) → c < 2 ^ W → bit_xor (c / 2) (c % 2 * (2 ^ W - 1)) ≡ bits_of W (unfolded c)
+  unfolding bits_of unfolded
   unfold_by_bits c h = go (le_or_lt (c % 2) 0)
     where
-      go : (c % 2 ≤ 0) ⊎ (0 < c % 2) → signed_view (bits w) (bit_xor (c / 2) (c % 2 * (2 ^ bits w - 1))) ≡ unfolded c
-      go (inl g) =
-          ap (signed_view (bits w)) (unturned (bits w) (c / 2) (c % 2) (omega arith))
-          ∙ rw (lt-ltb (c / 2) (2 ^ (bits w - 1)) (omega (arith, half_is w, half_small w c h))) (rw (eq-eqb (c % 2) 0 (omega arith)))
+      go : (c % 2 ≤ 0) ⊎ (0 < c % 2) → bit_xor (c / 2) (c % 2 * (2 ^ W - 1)) ≡ bits_of W (unfolded c)
+      go (inl g) = unturned W (c / 2) (c % 2) (omega arith) ∙ rw (eq-eqb (c % 2) 0 (omega arith)) refl
       go (inr g) =
-          ap (signed_view (bits w)) (turned (bits w) (c / 2) (c % 2) (omega arith) (omega arith))
-          ∙ rw (le-ltb (2 ^ bits w - 1 - c / 2) (2 ^ (bits w - 1)) (omega (arith, half_is w, half_twice w, half_small w c h)))
-          (rw (ne_eqb (c % 2) 0 (λ e. omega arith)) (ap negsuc (let e : 2 ^ bits w - suc (2 ^ bits w - 1 - c / 2) ≡ c / 2 = omega (arith, half_twice w, half_small w c h) in e)))
+          turned W (c / 2) (c % 2) (omega arith) (omega arith)
+          ∙ rw (ne_eqb (c % 2) 0 (λ e. omega arith)) (let e : 2 ^ W - 1 - c / 2 ≡ 2 ^ W - suc (c / 2) = omega arith in e)
+
+-- ---- the signed view of a word, and the bits of a signed number, as `Word` promises them
+
+module _ (W : ℕ) (some : 0 < W) where
+  pub view_told : (s : ℕ) (x : ℤ) → (s < 2 ^ (W - 1) → x ≡ pos s) → (2 ^ (W - 1) ≤ s → x ≡ negsuc (2 ^ W - suc s)) → x ≡ signed_view W s
+  unfolding signed_view
+  view_told s x low high = go (le_or_lt (2 ^ (W - 1)) s)
+    where
+      go : (2 ^ (W - 1) ≤ s) ⊎ (s < 2 ^ (W - 1)) → x ≡ signed_view W s
+      go (inl g) = high g ∙ sym (rw (le-ltb s (2 ^ (W - 1)) g) refl)
+      go (inr g) = low g ∙ sym (rw (lt-ltb s (2 ^ (W - 1)) g) refl)
+
+  pub bits_told : (x : ℤ) (s : ℕ) → ((n : ℕ) → x ≡ pos n → (n < 2 ^ (W - 1)) × (s ≡ n)) → ((n : ℕ) → x ≡ negsuc n → (n < 2 ^ (W - 1)) × (s ≡ 2 ^ W - suc n))
+      → (s ≡ bits_of W x) × (signed_view W s ≡ x)
+  unfolding bits_of signed_view
+  bits_told (pos n) s natural below =
+      let p = natural n refl in
+      (p.1, rw p.1 (rw (lt-ltb n (2 ^ (W - 1)) p.0) refl))
+  bits_told (negsuc n) s natural below =
+      let p = below n refl in
+      let far : 2 ^ (W - 1) ≤ 2 ^ W - suc n = omega (arith, twice_half W some, p.0) in
+      (p.1, rw p.1 (rw (le-ltb (2 ^ W - suc n) (2 ^ (W - 1)) far) (ap negsuc (let e : 2 ^ W - suc (2 ^ W - suc n) ≡ n = omega (arith, twice_half W some, p.0) in e))))
+
+-- ---- the machine's own signed numbers of 32 bits
+
+pub bits_are : (x : ℤ) → of_z w32 x ≡ bits_of 32 x
+unfolding bits_of
+bits_are (pos n) = refl
+bits_are (negsuc n) = refl
+
+pub view_is : (s : ℕ) → to_z w32 s ≡ signed_view 32 s
+unfolding signed_view
+view_is s = refl

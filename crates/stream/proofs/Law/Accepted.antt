@@ -1,4 +1,5 @@
 -- A stream that a check has accepted: every chunk of it is there to be read, and every side part lies within its bytes.
+use Rattle.std.specs.Prelude.{Some}
 use mathlib.Core.Path.{◌≡◌, refl, ap}
 use mathlib.Core.Bool.{Bool, true, false, ◌&&◌}
 use mathlib.Core.List.{List, ◌++◌}
@@ -15,8 +16,7 @@ use Rattle.stream.specs.Access.{header_right, chunk_placed, chunk_there, chunk_f
 use Rattle.stream.specs.Rows.{first}
 use Rattle.stream.specs.Operations.{check_rows}
 use Rattle.stream.specs.Relied.{Layout}
-use Rattle.stream.specs.declared.answers.Step.TheVariants.{Pass}
-use Rattle.stream.specs.declared.answers.ChunkRead.TheVariants.{Read}
+use Rattle.std.specs.Prelude.{Ok}
 use Rattle.stream.specs.declared.header.Header.{Header}
 use Rattle.stream.proofs.Law.Plain.Truth.{and_left, and_right}
 use Rattle.stream.proofs.Law.Plain.Scan.{every_at}
@@ -56,7 +56,7 @@ module _ (h : Header) (s : List ℕ) (right : side_table_right h s ≡ true) whe
       let e : suc i + (h.sides - suc i) ≡ h.sides = omega arith in
       omega (arith, lies i l, parts_rise (suc i) (h.sides - suc i), ap (part_at h s) e, last_ends)
 
-module _ (level : ℕ) (s : List ℕ) (pass : first (check_rows level s) ≡ Pass) where
+module _ (level : ℕ) (s : List ℕ) (pass : first (check_rows level s) ≡ Ok tt) where
   abbrev h : Header
   h = header_of s
 
@@ -86,7 +86,7 @@ module _ (level : ℕ) (s : List ℕ) (pass : first (check_rows level s) ≡ Pas
     readable =
         rw (accepted_header, lt-ltb j h.chunks below, eq-eqb h.width h.width refl, le-leb (count_of h j) (length out) room, chunk_there_lem j below)
 
-    pub accepted_chunk : (chunk_read h.width s j (length out) ≡ Read (count_of h j)) × (chunk_out h.width s j out ≡ chunk_values h s j ++ drop (count_of h j) out)
+    pub accepted_chunk : (chunk_read h.width s j (length out) ≡ Some (count_of h j)) × (chunk_out h.width s j out ≡ chunk_values h s j ++ drop (count_of h j) out)
     unfolding chunk_read chunk_out
     accepted_chunk = (rw readable, rw readable)
 

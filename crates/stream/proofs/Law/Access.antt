@@ -1,4 +1,5 @@
 -- What libraries above this one read: one side part, found by its id, and one chunk.
+use Rattle.std.specs.Prelude.{Option, Some, None}
 use mathlib.Core.Path.{◌≡◌, refl, sym, ap, ◌∙◌}
 use mathlib.Core.Bool.{Bool, true, false, cond, ◌&&◌, ◌||◌, false≢true}
 use mathlib.Core.List.{List, ◌++◌}
@@ -17,27 +18,26 @@ use Rattle.stream.specs.Chunk.{whole_chunk}
 use Rattle.stream.specs.Stream.{count_of, chunk_of, chunk_values}
 use Rattle.stream.specs.Lent.{landed}
 use Rattle.stream.specs.Relied.{Layout, Placed, Opened}
-use Rattle.stream.specs.declared.answers.ChunkRead.TheVariants.{Read, NotThere}
-use Rattle.stream.specs.declared.answers.SidePart.TheVariants.{Part, NoPart}
 use Rattle.stream.specs.declared.header.Header.{Header}
 use Rattle.stream.proofs.Law.Plain.Truth.{and_left, and_right}
 use Rattle.stream.proofs.Law.Values.Counts.{length_chunk}
 use Rattle.stream.proofs.Law.Header.Numbers.{words}
 use Rattle.stream.proofs.Law.Setting.Allowed.{settled}
 use Rattle.stream.proofs.Law.Header.Layout.{laid_out}
+use Rattle.stream.proofs.Law.Plain.Truth.{given_some}
 
--- ---- the entry of an id, among the k from the entry i on; the one behind them where none has it
+-- ---- the entry of an id, among the k from the entry i on
 module _ (h : Header) (s : List ℕ) (id : ℕ) where
-  abbrev pub seek : ℕ → ℕ → ℕ
-  seek k i = cond (has_id id (ids_from h s k i)) (i + entry_of id (ids_from h s k i)) (i + k)
+  abbrev pub seek : ℕ → ℕ → Option ℕ
+  seek k i = cond (has_id id (ids_from h s k i)) (Some (i + entry_of id (ids_from h s k i))) None
 
-  pub seek_none : (i : ℕ) → seek 0 i ≡ i
+  pub seek_none : (i : ℕ) → seek 0 i ≡ None
   unfolding has_id ids_from
-  seek_none i = omega arith
+  seek_none i = refl
 
-  pub seek_here : (k i : ℕ) → side_id h s i ≡ id → seek (suc k) i ≡ i
+  pub seek_here : (k i : ℕ) → side_id h s i ≡ id → seek (suc k) i ≡ Some i
   unfolding has_id entry_of ids_from
-  seek_here k i e = rw (eq-eqb (side_id h s i) id e) (omega arith)
+  seek_here k i e = rw (eq-eqb (side_id h s i) id e) (ap Some (let q : i + 0 ≡ i = omega arith in q))
 
   pub seek_on : (k i : ℕ) → (side_id h s i ≡ id → ⊥) → seek (suc k) i ≡ seek k (suc i)
   unfolding has_id entry_of ids_from
@@ -46,18 +46,14 @@ module _ (h : Header) (s : List ℕ) (id : ℕ) where
       rest : ℕ
       rest = entry_of id (ids_from h s k (suc i))
 
-      go : (b : Bool) → cond b (i + suc rest) (i + suc k) ≡ cond b (suc i + rest) (suc i + k)
-      go true = omega arith
-      go false = omega arith
+      go : (b : Bool) → cond b (Some (i + suc rest)) None ≡ cond b (Some (suc i + rest)) None
+      go true = ap Some (let q : i + suc rest ≡ suc i + rest = omega arith in q)
+      go false = refl
 
   -- all of the table
-  pub seek_all : seek h.sides 0 ≡ cond (has_id id (ids_in h s)) (entry_of id (ids_in h s)) h.sides
+  pub seek_all : seek h.sides 0 ≡ cond (has_id id (ids_in h s)) (Some (entry_of id (ids_in h s))) None
   unfolding ids_in
-  seek_all = go (has_id id (ids_from h s h.sides 0))
-    where
-      go : (b : Bool) → cond b (0 + entry_of id (ids_from h s h.sides 0)) (0 + h.sides) ≡ cond b (entry_of id (ids_from h s h.sides 0)) h.sides
-      go true = zero-add _
-      go false = zero-add _
+  seek_all = ap (λ (n : ℕ). cond (has_id id (ids_from h s h.sides 0)) (Some n) None) (zero-add _)
 
   -- an entry that has the id is one of the table's
   entry_below : (k i : ℕ) → has_id id (ids_from h s k i) ≡ true → entry_of id (ids_from h s k i) < k
@@ -73,17 +69,12 @@ module _ (h : Header) (s : List ℕ) (id : ℕ) where
   unfolding ids_in
   entry_inside e = entry_below h.sides 0 e
 
-  pub found_entry : (i : ℕ) → i ≡ cond (has_id id (ids_in h s)) (entry_of id (ids_in h s)) h.sides
-      → (i ≡ h.sides → has_id id (ids_in h s) ≡ false) × ((i ≡ h.sides → ⊥) → (has_id id (ids_in h s) ≡ true) × (i ≡ entry_of id (ids_in h s)) × (i < h.sides))
-  unfolding ids_in
-  found_entry i is = go (has_id id (ids_in h s)) refl is
-    where
-      go : (b : Bool) → has_id id (ids_in h s) ≡ b → i ≡ cond b (entry_of id (ids_in h s)) h.sides
-          → (i ≡ h.sides → has_id id (ids_in h s) ≡ false) × ((i ≡ h.sides → ⊥) → (has_id id (ids_in h s) ≡ true) × (i ≡ entry_of id (ids_in h s)) × (i < h.sides))
-      go true e f =
-          let below = entry_below h.sides 0 e in
-          (λ z. absurd (let q : h.sides < h.sides = omega (arith, below, f, z) in omega arith), λ _. (e, f, omega (arith, below, f)))
-      go false e f = (λ _. e, λ other. absurd (other f))
+  pub found_entry : (i : ℕ) → cond (has_id id (ids_in h s)) (Some (entry_of id (ids_in h s))) None ≡ Some i
+      → (has_id id (ids_in h s) ≡ true) × (i ≡ entry_of id (ids_in h s)) × (i < h.sides)
+  found_entry i is =
+      let g = given_some _ _ _ is in
+      let below = entry_inside g.0 in
+      (g.0, sym g.1, omega (arith, below, g.1))
 
 -- ---- a header that keeps its rules, whatever the level
 module _ (s : List ℕ) (right : header_right s ≡ true) where
@@ -105,7 +96,7 @@ module _ (s : List ℕ) (right : header_right s ≡ true) where
 
 -- it is not there: the answer, and the output as it was
 module _ (W : ℕ) (s : List ℕ) (j : ℕ) (out : List ℕ) (none : chunk_readable W s j (length out) ≡ false) where
-  pub not_read : (NotThere ≡ chunk_read W s j (length out)) × (out ≡ chunk_out W s j out)
+  pub not_read : (None ≡ chunk_read W s j (length out)) × (out ≡ chunk_out W s j out)
   unfolding chunk_read chunk_out
   not_read = (rw none, rw none)
 
@@ -152,24 +143,24 @@ module _ (W : ℕ) (s : List ℕ) (h : Header) (is : h ≡ header_of s) (right :
   absent f e = rw (right, ← is, f, e)
 
   pub is_read : chunk_fits W h j (length out) ≡ true → chunk_there h s j ≡ true → (n : ℕ) → n ≡ count_of h j → (now : List ℕ) → now ≡ landed 0 (chunk_values h s j) out
-      → (Read n ≡ chunk_read W s j (length out)) × (now ≡ chunk_out W s j out)
+      → (Some n ≡ chunk_read W s j (length out)) × (now ≡ chunk_out W s j out)
   unfolding chunk_read chunk_out chunk_readable landed
   is_read f e n count now lands =
-      rw (right, ← is, f, e) (ap Read count, lands ∙ ap (λ (k : ℕ). chunk_values h s j ++ drop k out) (zero-add (length (chunk_values h s j)) ∙ length_chunk h s j))
+      rw (right, ← is, f, e) (ap Some count, lands ∙ ap (λ (k : ℕ). chunk_values h s j ++ drop k out) (zero-add (length (chunk_values h s j)) ∙ length_chunk h s j))
 
 -- ---- one side part, rule by rule
 
-pub no_header : (s : List ℕ) (id : ℕ) → header_right s ≡ false → NoPart ≡ side_part s id
+pub no_header : (s : List ℕ) (id : ℕ) → header_right s ≡ false → None ≡ side_part s id
 unfolding side_part part_there
 no_header s id e = rw e
 
 module _ (s : List ℕ) (id : ℕ) (h : Header) (is : h ≡ header_of s) (right : header_right s ≡ true) where
-  pub no_table : length s < h.end + 12 * h.sides → NoPart ≡ side_part s id
+  pub no_table : length s < h.end + 12 * h.sides → None ≡ side_part s id
   unfolding side_part part_there
   no_table e = rw (right, ← is, lt-leb (h.end + 12 * h.sides) (length s) e)
 
   module _ (table : h.end + 12 * h.sides ≤ length s) where
-    pub no_entry : has_id id (ids_in h s) ≡ false → NoPart ≡ side_part s id
+    pub no_entry : has_id id (ids_in h s) ≡ false → None ≡ side_part s id
     unfolding side_part part_there
     no_entry e = rw (right, ← is, le-leb (h.end + 12 * h.sides) (length s) table, e)
 
@@ -183,10 +174,10 @@ module _ (s : List ℕ) (id : ℕ) (h : Header) (is : h ≡ header_of s) (right 
       unfolding length_of
       length_is = ap (side_length h s) (sym at) ∙ sym l
 
-      pub past_the_bytes : length s < place + long → NoPart ≡ side_part s id
+      pub past_the_bytes : length s < place + long → None ≡ side_part s id
       unfolding side_part part_there
       past_the_bytes e = rw (right, ← is, le-leb (h.end + 12 * h.sides) (length s) table, has, place_is, length_is, lt-leb (place + long) (length s) e)
 
-      pub a_part : place + long ≤ length s → Part place long ≡ side_part s id
+      pub a_part : place + long ≤ length s → Some (record { place = place; length = long }) ≡ side_part s id
       unfolding side_part part_there
       a_part e = rw (right, ← is, le-leb (h.end + 12 * h.sides) (length s) table, has, place_is, length_is, le-leb (place + long) (length s) e)

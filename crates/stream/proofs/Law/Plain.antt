@@ -6,6 +6,7 @@
 --   Appended: a list written piece by piece into a longer one
 --   Parts: a first element set and the rest lent
 --   Scan: a loop over indices that follows a definition
+--   Rounding: a quotient rounded up
 pub mod Truth
 pub mod Joined
 pub mod Mapped
@@ -13,3 +14,4 @@ pub mod Differences
 pub mod Appended
 pub mod Scan
 pub mod Parts
+pub mod Rounding

@@ -18,7 +18,7 @@ use Rattle.stream.specs.Writing.{Side, entries, parts, ids_of, increasing, WellF
 use Rattle.stream.specs.Access.{has_id, place_of, side_bytes}
 use Rattle.stream.specs.Rows.{first}
 use Rattle.stream.specs.Operations.{check_rows}
-use Rattle.stream.specs.declared.answers.Step.TheVariants.{Pass}
+use Rattle.std.specs.Prelude.{Ok}
 use Rattle.stream.specs.declared.header.Header.{Header}
 use Rattle.stream.proofs.Law.Plain.Joined.{joined_below}
 use Rattle.stream.proofs.Law.Setting.Allowed.{settled}
@@ -63,7 +63,7 @@ length_copy s long = length_with s long ∙ ap (λ (n : ℕ). length s + 12 + n)
 
 -- ---- the copy of an accepted stream without side parts
 
-module _ (level : ℕ) (s : List ℕ) (pass : first (check_rows level s) ≡ Pass) (bytes : Below 256 s) (none : (header_of s).sides ≡ 0) where
+module _ (level : ℕ) (s : List ℕ) (pass : first (check_rows level s) ≡ Ok tt) (bytes : Below 256 s) (none : (header_of s).sides ≡ 0) where
   abbrev h : Header
   h = header_of s
 

@@ -23,12 +23,12 @@ use Rattle.stream.specs.Writing.{spell, Side, entries, parts, placed, add_sides,
 use Rattle.stream.specs.Access.{has_id, entry_of, place_of, length_of, side_bytes}
 use Rattle.stream.specs.Rows.{Row, rows_from, first, answer, after}
 use Rattle.stream.specs.Relied.{Layout}
-use Rattle.stream.specs.Probe.{probed32, probed64}
 use Rattle.stream.specs.Operations.{header_rows, opening_rows, table_rows, fault_row, chunk_row, chunk_rows, content_rows}
 use Rattle.stream.specs.Operations.{width_row, room_row, index_row, own_rows}
 use Rattle.stream.specs.Operations.{check_rows, check_answer, unpack_rows, unpack_answer, unpack_out, probe_rows, probe_answer32, probe_answer64}
-use Rattle.stream.specs.declared.answers.Step.{Step}
-use Rattle.stream.specs.declared.answers.Step.TheVariants.{Pass}
+use Rattle.stream.specs.Probe.{shown32, shown64}
+use Rattle.std.specs.Prelude.{⊤, Result, Ok}
+use Rattle.stream.specs.declared.answers.Refusal.{Refusal}
 use Rattle.stream.specs.declared.header.Header.{Header}
 use Rattle.stream.proofs.Law.Plain.Truth.{and_right}
 use Rattle.stream.proofs.Law.Header.Front.{word_front}
@@ -156,7 +156,7 @@ module _ (s : List ℕ) (ps : List Side) (long : 48 ≤ length s) where
 behind_same : (before a b : List Row) → first a ≡ first b → first (before ++ a) ≡ first (before ++ b)
 behind_same before a b e = first_append before a ∙ ap (and_then (first before)) e ∙ sym (first_append before b)
 
-module _ (level : ℕ) (s : List ℕ) (pass : first (check_rows level s) ≡ Pass) (none : (header_of s).sides ≡ 0) where
+module _ (level : ℕ) (s : List ℕ) (pass : first (check_rows level s) ≡ Ok tt) (none : (header_of s).sides ≡ 0) where
   abbrev h : Header
   h = header_of s
 
@@ -356,16 +356,16 @@ module _ (level : ℕ) (s : List ℕ) (pass : first (check_rows level s) ≡ Pas
           check = λ L. ap₂ answer (check_copied L) count_copied;
           unpack = λ W L out. (
             ap₂ answer (unpack_copied W L (length out)) count_copied,
-            ap₂ (λ (a : Step) (new : List ℕ). after a new out) (unpack_copied W L (length out))
+            ap₂ (λ (a : Result ⊤ Refusal) (new : List ℕ). after a new out) (unpack_copied W L (length out))
                 (ap₂ (λ (vs : List ℕ) (n : ℕ). vs ++ drop n out) all_values_copied count_copied),
           );
-          probe32 = λ L i. ap₂ probed32 (probe_copied 32 L i) (value_copied i);
-          probe64 = λ L i. ap₂ probed64 (probe_copied 64 L i) (value_copied i);
+          probe32 = λ L i. ap₂ (λ (a : Result ⊤ Refusal) (v : ℕ). answer a (shown32 v)) (probe_copied 32 L i) (value_copied i);
+          probe64 = λ L i. ap₂ (λ (a : Result ⊤ Refusal) (v : ℕ). answer a (shown64 v)) (probe_copied 64 L i) (value_copied i);
         }
 
 -- ---- one part
 
-module _ (level : ℕ) (s : List ℕ) (pass : first (check_rows level s) ≡ Pass) (none : (header_of s).sides ≡ 0) (p : Side)
+module _ (level : ℕ) (s : List ℕ) (pass : first (check_rows level s) ≡ Ok tt) (none : (header_of s).sides ≡ 0) (p : Side)
     (well : WellFormedSides (length s + 12 * 1) (p ∷ [])) (low : some_high (ids_of (p ∷ [])) ≡ false) where
   abbrev one : List ℕ
   one = add_sides s (p ∷ [])

@@ -1,17 +1,42 @@
 -- The laws of places, once over the width W: a place is below 2 ^ W and has one pattern, and "at least" is one comparison of places.
-use mathlib.Core.Path.{◌≡◌, sym, ap, ◌∙◌}
+use mathlib.Core.Path.{◌≡◌, refl, sym, ap, ◌∙◌}
 use mathlib.Core.Logic.{◌⊎◌, inl, inr}
 use mathlib.Core.Bool.{false, ◌&&◌, ◌||◌, or-true, or-false}
-use Prim.Native.Nat.{ℕ, ◌+◌, ◌-◌, ◌^◌, ◌≤◌, ◌<◌}
+use Prim.Native.Nat.{ℕ, ◌+◌, ◌-◌, ◌*◌, ◌^◌, ◌≤◌, ◌<◌}
+use Rattle.std.proofs.Common.{pow-add, add-mul, one-mul}
 use native.Mathlib.Nat.{mod-eq_of_lt}
 use native.Mathlib.Omega.{arith}
 use borrow.Author.Tests.{lt-ltb, le-ltb, le-leb, lt-leb, eq-eqb, ne_eqb}
 use lib.Dec.{leb, eqb}
 use lib.Pow.{pow_pos}
 use Rattle.bins.specs.Tolerance.{ordinal}
+use Rattle.std.specs.Float.Ieee.{size}
+use Rattle.stream.specs.Setting.{fraction_bits}
+use Rattle.bins.proofs.Law.Tolerance.{size_from}
 use Rattle.bins.proofs.Law.Number.{le_or_lt, mod_once, twice_half}
-use Rattle.summary.specs.Order.{not_a_number, rank, zero_or_minus_zero, at_least}
+use Rattle.summary.specs.Order.{infinity_ordinal, not_a_number, rank, zero_or_minus_zero, at_least}
 use Rattle.summary.specs.Private.{pattern_of, floor_rank}
+
+-- the infinities, as the difference of two words
+pub infinity_is : (W m : ℕ) → m + 3 ≤ W → 2 ^ (W - 1) - 2 ^ m ≡ infinity_ordinal W m
+unfolding infinity_ordinal
+infinity_is W m room =
+    let k = 2 ^ (W - 1 - m) - 1 in
+    let whole : 2 ^ (W - 1) ≡ 2 ^ (W - 1 - m) * 2 ^ m = ap (λ (n : ℕ). 2 ^ n) (let e : W - 1 ≡ W - 1 - m + m = omega arith in e) ∙ pow-add 2 (W - 1 - m) m in
+    let more : 2 ^ (W - 1 - m) * 2 ^ m ≡ (k + 1) * 2 ^ m = ap (λ (n : ℕ). n * 2 ^ m) (let e : 2 ^ (W - 1 - m) ≡ k + 1 = omega (arith, pow_pos (W - 1 - m)) in e) in
+    omega (arith, whole, more, add-mul k 1 (2 ^ m), one-mul (2 ^ m))
+
+-- all bits set are as many as there are
+pub all_size : (W n : ℕ) → 1 ≤ W → n ≡ size (2 ^ W - 1) → n ≤ W → n ≡ W
+all_size W n some is most =
+    let led : 2 ^ (W - 1) ≤ 2 ^ W - 1 = omega (arith, twice_half W some, pow_pos (W - 1)) in
+    omega (arith, size_from (2 ^ W - 1) (W - 1) led)
+
+-- the fraction bits go by the width
+pub number_is : (W m x : ℕ) → ((W ≡ 32) × (m ≡ 23)) ⊎ ((W ≡ 64) × (m ≡ 52)) → not_a_number W (fraction_bits W) x ≡ not_a_number W m x
+unfolding fraction_bits
+number_is W m x (inl e) = rw (e.0, e.1) refl
+number_is W m x (inr e) = rw (e.0, e.1) refl
 
 module _ (W : ℕ) (some : 1 ≤ W) where
   -- 2 ^ W is twice 2 ^ (W - 1), which is at least 1: all that omega has to know of them
@@ -45,11 +70,11 @@ module _ (W : ℕ) (some : 1 ≤ W) where
       go (inl l) = omega (arith, rank_signed p l, halves)
       go (inr l) = omega (arith, rank_plain p l, halves)
 
-  pattern_low : (r : ℕ) → r < 2 ^ (W - 1) → pattern_of W r ≡ 2 ^ W - 1 - r
+  pub pattern_low : (r : ℕ) → r < 2 ^ (W - 1) → pattern_of W r ≡ 2 ^ W - 1 - r
   unfolding pattern_of
   pattern_low r h = rw (lt-ltb r (2 ^ (W - 1)) h)
 
-  pattern_high : (r : ℕ) → 2 ^ (W - 1) ≤ r → pattern_of W r ≡ r - 2 ^ (W - 1)
+  pub pattern_high : (r : ℕ) → 2 ^ (W - 1) ≤ r → pattern_of W r ≡ r - 2 ^ (W - 1)
   unfolding pattern_of
   pattern_high r h = rw (le-ltb r (2 ^ (W - 1)) h)
 

@@ -15,14 +15,13 @@ use lib.Seq.{length-take-le}
 use Rattle.blocks.specs.Bytes.{Below}
 use Rattle.blocks.proofs.Law.Digits.{below_take, below_drop}
 use Rattle.stream.specs.Setting.{known_width, group_size, limit_of}
-use Rattle.stream.specs.Chunk.{groups_in, chunk_codes}
+use Rattle.stream.specs.Chunk.{good, groups_in, chunk_codes}
 use Rattle.stream.specs.Header.{header_of, setting_in}
 use Rattle.stream.specs.Tables.{every, start_at, start_right, chunk_table_right}
 use Rattle.stream.specs.Stream.{count_of, chunk_of, chunk_state}
 use Rattle.stream.specs.Rows.{first}
 use Rattle.stream.specs.Operations.{check_rows}
-use Rattle.stream.specs.declared.answers.Step.TheVariants.{Pass}
-use Rattle.stream.specs.declared.chunk.ChunkAnswer.TheVariants.{Good}
+use Rattle.std.specs.Prelude.{Ok}
 use Rattle.stream.specs.declared.header.Header.{Header}
 use Rattle.stream.proofs.Theorems.{chunk_read_is_written, chunk_length_is_bounded}
 use Rattle.stream.proofs.Law.Plain.Truth.{and_left}
@@ -35,7 +34,7 @@ use Rattle.summary.proofs.Law.Copy.{no_sides_end}
 
 module _ (h : Header) (s : List ℕ) (bytes : Below 256 s) where
   -- 32 bytes for the groups' widths, and 8 for each value
-  good_short : known_width h.width ≡ true → (j : ℕ) → chunk_state h s j ≡ Good → length (chunk_of h s j) ≤ 8224
+  good_short : known_width h.width ≡ true → (j : ℕ) → chunk_state h s j ≡ good → length (chunk_of h s j) ≤ 8224
   unfolding chunk_state chunk_of count_of
   good_short known j good =
       let size = group_size (setting_in h) in
@@ -50,7 +49,7 @@ module _ (h : Header) (s : List ℕ) (bytes : Below 256 s) where
       chunk_length_is_bounded size (size_some (setting_in h)) 8 codes (λ i. lt_of_lt_of_le (c.below i) (pow_mono (width_most h.width known))) in
       omega (arith, ap length c.bytes, c.count, most, ap (groups_in size) c.count, groups_most (setting_in h) n few)
 
-module _ (level : ℕ) (s : List ℕ) (pass : first (check_rows level s) ≡ Pass) (bytes : Below 256 s) where
+module _ (level : ℕ) (s : List ℕ) (pass : first (check_rows level s) ≡ Ok tt) (bytes : Below 256 s) where
   abbrev h : Header
   h = header_of s
 

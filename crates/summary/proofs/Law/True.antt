@@ -1,4 +1,5 @@
 -- A true summary of a stream that a check has accepted: where it lies, and that the list is read from it.
+use Rattle.std.specs.Prelude.{Some}
 use mathlib.Core.Path.{◌≡◌, sym, ap, ap₂, ◌∙◌}
 use mathlib.Core.Bool.{true, ◌&&◌}
 use mathlib.Core.List.{List}
@@ -14,9 +15,9 @@ use Rattle.stream.specs.Header.{header_of}
 use Rattle.stream.specs.Tables.{ids_in}
 use Rattle.stream.specs.Stream.{count_of, chunk_values}
 use Rattle.stream.specs.Access.{header_right, has_id, place_of, length_of, side_bytes, part_there, side_part}
-use Rattle.stream.specs.declared.answers.SidePart.TheVariants.{Part, NoPart}
+use Rattle.stream.specs.declared.answers.SidePart.{SidePart}
 use Rattle.stream.specs.declared.header.Header.{Header}
-use Rattle.stream.proofs.Law.Plain.Truth.{and_left, and_right}
+use Rattle.stream.proofs.Law.Plain.Truth.{and_left, and_right, given_some}
 use Rattle.stream.proofs.Law.Setting.Allowed.{width_some}
 use Rattle.stream.proofs.Law.Values.Counts.{length_chunk}
 use Rattle.stream.proofs.Law.Accepted.{accepted_part}
@@ -65,25 +66,19 @@ module _ (h : Header) (s : List ℕ) (a : Accepted h s) (right : summary_true s 
       ∙ sym (ap length bytes)
       ∙ length-take-le long (drop place s) (rw (length-drop place s) (omega (arith, inside)))
 
-  part_is : side_part s summary_id ≡ Part place long
+  pub summary_part : side_part s summary_id ≡ Some (record { place = place; length = long })
   unfolding side_part
-  part_is = rw there
+  summary_part = rw there
 
-  pub summary_lies : (p l : ℕ) → side_part s summary_id ≡ Part p l → Summarised h s p
-  summary_lies p l e =
-      let both : Part place long ≡ Part p l = sym part_is ∙ e in
-      let at : p ≡ place = cc in
+  pub summary_lies : (p : SidePart) → side_part s summary_id ≡ Some p → Summarised h s p.place
+  unfolding side_part
+  summary_lies p e =
+      let at : p.place ≡ place = ap (λ (q : SidePart). q.place) (sym (given_some _ _ _ e).1) in
       record {
         accepted = a;
         inside = omega (arith, long_is, inside, at);
         is = ap₂ (λ (n q : ℕ). take n (drop q s)) long_is at ∙ bytes ∙ ap (λ (g : Header). summary_in g s) (sym a.header);
       }
-
-  pub summary_there : side_part s summary_id ≡ NoPart → ⊥
-  summary_there e =
-      let both : Part place long ≡ NoPart = sym part_is ∙ e in
-      let z : ◌≡◌ {A = ℕ} 0 1 = cc in
-      omega (arith, z)
 
 -- ---- the numbers that are listed, by the header that the code has read
 

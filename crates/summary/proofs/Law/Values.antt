@@ -11,10 +11,9 @@ use Rattle.blocks.specs.Bytes.{Below}
 use Rattle.blocks.proofs.Law.Digits.{below_append}
 use Rattle.stream.specs.Setting.{group_size}
 use Rattle.stream.specs.Group.{group_length, group_codes, whole_group}
-use Rattle.stream.specs.Chunk.{groups_in, whole_groups, whole_chunk, groups_codes, chunk_codes}
+use Rattle.stream.specs.Chunk.{good, groups_in, whole_groups, whole_chunk, groups_codes, chunk_codes}
 use Rattle.stream.specs.Header.{header_of, setting_in}
 use Rattle.stream.specs.Stream.{count_of, chunk_of, chunk_state, chunk_values}
-use Rattle.stream.specs.declared.chunk.ChunkAnswer.TheVariants.{Good}
 use Rattle.stream.specs.declared.header.Header.{Header}
 use Rattle.stream.proofs.Law.Plain.Truth.{and_left, and_right}
 use Rattle.stream.proofs.Law.Group.RoundTrip.{codes_below}
@@ -48,10 +47,10 @@ module _ (h : Header) (s : List ℕ) (a : Accepted h s) where
   pub values_below : (j : ℕ) → j < h.chunks → Below (2 ^ h.width) (chunk_values h s j)
   unfolding chunk_values
   values_below j l =
-      let good = subst (λ (g : Header). (i : ℕ) → i < g.chunks → chunk_state g s i ≡ Good) (sym a.header) (all_good (header_of s) s (checking a.level s a.pass).2) j l in
+      let kept = subst (λ (g : Header). (i : ℕ) → i < g.chunks → chunk_state g s i ≡ good) (sym a.header) (all_good (header_of s) s (checking a.level s a.pass).2) j l in
       let t = setting_in h in
       patterns_under t (width_format h.width (known h s a)) 0 (chunk_codes (group_size t) (count_of h j) (chunk_of h s j))
-      (chunk_below h.width (group_size t) (count_of h j) (chunk_of h s j) (state_whole h s j good))
+      (chunk_below h.width (group_size t) (count_of h j) (chunk_of h s j) (state_whole h s j kept))
 
 pub values_few : (h : Header) (s : List ℕ) (j : ℕ) → length (chunk_values h s j) ≤ 1024
 unfolding count_of

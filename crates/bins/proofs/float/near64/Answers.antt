@@ -34,27 +34,27 @@ overflow_add-r c = omega (arith, sum_small (asked binary64 _ _ c.before.requires
 pub overflow_add-t : goal.overflow_add-t
 overflow_add-t c =
     let f = c.before in
-    omega (arith, half_fits (asked binary64 _ _ f.before.requires) _ f.quotient64-q.ensures y value f.before.args.halves c.odd64.result c.odd64.ensures)
+    omega (arith, half_fits (asked binary64 _ _ f.before.requires) _ f.quotient64-q.ensures y value f.before.args.halves c.odd.result c.odd.ensures)
 
 pub float_from_bits-t : goal.float_from_bits-t
 float_from_bits-t c =
     let f = c.before in
-    half_no_nan (asked binary64 _ _ f.before.requires) _ f.quotient64-q.ensures y value f.before.args.halves c.odd64.result c.odd64.ensures
+    half_no_nan (asked binary64 _ _ f.before.requires) _ f.quotient64-q.ensures y value f.before.args.halves c.odd.result c.odd.ensures
 
 pub overflow_sub-result : goal.overflow_sub-result
 overflow_sub-result c =
     let d = c.before in
     let f = d.before in
-    some_below (asked binary64 _ _ f.before.requires) _ f.quotient64-q.ensures y value f.before.args.halves d.odd64.result d.odd64.ensures c.if-q-t.true
+    some_below (asked binary64 _ _ f.before.requires) _ f.quotient64-q.ensures y value f.before.args.halves d.odd.result d.odd.ensures c.if-q-t.true
 
 pub returns-then-q-t : goal.returns-then-q-t
 returns-then-q-t c =
     let d = c.before in
     let f = d.before in
-    near_below (asked binary64 _ _ f.before.requires) _ f.quotient64-q.ensures y value f.before.args.halves d.odd64.result d.odd64.ensures c.if-q-t.true
+    near_below (asked binary64 _ _ f.before.requires) _ f.quotient64-q.ensures y value f.before.args.halves d.odd.result d.odd.ensures c.if-q-t.true
 
 pub returns-else-q-t : goal.returns-else-q-t
 returns-else-q-t c =
     let d = c.before in
     let f = d.before in
-    near_above (asked binary64 _ _ f.before.requires) _ f.quotient64-q.ensures y value f.before.args.halves d.odd64.result d.odd64.ensures c.if-q-t.false
+    near_above (asked binary64 _ _ f.before.requires) _ f.quotient64-q.ensures y value f.before.args.halves d.odd.result d.odd.ensures c.if-q-t.false

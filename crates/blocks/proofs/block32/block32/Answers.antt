@@ -7,15 +7,10 @@ use Rattle.blocks.proofs.block32.block32.Goals as goal
 
 pub returns : goal.returns
 returns c =
-    let f = c.before.before.before.before.before.before.before.before.before.before.before.before.before.before.before.before.before.before.before in
-    let w = f.args.w in
-    let n = number (2 ^ w) f.args.c.now in
-    let base = f.args.out.now in
-    let fourth = c.before.before.before in
-    let third = fourth.before.before.before.before in
-    let second = third.before.before.before.before in
-    let first = second.before.before.before.before in
-    let one = stands_four w n base 0 base _ (standing_none (4 * w) n base) first.four32.ensures in
-    let two = stands_four w n base 4 _ _ one second.four32-2.ensures in
-    let three = stands_four w n base 8 _ _ two third.four32-3.ensures in
-    standing_all (4 * w) 128 n base _ (omega (arith, f.requires.1)) (stands_four w n base 12 _ _ three fourth.four32-4.ensures)
+    let w = c.args.w in
+    let n = number (2 ^ w) c.args.c.now in
+    let base = c.args.out.now in
+    let one = stands_four w n base 0 base _ (standing_none (4 * w) n base) c.four32.ensures in
+    let two = stands_four w n base 4 _ _ one c.four32-2.ensures in
+    let three = stands_four w n base 8 _ _ two c.four32-3.ensures in
+    standing_all (4 * w) 128 n base _ (omega (arith, c.requires.1)) (stands_four w n base 12 _ _ three c.four32-4.ensures)

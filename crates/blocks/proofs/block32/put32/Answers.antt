@@ -8,21 +8,13 @@ use Rattle.blocks.proofs.block32.put32.Goals as goal
 
 pub returns-then-k-w : goal.returns-then-k-w
 returns-then-k-w c =
-    let f = c.before.before.before.before.before.before.before.before.before in
-    let a = f.args in
-    let word = c.word32 in
-    c.store.ensures
-    ∙ put_word a.w a.k (number (2 ^ a.w) a.c.now) a.out.now (8 * a.k) word.result refl word.ensures c.if-k-w.true
+    let a = c.args in
+    c.store.ensures ∙ put_word a.w a.k (number (2 ^ a.w) a.c.now) a.out.now (8 * a.k) _ refl c.word32.ensures c.if-k-w.true
 
 pub returns-then-k-w-2 : goal.returns-then-k-w-2
 returns-then-k-w-2 c =
-    let f = c.before.before.before.before.before.before.before.before.before.before in
-    let a = f.args in
-    let word = c.word32-then-k-w-2 in
-    c.half.ensures
-    ∙ put_half a.w a.k (number (2 ^ a.w) a.c.now) a.out.now (8 * a.k) word.result refl word.ensures c.if-k-w-2.true
+    let a = c.args in
+    c.half.ensures ∙ put_half a.w a.k (number (2 ^ a.w) a.c.now) a.out.now (8 * a.k) _ refl c.word32-then-k-w-2.ensures c.if-k-w-2.true
 
 pub returns-else-k-w-2 : goal.returns-else-k-w-2
-returns-else-k-w-2 c =
-    let f = c.before.before.before.before.before in
-    put_none f.args.w f.args.k (number (2 ^ f.args.w) f.args.c.now) f.args.out.now (omega arith)
+returns-else-k-w-2 c = let a = c.args in put_none a.w a.k (number (2 ^ a.w) a.c.now) a.out.now (omega arith)

@@ -1,128 +1,58 @@
--- `blocks::block64::runs` meets its contract: four runs of eight codes, each behind the bytes that stand.
-use mathlib.Core.Path.{◌≡◌, refl}
+-- `blocks::block64::runs` meets its contract: runs of eight codes, each behind the bytes that stand.
+use mathlib.Core.Path.{◌≡◌, refl, sym, ap, ◌∙◌}
 use mathlib.Core.List.{List, ◌++◌}
-use Prim.Native.Nat.{ℕ, ◌-◌, ◌*◌, ◌^◌, ◌≤◌}
+use Prim.Native.Nat.{ℕ, ◌+◌, ◌-◌, ◌*◌, ◌^◌, ◌≤◌, ◌<◌}
+use native.Mathlib.Nat.{zero-mul, one-mul, add-mul, mul-le-mul_right}
 use native.Mathlib.Omega.{arith}
-use borrow.Rule.Slice.PartMut.{put_mid}
 use lib.ListN.{length, take, drop, length-drop}
 use lib.Seq.{length-take-le}
-use Rattle.blocks.specs.Bytes.{Below, number, digits}
+use borrow.Author.Rules.{rules}
+use Rattle.blocks.specs.Bytes.{number, digits}
 use Rattle.blocks.proofs.Law.Digits.{below_take, below_drop}
-use Rattle.blocks.proofs.Law.Run.{run_stands, part_stands, part_room}
+use Rattle.blocks.proofs.Law.Run.{part_stands, part_room}
 use Rattle.blocks.proofs.block64.runs.Goals as goal
-use Rattle.blocks.proofs.block64.runs.Lts as lts
-use Rattle.blocks.proofs.block64.runs.Reads as reads
-use Rattle.blocks.proofs.block64.runs.Tie as tie
 
-abbrev Start : Type 0
-Start = lts.Start tie.the-claims reads.Pre reads.Post
-
-abbrev After-run : Type 0
-After-run = lts.After-run tie.the-claims reads.Pre reads.Post
-
-abbrev After-run2 : Type 0
-After-run2 = lts.After-run2 tie.the-claims reads.Pre reads.Post
-
-abbrev After-run3 : Type 0
-After-run3 = lts.After-run3 tie.the-claims reads.Pre reads.Post
-
-abbrev After-run4 : Type 0
-After-run4 = lts.After-run4 tie.the-claims reads.Pre reads.Post
-
-abbrev codes : Start → List ℕ
-codes f = f.args.c.now
-
--- the bytes up to p stand in `out`
-abbrev Stood : Start → ℕ → List ℕ → Type 0
-Stood f p out = out ≡ digits 256 p (number (2 ^ f.args.w) (codes f)) ++ drop p f.args.out.now
-
-none : (f : Start) → Stood f 0 f.args.out.now
+none : (w n : ℕ) (base : List ℕ) → base ≡ digits 256 (0 * w) n ++ drop (0 * w) base
 unfolding digits
-none f = refl
+none w n base = sym (ap (λ (k : ℕ). digits 256 k n ++ drop k base) (zero-mul w))
 
--- eight codes are lent
-long : (f : Start) (i : ℕ) → i ≤ 24 → length (take 8 (drop i (codes f))) ≡ 8
-long f i h = length-take-le 8 (drop i (codes f)) (rw length-drop (omega (arith, f.requires.2)))
+eight : (i : ℕ) → 8 * i + 8 - 8 * i ≡ 8
+eight i = omega arith
 
-small : (f : Start) (i : ℕ) → Below (2 ^ f.args.w) (take 8 (drop i (codes f)))
-small f i = let b = 2 ^ f.args.w in below_take b 8 (drop i (codes f)) (below_drop b i (codes f) f.requires.3)
+more : (i w : ℕ) → (i + 1) * w ≡ i * w + w
+more i w = add-mul i 1 w ∙ ap (λ (k : ℕ). i * w + k) (one-mul w)
 
--- the part that is lent has the room
-room : (f : Start) (p : ℕ) (out : List ℕ) → p ≤ 3 * f.args.w → Stood f p out → f.args.w ≤ length (take (length out - p) (drop p out))
-room f p out h s = part_room p f.args.w (number (2 ^ f.args.w) (codes f)) f.args.out.now out (omega (arith, f.requires.4)) s
+-- four runs have the room
+room : (i w r : ℕ) → i < 4 → 4 * w ≤ r → i * w + w ≤ r
+room i w r h four = let all : (i + 1) * w ≤ 4 * w = mul-le-mul_right w (omega arith) in omega (arith, all, more i w)
 
--- the call's own, and what stands after each run
-abbrev start : After-run → Start
-start c = c.before.before.before.before.before
-
-abbrev first : After-run2 → After-run
-first c = c.before.before.before.before.before
-
-abbrev second : After-run3 → After-run2
-second c = c.before.before.before.before.before
-
-abbrev third : After-run4 → After-run3
-third c = c.before.before.before.before.before
-
-abbrev out1 : After-run → List ℕ
-out1 c = c.run.new.out
-
-abbrev out2 : After-run2 → List ℕ
-out2 c = let o = out1 (first c) in let p = (start (first c)).args.w in put_mid p (length o - p) o c.run-2.new.out
-
-abbrev out3 : After-run3 → List ℕ
-out3 c = let o = out2 (second c) in let p = 2 * (start (first (second c))).args.w in put_mid p (length o - p) o c.run-3.new.out
-
-abbrev out4 : After-run4 → List ℕ
-out4 c = let o = out3 (third c) in let p = 3 * (start (first (second (third c)))).args.w in put_mid p (length o - p) o c.run-4.new.out
-
-one : (c : After-run) → Stood (start c) (start c).args.w (out1 c)
-one c =
-    let f = start c in
-    let w = f.args.w in
-    let base : List ℕ = f.args.out.now in
-    run_stands w 0 0 w (codes f) base base (out1 c) f.requires.3 (omega arith) (omega arith) (none f) c.run.ensures
-
-two : (c : After-run2) → Stood (start (first c)) (2 * (start (first c)).args.w) (out2 c)
-two c =
-    let f = start (first c) in
-    let w = f.args.w in
-    part_stands w 1 w (2 * w) (codes f) f.args.out.now (out1 (first c)) c.run-2.new.out f.requires.3 (omega arith) (omega arith) (one (first c)) c.run-2.ensures
-
-three : (c : After-run3) → Stood (start (first (second c))) (3 * (start (first (second c))).args.w) (out3 c)
-three c =
-    let f = start (first (second c)) in
-    let w = f.args.w in
-    part_stands w 2 (2 * w) (3 * w) (codes f) f.args.out.now (out2 (second c)) c.run-3.new.out f.requires.3 refl (omega arith) (two (second c)) c.run-3.ensures
-
-four : (c : After-run4) → Stood (start (first (second (third c)))) (4 * (start (first (second (third c)))).args.w) (out4 c)
-four c =
-    let f = start (first (second (third c))) in
-    let w = f.args.w in
-    part_stands w 3 (3 * w) (4 * w) (codes f) f.args.out.now (out3 (third c)) c.run-4.new.out f.requires.3 refl (omega arith) (three (third c)) c.run-4.ensures
+pub loop-i-init : goal.loop-i-init
+loop-i-init c = let a = c.args in none a.w (number (2 ^ a.w) a.c.now) a.out.now
 
 pub run-requires : goal.run-requires
 run-requires c =
-    let f = c.before.before.before.before.before in
-    (f.requires.0, f.requires.1, long f 0 (omega arith), small f 0, omega (arith, f.requires.4))
+    let a = c.args in
+    let p = c.requires in
+    let l = c.loop-i in
+    let codes : List ℕ = drop (8 * l.i) a.c.now in (
+      p.0,
+      p.1,
+      rw (eight l.i) (length-take-le 8 codes (rw length-drop (search rules))),
+      rw (eight l.i) (below_take (2 ^ a.w) 8 codes (below_drop (2 ^ a.w) (8 * l.i) a.c.now p.2)),
+      part_room (l.i * a.w) a.w (number (2 ^ a.w) a.c.now) a.out.now l.out (room l.i a.w _ (omega arith) p.3) l.invariant,
+    )
 
-pub run-requires-2 : goal.run-requires-2
-run-requires-2 c =
-    let r = c.before.before.before.before.before in
-    let f = start r in
-    (f.requires.0, f.requires.1, long f 8 (omega arith), small f 8, room f f.args.w (out1 r) (omega arith) (one r))
-
-pub run-requires-3 : goal.run-requires-3
-run-requires-3 c =
-    let r = c.before.before.before.before.before in
-    let f = start (first r) in
-    (f.requires.0, f.requires.1, long f 16 (omega arith), small f 16, room f (2 * f.args.w) (out2 r) (omega arith) (two r))
-
-pub run-requires-4 : goal.run-requires-4
-run-requires-4 c =
-    let r = c.before.before.before.before.before in
-    let f = start (first (second r)) in
-    (f.requires.0, f.requires.1, long f 24 (omega arith), small f 24, room f (3 * f.args.w) (out3 r) (omega arith) (three r))
+pub loop-i-preserved : goal.loop-i-preserved
+loop-i-preserved c =
+    let a = c.args in
+    let l = c.loop-i in
+    let p = l.i * a.w in
+    let out : List ℕ = l.out in
+    part_stands a.w l.i p ((l.i + 1) * a.w) a.c.now a.out.now out _ c.requires.2 refl (more l.i a.w) l.invariant
+    (c.run.ensures ∙ ap (λ (k : ℕ). digits 256 a.w (number (2 ^ a.w) (take k (drop (8 * l.i) a.c.now))) ++ drop a.w (take (length out - p) (drop p out))) (eight l.i))
 
 pub returns : goal.returns
-returns c = four c.before.before.before
+returns c =
+    let a = c.args in
+    let end : c.loop-i.i ≡ 4 = omega arith in
+    c.loop-i.invariant ∙ ap (λ (i : ℕ). digits 256 (i * a.w) (number (2 ^ a.w) a.c.now) ++ drop (i * a.w) a.out.now) end

@@ -1,14 +1,8 @@
--- `quad` meets its contract.
--- Assumes nothing.
-use mathlib.Core.Path.{sym, ap₂, ◌∙◌}
-use Prim.Native.Nat.{ℕ, ◌+◌, ◌*◌}
-use Rattle.blocks.proofs.Law.Reading.{load_halves}
+-- `quad` meets its contract: the library's sum of four bytes is the number that they spell.
+use mathlib.Core.Path.{◌∙◌}
+use Rattle.blocks.proofs.Law.Reading.{quad_read}
 use borrow.Author.Rules.{rules}
 use Rattle.blocks.proofs.bytes.quad.Goals as goal
 
 pub returns : goal.returns
-returns c =
-    let a = c.args in (
-      ap₂ (λ (x y : ℕ). x + y * 65536) c.pair.ensures.0 c.pair-2.ensures.0 ∙ sym (load_halves a.s.now a.at 2 2 (search rules)),
-      search rules,
-    )
+returns c = (c.from_le_bytes.ensures ∙ quad_read c.args.s.now c.args.at c.requires, search rules)

@@ -1,30 +1,7 @@
--- `store` meets its contract: eight stores in a row are the word's eight digits (`eight_stores`).
--- Assumes nothing.
-use native.Mathlib.Omega.{arith}
-use lib.ListN.{length-set}
-use Rattle.blocks.proofs.Law.Storing.{eight_stores}
+-- `store` meets its contract: the bytes of the word are its eight digits.
+use mathlib.Core.Path.{◌∙◌}
+use Rattle.blocks.proofs.Law.Storing.{eight_digits, stored}
 use Rattle.blocks.proofs.bytes.store.Goals as goal
 
-pub bounds-out-at-2 : goal.bounds-out-at-2
-bounds-out-at-2 c = simp length-set (omega arith)
-
-pub bounds-out-at-3 : goal.bounds-out-at-3
-bounds-out-at-3 c = simp length-set (omega arith)
-
-pub bounds-out-at-4 : goal.bounds-out-at-4
-bounds-out-at-4 c = simp length-set (omega arith)
-
-pub bounds-out-at-5 : goal.bounds-out-at-5
-bounds-out-at-5 c = simp length-set (omega arith)
-
-pub bounds-out-at-6 : goal.bounds-out-at-6
-bounds-out-at-6 c = simp length-set (omega arith)
-
-pub bounds-out-at-7 : goal.bounds-out-at-7
-bounds-out-at-7 c = simp length-set (omega arith)
-
-pub bounds-out-at-8 : goal.bounds-out-at-8
-bounds-out-at-8 c = simp length-set (omega arith)
-
 pub returns : goal.returns
-returns c = eight_stores c.args.out.now c.args.at c.args.word c.requires
+returns c = stored c.args.out.now _ _ c.args.at 8 (c.copy_from_slice.ensures.after ∙ c.to_le_bytes.ensures ∙ eight_digits c.args.word)

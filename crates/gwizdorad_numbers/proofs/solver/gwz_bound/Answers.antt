@@ -2,27 +2,26 @@
 use mathlib.Core.Path.{◌∙◌, sym, ap}
 use mir.Facts.{to_z-of_z}
 use mir.Syntax.{w32}
+use Rattle.std.specs.Prelude.{Err}
 use Rattle.numbers.specs.Signed.{bits_of}
 use Rattle.numbers.specs.Bound.{bound_number, bound_detail}
+use Rattle.numbers.specs.declared.bound.BoundError.{BoundError}
 use Rattle.gwizdorad_numbers.specs.Result.{result_of, bound_result}
-use borrow.Author.Rules.{rules}
+use Rattle.gwizdorad_numbers.proofs.Law.Spelled.{bound_signed}
 use Rattle.gwizdorad_numbers.proofs.solver.gwz_bound.Goals as goal
 
-pub enum_told-1 : goal.enum_told-1
-enum_told-1 c = search rules
-
-pub returns-in-Exponent : goal.returns-in-Exponent
+pub returns-in-Ok : goal.returns-in-Ok
 unfolding bound_result bound_number bound_detail
-returns-in-Exponent c = c.result_of.ensures ∙ ap (result_of 0) (c.bits32.ensures ∙ ap (bits_of 32) (to_z-of_z {w = w32} (record { sfits = c.in-Exponent.known_told-1-own.given.0.1 }))) ∙ ap bound_result (sym c.in-Exponent.is ∙ c.bound-answer.ensures)
+returns-in-Ok c = let fits = bound_signed c.args.width c.args.tolerance c.in-Ok.k c.in-Ok.ensures in c.result_of.ensures ∙ ap (result_of 0) (c.bits32.ensures ∙ ap (bits_of 32) (to_z-of_z {w = w32} fits)) ∙ ap bound_result (sym c.in-Ok.is ∙ c.bound-answer.ensures)
 
-pub returns-in-UnknownWidth : goal.returns-in-UnknownWidth
+pub returns-in-Err-UnknownWidth : goal.returns-in-Err-UnknownWidth
 unfolding bound_result bound_number bound_detail bits_of
-returns-in-UnknownWidth c = c.result_of-in-UnknownWidth.ensures ∙ ap bound_result (sym c.in-UnknownWidth.is ∙ c.bound-answer.ensures)
+returns-in-Err-UnknownWidth c = c.result_of-in-Err-UnknownWidth.ensures ∙ ap bound_result (sym (c.in-Err-UnknownWidth.is ∙ ap (λ (e : BoundError). Err e) (rw c.in-Err-UnknownWidth.is at c.in-Err-UnknownWidth.field-0-is)) ∙ c.bound-answer.ensures)
 
-pub returns-in-NoTolerance : goal.returns-in-NoTolerance
+pub returns-in-Err-NoTolerance : goal.returns-in-Err-NoTolerance
 unfolding bound_result bound_number bound_detail bits_of
-returns-in-NoTolerance c = c.result_of-in-NoTolerance.ensures ∙ ap bound_result (sym c.in-NoTolerance.is ∙ c.bound-answer.ensures)
+returns-in-Err-NoTolerance c = c.result_of-in-Err-NoTolerance.ensures ∙ ap bound_result (sym (c.in-Err-NoTolerance.is ∙ ap (λ (e : BoundError). Err e) (rw c.in-Err-NoTolerance.is at c.in-Err-NoTolerance.field-0-is)) ∙ c.bound-answer.ensures)
 
-pub returns-in-TooSmall : goal.returns-in-TooSmall
+pub returns-in-Err-TooSmall : goal.returns-in-Err-TooSmall
 unfolding bound_result bound_number bound_detail bits_of
-returns-in-TooSmall c = c.result_of-in-TooSmall.ensures ∙ ap bound_result (sym c.in-TooSmall.is ∙ c.bound-answer.ensures)
+returns-in-Err-TooSmall c = c.result_of-in-Err-TooSmall.ensures ∙ ap bound_result (sym (c.in-Err-TooSmall.is ∙ ap (λ (e : BoundError). Err e) (rw c.in-Err-TooSmall.is at c.in-Err-TooSmall.field-0-is)) ∙ c.bound-answer.ensures)

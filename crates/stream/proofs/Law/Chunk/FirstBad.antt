@@ -1,4 +1,5 @@
 -- The first bad group of a chunk: what the walk over the groups finds is what `FirstBad` says of each group by itself.
+use Rattle.std.specs.Prelude.{Err}
 use mathlib.Core.Path.{◌≡◌, refl, sym, ap, subst, ◌∙◌}
 use mathlib.Core.Logic.{◌⊎◌, inl, inr, ◌↔◌}
 use mathlib.Core.Bool.{Bool, true, false, cond}
@@ -11,16 +12,15 @@ use lib.Dec.{eqb}
 use lib.ListN.{length, drop}
 use Rattle.blocks.proofs.Law.Truth.{le_or_lt}
 use Rattle.stream.specs.Group.{group_length, good_group}
-use Rattle.stream.specs.Chunk.{groups_in, first_fault, chunk_answer}
+use Rattle.stream.specs.Chunk.{Verdict, good, groups_in, first_fault, chunk_answer}
 use Rattle.stream.specs.Theorem.{from_group, good_at, FirstBad}
-use Rattle.stream.specs.declared.chunk.ChunkAnswer.TheVariants.{Good, Bad}
 use Rattle.stream.proofs.Law.Chunk.Groups.{groups_step, never_good}
 
-same_group : (i j : ℕ) → Bad i ≡ Bad j → i ≡ j
+same_group : (i j : ℕ) → ◌≡◌ {A = Verdict} (Err i) (Err j) → i ≡ j
 same_group i j e = cc
 
 -- bytes left over behind the last group
-left_over : (s : List ℕ) (i b : ℕ) → cond (eqb (length s) 0) Good (Bad i) ≡ Bad b → (0 < length s) × (i ≡ b)
+left_over : (s : List ℕ) (i b : ℕ) → cond (eqb (length s) 0) good (Err i) ≡ Err b → (0 < length s) × (i ≡ b)
 left_over s i b e = go (le_or_lt (length s) 0)
   where
     go : (length s ≤ 0) ⊎ (0 < length s) → (0 < length s) × (i ≡ b)
@@ -88,56 +88,56 @@ module _ (W U size : ℕ) where
 
   -- ---- the walk finds it
 
-  walked : (q n : ℕ) (s : List ℕ) (i b : ℕ) → first_fault W U size (suc q) n s i ≡ Bad b
-      → ((good_group W U (min size n) s ≡ false) × (i ≡ b)) ⊎ ((good_group W U (min size n) s ≡ true) × (first_fault W U size q (n - size) (behind n s) (suc i) ≡ Bad b))
+  walked : (q n : ℕ) (s : List ℕ) (i b : ℕ) → first_fault W U size (suc q) n s i ≡ Err b
+      → ((good_group W U (min size n) s ≡ false) × (i ≡ b)) ⊎ ((good_group W U (min size n) s ≡ true) × (first_fault W U size q (n - size) (behind n s) (suc i) ≡ Err b))
   unfolding first_fault
   walked q n s i b e = go (good_group W U (min size n) s) refl
     where
       go : (x : Bool) → good_group W U (min size n) s ≡ x
-          → ((good_group W U (min size n) s ≡ false) × (i ≡ b)) ⊎ ((good_group W U (min size n) s ≡ true) × (first_fault W U size q (n - size) (behind n s) (suc i) ≡ Bad b))
+          → ((good_group W U (min size n) s ≡ false) × (i ≡ b)) ⊎ ((good_group W U (min size n) s ≡ true) × (first_fault W U size q (n - size) (behind n s) (suc i) ≡ Err b))
       go true good = inr (good, rw good at e)
       go false bad = inl (bad, same_group i b (rw bad at e))
 
-  found : (q n : ℕ) (s : List ℕ) (i b : ℕ) → first_fault W U size (suc q) n s i ≡ Bad b → (g : ℕ) × (i + g ≡ b) × Found (suc q) n s g
+  found : (q n : ℕ) (s : List ℕ) (i b : ℕ) → first_fault W U size (suc q) n s i ≡ Err b → (g : ℕ) × (i + g ≡ b) × Found (suc q) n s g
   unfolding first_fault
   found zero n s i b e = go (walked 0 n s i b e)
     where
-      go : ((good_group W U (min size n) s ≡ false) × (i ≡ b)) ⊎ ((good_group W U (min size n) s ≡ true) × (first_fault W U size 0 (n - size) (behind n s) (suc i) ≡ Bad b))
+      go : ((good_group W U (min size n) s ≡ false) × (i ≡ b)) ⊎ ((good_group W U (min size n) s ≡ true) × (first_fault W U size 0 (n - size) (behind n s) (suc i) ≡ Err b))
           → (g : ℕ) × (i + g ≡ b) × Found 1 n s g
       go (inl bad) = (0, omega (arith, bad.1), front_found 0 n s (inl bad.0))
       go (inr good) = let over = left_over (behind n s) (suc i - 1) b good.1 in (0, omega (arith, over.1), front_found 0 n s (inr (refl, over.0)))
   found (suc q) n s i b e = go (walked (suc q) n s i b e) (λ f. found q (n - size) (behind n s) (suc i) b f)
     where
-      go : ((good_group W U (min size n) s ≡ false) × (i ≡ b)) ⊎ ((good_group W U (min size n) s ≡ true) × (first_fault W U size (suc q) (n - size) (behind n s) (suc i) ≡ Bad b))
-          → (first_fault W U size (suc q) (n - size) (behind n s) (suc i) ≡ Bad b → (g : ℕ) × (suc i + g ≡ b) × Found (suc q) (n - size) (behind n s) g)
+      go : ((good_group W U (min size n) s ≡ false) × (i ≡ b)) ⊎ ((good_group W U (min size n) s ≡ true) × (first_fault W U size (suc q) (n - size) (behind n s) (suc i) ≡ Err b))
+          → (first_fault W U size (suc q) (n - size) (behind n s) (suc i) ≡ Err b → (g : ℕ) × (suc i + g ≡ b) × Found (suc q) (n - size) (behind n s) g)
           → (g : ℕ) × (i + g ≡ b) × Found (suc (suc q)) n s g
       go (inl bad) later = (0, omega (arith, bad.1), front_found (suc q) n s (inl bad.0))
       go (inr good) later = let r = later good.1 in (suc r.0, omega (arith, r.1), later_found (suc q) n s r.0 good.0 r.2)
 
   -- ---- and what it finds is it
 
-  stops_at : (q n : ℕ) (s : List ℕ) (i g : ℕ) → Found q n s g → first_fault W U size q n s i ≡ Bad (i + g)
+  stops_at : (q n : ℕ) (s : List ℕ) (i g : ℕ) → Found q n s g → first_fault W U size q n s i ≡ Err (i + g)
   unfolding first_fault from_group
   stops_at zero n s i g f = absurd (omega (arith, f.is_group))
   stops_at (suc q) n s i zero f = go (good_group W U (min size n) s) refl f.bad
     where
-      over : good_group W U (min size n) s ≡ true → (1 ≡ suc q) × (0 < length (behind n s)) → first_fault W U size (suc q) n s i ≡ Bad (i + 0)
+      over : good_group W U (min size n) s ≡ true → (1 ≡ suc q) × (0 < length (behind n s)) → first_fault W U size (suc q) n s i ≡ Err (i + 0)
       over good left =
           rw good
           (ap (λ (x : ℕ). first_fault W U size x (n - size) (behind n s) (suc i)) (let none : q ≡ 0 = omega (arith, left.0) in none)
-          ∙ rw (ne_eqb (length (behind n s)) 0 (λ z. omega (arith, left.1))) (ap Bad (let e : suc i - 1 ≡ i + 0 = omega arith in e)))
+          ∙ rw (ne_eqb (length (behind n s)) 0 (λ z. omega (arith, left.1))) (ap Err (let e : suc i - 1 ≡ i + 0 = omega arith in e)))
 
       go : (x : Bool) → good_group W U (min size n) s ≡ x → (good_at W U size n s 0 ≡ false) ⊎ ((1 ≡ suc q) × (0 < length (behind n s)))
-          → first_fault W U size (suc q) n s i ≡ Bad (i + 0)
-      go false bad why = rw bad (ap Bad (let e : i ≡ i + 0 = omega arith in e))
+          → first_fault W U size (suc q) n s i ≡ Err (i + 0)
+      go false bad why = rw bad (ap Err (let e : i ≡ i + 0 = omega arith in e))
       go true good (inl bad) = let z : true ≡ false = sym good ∙ sym (front_is n s) ∙ bad in absurd (let o : ◌≡◌ {A = ℕ} 0 1 = cc in omega (arith, o))
       go true good (inr left) = over good left
   stops_at (suc q) n s i (suc g) f =
       let r = later_back q n s g f in
-      rw r.0 (stops_at q (n - size) (behind n s) (suc i) g r.1 ∙ ap Bad (let e : suc i + g ≡ i + suc g = omega arith in e))
+      rw r.0 (stops_at q (n - size) (behind n s) (suc i) g r.1 ∙ ap Err (let e : suc i + g ≡ i + suc g = omega arith in e))
 
 -- "the first bad group", exactly
-pub bad_exactly : (W U size : ℕ) → 0 < size → (n : ℕ) (s : List ℕ) → 0 < n → (g : ℕ) → chunk_answer W U size n s ≡ Bad g ↔ FirstBad W U size n s g
+pub bad_exactly : (W U size : ℕ) → 0 < size → (n : ℕ) (s : List ℕ) → 0 < n → (g : ℕ) → chunk_answer W U size n s ≡ Err g ↔ FirstBad W U size n s g
 unfolding chunk_answer
 bad_exactly W U size some n s values g = (
   λ e.
@@ -145,5 +145,5 @@ bad_exactly W U size some n s values g = (
       let f = subst (λ (q : ℕ). Found W U size q n s r.0) (sym (groups_step size some n values)) r.2 in
       subst (λ (x : ℕ). FirstBad W U size n s x) (let same : r.0 ≡ g = omega (arith, r.1) in same)
       (record { is_group = f.is_group; earlier = f.earlier; bad = f.bad }),
-  λ f. stops_at W U size (groups_in size n) n s 0 g (record { is_group = f.is_group; earlier = f.earlier; bad = f.bad }) ∙ ap Bad (let e : 0 + g ≡ g = omega arith in e),
+  λ f. stops_at W U size (groups_in size n) n s 0 g (record { is_group = f.is_group; earlier = f.earlier; bad = f.bad }) ∙ ap Err (let e : 0 + g ≡ g = omega arith in e),
 )

@@ -1,4 +1,5 @@
 -- The laws of a chunk, over any group size: one group at a time, and then whole. Read of written, written of read, and the length.
+use Rattle.std.specs.Prelude.{Err}
 use mathlib.Core.Path.{◌≡◌, refl, sym, ap, ap₂, ◌∙◌}
 use mathlib.Core.Logic.{◌⊎◌, inl, inr}
 use mathlib.Core.Bool.{Bool, true, false, cond}
@@ -14,8 +15,7 @@ use lib.ListN.{length, take, drop, length-append, length-take, length-drop, take
 use lib.Seq.{take_at, drop_at, take_all, drop-append_seam}
 use Rattle.blocks.specs.Bytes.{Below, digits}
 use Rattle.stream.specs.Group.{bytes_for, group_bytes, group_length, group_codes, good_group}
-use Rattle.stream.specs.declared.chunk.ChunkAnswer.TheVariants.{Good, Bad}
-use Rattle.stream.specs.Chunk.{groups_in, groups_bytes, chunk_bytes, first_fault, chunk_answer, groups_codes, chunk_codes}
+use Rattle.stream.specs.Chunk.{good, groups_in, groups_bytes, chunk_bytes, first_fault, chunk_answer, groups_codes, chunk_codes}
 use Rattle.stream.specs.Theorem.{Limited, Starts}
 use Rattle.blocks.proofs.Law.Truth.{le_or_lt}
 use Rattle.blocks.proofs.Law.Digits.{below_append, below_take, below_drop}
@@ -52,11 +52,11 @@ whole_bytes : (b n : ℕ) → bytes_for (8 * b) n ≡ b * n
 unfolding bytes_for
 whole_bytes b n = ap (λ (x : ℕ). (x + 7) / 8) (mul_assoc 8 b n) ∙ (let e : (8 * (b * n) + 7) / 8 ≡ b * n = omega arith in e)
 
-pub never_good : (i : ℕ) → Bad i ≡ Good → ⊥
+pub never_good : (i : ℕ) → Err i ≡ good → ⊥
 never_good i e = let z : ◌≡◌ {A = ℕ} 0 1 = cc in omega arith
 
 -- a chunk that ends with its last group has no byte left
-left_over : (s : List ℕ) (i : ℕ) → cond (eqb (length s) 0) Good (Bad (i - 1)) ≡ Good → s ≡ []
+left_over : (s : List ℕ) (i : ℕ) → cond (eqb (length s) 0) good (Err (i - 1)) ≡ good → s ≡ []
 left_over s i e = go (le_or_lt (length s) 0)
   where
     go : (length s ≤ 0) ⊎ (0 < length s) → s ≡ []
@@ -96,13 +96,13 @@ module _ (size : ℕ) (some : 0 < size) where
   -- ---- reading, a group at a time
 
   module _ (W U : ℕ) where
-    pub fault_none : (s : List ℕ) (i : ℕ) → first_fault W U size (groups_in size 0) 0 s i ≡ cond (eqb (length s) 0) Good (Bad (i - 1))
+    pub fault_none : (s : List ℕ) (i : ℕ) → first_fault W U size (groups_in size 0) 0 s i ≡ cond (eqb (length s) 0) good (Err (i - 1))
     unfolding first_fault
     fault_none s i = rw groups_none
 
     pub fault_step : (n : ℕ) (s : List ℕ) (i : ℕ) → 0 < n
         → first_fault W U size (groups_in size n) n s i
-        ≡ cond (good_group W U (min size n) s) (first_fault W U size (groups_in size (n - size)) (n - size) (drop (group_length (min size n) s) s) (suc i)) (Bad i)
+        ≡ cond (good_group W U (min size n) s) (first_fault W U size (groups_in size (n - size)) (n - size) (drop (group_length (min size n) s) s) (suc i)) (Err i)
     unfolding first_fault
     fault_step n s i h = rw (groups_step n h)
 
@@ -135,7 +135,7 @@ module _ (size : ℕ) (some : 0 < size) where
       bytes = refl;
     }
 
-    no_fault : (q : ℕ) (cs : List ℕ) (i : ℕ) → Below (2 ^ W) cs → Limited U cs → first_fault W U size q (length cs) (groups_bytes size q cs) i ≡ Good
+    no_fault : (q : ℕ) (cs : List ℕ) (i : ℕ) → Below (2 ^ W) cs → Limited U cs → first_fault W U size q (length cs) (groups_bytes size q cs) i ≡ good
     unfolding first_fault groups_bytes
     no_fault zero cs i below limited = refl
     no_fault (suc q) cs i below limited =
@@ -144,7 +144,7 @@ module _ (size : ℕ) (some : 0 < size) where
         (no_fault q (drop size cs) (suc i) (below_drop (2 ^ W) size cs below) (limited_drop U size cs limited))
 
     -- what is written is read without a fault
-    pub written_is_good : (cs : List ℕ) → Below (2 ^ W) cs → Limited U cs → chunk_answer W U size (length cs) (chunk_bytes size cs) ≡ Good
+    pub written_is_good : (cs : List ℕ) → Below (2 ^ W) cs → Limited U cs → chunk_answer W U size (length cs) (chunk_bytes size cs) ≡ good
     unfolding chunk_answer chunk_bytes
     written_is_good cs below limited = no_fault (groups_in size (length cs)) cs 0 below limited
 
@@ -208,12 +208,12 @@ module _ (size : ℕ) (some : 0 < size) where
       pub below : Below (2 ^ W) cs
       pub limited : Limited U cs
 
-    good_exactly : (q n : ℕ) (s : List ℕ) (i : ℕ) → Below 256 s → first_fault W U size q n s i ≡ Good → Exactly q s (groups_codes size q n s)
+    good_exactly : (q n : ℕ) (s : List ℕ) (i : ℕ) → Below 256 s → first_fault W U size q n s i ≡ good → Exactly q s (groups_codes size q n s)
     unfolding first_fault groups_codes groups_bytes
     good_exactly zero n s i below e = record { bytes = left_over s i e; below = λ k. pow_pos W; limited = λ k. zero-le }
     good_exactly (suc q) n s i below e = go (good_exactly q) (good_group W U (min size n) s) refl
       where
-        go : ((n : ℕ) (s : List ℕ) (i : ℕ) → Below 256 s → first_fault W U size q n s i ≡ Good → Exactly q s (groups_codes size q n s))
+        go : ((n : ℕ) (s : List ℕ) (i : ℕ) → Below 256 s → first_fault W U size q n s i ≡ good → Exactly q s (groups_codes size q n s))
             → (b : Bool) → good_group W U (min size n) s ≡ b → Exactly (suc q) s (groups_codes size (suc q) n s)
         go again true g =
             let k = group_length (min size n) s in
@@ -230,7 +230,7 @@ module _ (size : ℕ) (some : 0 < size) where
         go again false g = absurd (never_good i (rw g at e))
 
     -- what is accepted is just the bytes of the codes that are read, and these are allowed
-    pub good_is_exact : (n : ℕ) (s : List ℕ) → Below 256 s → chunk_answer W U size n s ≡ Good → Exactly (groups_in size n) s (chunk_codes size n s)
+    pub good_is_exact : (n : ℕ) (s : List ℕ) → Below 256 s → chunk_answer W U size n s ≡ good → Exactly (groups_in size n) s (chunk_codes size n s)
     unfolding chunk_answer chunk_codes
     good_is_exact n s below e = good_exactly (groups_in size n) n s 0 below e
 

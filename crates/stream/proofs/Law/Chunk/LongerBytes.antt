@@ -9,14 +9,13 @@ use lib.ListN.{length, take, drop, length-drop, length-append, get_or-append, ta
 use lib.Seq.{take-append-le, drop-append-le}
 use Rattle.blocks.specs.Bytes.{number, digits}
 use Rattle.stream.specs.Group.{bytes_for, given_width, group_length, group_number, group_codes, whole_group}
-use Rattle.stream.specs.Chunk.{chunk_codes, whole_chunk}
+use Rattle.stream.specs.Chunk.{good, chunk_codes, whole_chunk}
 use Rattle.stream.specs.Setting.{group_size, limit_of}
 use Rattle.stream.specs.Header.{setting_in}
 use Rattle.stream.specs.Lent.{Begun}
 use Rattle.stream.specs.Tables.{start_at}
 use Rattle.stream.specs.Stream.{count_of, chunk_of, chunk_state}
 use Rattle.stream.specs.declared.header.Header.{Header}
-use Rattle.stream.specs.declared.chunk.ChunkAnswer.TheVariants.{Good}
 use Rattle.stream.specs.declared.setting.Setting.{Setting}
 use Rattle.blocks.proofs.Law.Truth.{le_or_lt}
 use Rattle.stream.proofs.Law.Setting.Allowed.{size_some}
@@ -126,7 +125,7 @@ module _ (h : Header) (s part : List ℕ) (j : ℕ) (is : part ≡ drop (h.start
     chunk_codes_lem = ap (chunk_codes (group_size t) n) begins ∙ chunk_alike (group_size t) (size_some t) t.width n (chunk_of h s j) _ whole
 
 -- and a good one is there to be read
-pub state_whole : (h : Header) (s : List ℕ) (j : ℕ) → chunk_state h s j ≡ Good
+pub state_whole : (h : Header) (s : List ℕ) (j : ℕ) → chunk_state h s j ≡ good
     → whole_chunk h.width (group_size (setting_in h)) (count_of h j) (chunk_of h s j) ≡ true
 unfolding chunk_state
 state_whole h s j e =

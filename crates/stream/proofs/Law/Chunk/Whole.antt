@@ -1,4 +1,5 @@
 -- A chunk whose groups are all there to be read, walked group by group. Over the width and the group size.
+use Rattle.std.specs.Prelude.{Option, Some, None, Err}
 use mathlib.Core.Path.{◌≡◌, refl, sym, ap, ap₂, ◌∙◌}
 use mathlib.Core.Logic.{⊎_elim}
 use mathlib.Core.Bool.{Bool, true, false, ◌&&◌, cond, and-eq-true_iff}
@@ -10,8 +11,7 @@ use lib.Dec.{leb}
 use lib.ListN.{length, drop}
 use lib.Seq.{drop-drop}
 use Rattle.stream.specs.Group.{given_width, group_length, whole_group, good_group}
-use Rattle.stream.specs.Chunk.{groups_in, first_fault, chunk_answer, whole_groups, whole_chunk}
-use Rattle.stream.specs.declared.chunk.ChunkAnswer.TheVariants.{Good, Bad}
+use Rattle.stream.specs.Chunk.{good, groups_in, first_fault, chunk_answer, whole_groups, whole_chunk}
 use Rattle.blocks.proofs.Law.Truth.{le_or_lt}
 use Rattle.stream.proofs.Law.Group.Exact.{true_good}
 use Rattle.stream.proofs.Law.Chunk.Groups.{groups_none, groups_step, fault_step, never_good}
@@ -33,27 +33,9 @@ module _ (W n : ℕ) (s : List ℕ) where
       go true e = absurd (broken (whole_facts e))
       go false e = e
 
-  -- how many bytes it has, where 0 says that it is not there: a group has its first byte at least
-  abbrev pub there : ℕ
-  there = cond (whole_group W n s) (group_length n s) 0
-
-  pub there_whole : whole_group W n s ≡ true → there ≡ group_length n s
-  there_whole e = rw e
-
-  pub there_none : there ≡ 0 → whole_group W n s ≡ false
-  unfolding group_length
-  there_none z = go (whole_group W n s) refl
-    where
-      go : (b : Bool) → whole_group W n s ≡ b → whole_group W n s ≡ false
-      go true e = absurd (let q : group_length n s ≡ 0 = sym (there_whole e) ∙ z in omega arith)
-      go false e = e
-
-  pub there_some : (there ≡ 0 → ⊥) → (whole_group W n s ≡ true) × (there ≡ group_length n s)
-  there_some some = go (whole_group W n s) refl
-    where
-      go : (b : Bool) → whole_group W n s ≡ b → (whole_group W n s ≡ true) × (there ≡ group_length n s)
-      go true e = (e, there_whole e)
-      go false e = absurd (some (rw e))
+  -- how many bytes it has, where it is there
+  abbrev pub there : Option ℕ
+  there = cond (whole_group W n s) (Some (group_length n s)) None
 
 module _ (size : ℕ) (some : 0 < size) (W : ℕ) where
   -- what is left of the values and of the bytes
@@ -74,8 +56,8 @@ module _ (size : ℕ) (some : 0 < size) (W : ℕ) where
     good_group_whole : (n : ℕ) (s : List ℕ) → good_group W U n s ≡ true → whole_group W n s ≡ true
     good_group_whole n s e = let g = true_good W U n s e in facts_whole W n s g.wide g.whole
 
-    some_whole : (n i : ℕ) (s : List ℕ) → 0 < n → first_fault W U size (groups_in size n) n s i ≡ Good
-        → ((t : List ℕ) → first_fault W U size (groups_in size (n - size)) (n - size) t (suc i) ≡ Good → whole_left (n - size) t ≡ true)
+    some_whole : (n i : ℕ) (s : List ℕ) → 0 < n → first_fault W U size (groups_in size n) n s i ≡ good
+        → ((t : List ℕ) → first_fault W U size (groups_in size (n - size)) (n - size) t (suc i) ≡ good → whole_left (n - size) t ≡ true)
         → whole_left n s ≡ true
     some_whole n i s k e again = go (good_group W U (min size n) s) refl
       where
@@ -85,19 +67,19 @@ module _ (size : ℕ) (some : 0 < size) (W : ℕ) where
             let more = first_fault W U size (groups_in size (n - size)) (n - size) rest (suc i) in
             whole_step n s k
             ∙ rw (good_group_whole (min size n) s g)
-            (again rest (sym (ap (λ (x : Bool). cond x more (Bad i)) g) ∙ sym (fault_step size some W U n s i k) ∙ e))
+            (again rest (sym (ap (λ (x : Bool). cond x more (Err i)) g) ∙ sym (fault_step size some W U n s i k) ∙ e))
         go false g =
             let more = first_fault W U size (groups_in size (n - size)) (n - size) (drop (group_length (min size n) s) s) (suc i) in
-            absurd (never_good i (sym (ap (λ (x : Bool). cond x more (Bad i)) g) ∙ sym (fault_step size some W U n s i k) ∙ e))
+            absurd (never_good i (sym (ap (λ (x : Bool). cond x more (Err i)) g) ∙ sym (fault_step size some W U n s i k) ∙ e))
 
-    groups_whole : (f n i : ℕ) (s : List ℕ) → n ≤ f → first_fault W U size (groups_in size n) n s i ≡ Good → whole_left n s ≡ true
+    groups_whole : (f n i : ℕ) (s : List ℕ) → n ≤ f → first_fault W U size (groups_in size n) n s i ≡ good → whole_left n s ≡ true
     groups_whole zero n i s k e = ap (λ (m : ℕ). whole_left m s) (let z : n ≡ 0 = omega arith in z) ∙ whole_none s
     groups_whole (suc f) n i s k e =
         ⊎_elim (λ h. ap (λ (m : ℕ). whole_left m s) (let z : n ≡ 0 = omega arith in z) ∙ whole_none s)
         (λ h. some_whole n i s h e (λ t l. groups_whole f (n - size) (suc i) t (omega arith) l))
         (le_or_lt n 0)
 
-    pub good_whole : (n : ℕ) (s : List ℕ) → chunk_answer W U size n s ≡ Good → whole_chunk W size n s ≡ true
+    pub good_whole : (n : ℕ) (s : List ℕ) → chunk_answer W U size n s ≡ good → whole_chunk W size n s ≡ true
     unfolding chunk_answer whole_chunk
     good_whole n s e = groups_whole n n 0 s (omega arith) e
 

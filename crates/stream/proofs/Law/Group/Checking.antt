@@ -1,21 +1,21 @@
 -- A group is checked: the bit lengths of its codes, four at a time or one by one, the highest bits of its last byte, and what its width says of them.
 -- Assumes nothing.
+use Rattle.std.specs.Prelude.{Some, None}
 use mathlib.Core.Path.{◌≡◌, refl, sym, ap, ap₂, ◌∙◌, subst, subst⁻¹}
 use mathlib.Core.Bool.{Bool, true, false, cond}
 use mathlib.Core.List.{List}
 use mathlib.Core.Logic.{◌⊎◌, inl, inr}
-use Prim.Native.Nat.{ℕ, suc, ◌+◌, ◌-◌, ◌*◌, ◌/◌, ◌%◌, ◌^◌, ◌≤◌, ◌<◌, zero-le}
+use Prim.Native.Nat.{ℕ, suc, ◌+◌, ◌-◌, ◌*◌, ◌/◌, ◌%◌, ◌^◌, ◌≤◌, ◌<◌, max, zero-le}
 use native.Mathlib.Nat.{zero-lt-suc, mod-lt, div-eq_of_lt, div-lt_iff_lt-mul, one-mul, add-sub_of_le, add_comm, sub-add_cancel, mul-add, mul_comm, two-pow-succ, lt_of_lt_of_le}
 use native.Mathlib.Omega.{arith}
 use lib.Bits.{bit_and, bit_or, or_shr, or_mod}
-use lib.Dec.{lit<}
+use lib.Dec.{eqb, lit<}
 use lib.Ieee.{size}
 use lib.Ieee.Digits.{size-lt}
 use lib.ListN.{length, take, drop, get_or}
 use lib.Pow.{pow_pos, pow_mono, shr-shr, shl_exact, field}
 use Rattle.blocks.specs.Bytes.{Below, number}
 use Rattle.stream.specs.Group.{group_answer}
-use Rattle.stream.specs.declared.group.GroupAnswer.TheVariants as answers
 use Rattle.stream.specs.Group.{bytes_for, width_of, given_width, group_length, group_number, group_codes, good_group}
 use Rattle.stream.specs.Block.{block_codes}
 use Rattle.stream.specs.Theorem.{Limited}
@@ -23,6 +23,8 @@ use Rattle.blocks.proofs.Law.Digits.{byte, everywhere, number_at, number_part, d
 use Rattle.blocks.proofs.Law.Truth.{le_or_lt}
 use Rattle.stream.proofs.Law.Group.RoundTrip.{bytes_none, bytes_tight, width_least, codes_below}
 use Rattle.stream.proofs.Law.Group.Exact.{Good, good_true, true_good}
+use Rattle.stream.proofs.Law.Group.Width.{size_at, size_four}
+use borrow.Author.Tests.{eqb-true, eqb-false}
 use Rattle.blocks.proofs.Law.Reading.{in_word}
 use Rattle.blocks.proofs.Law.Words.{pow_pow, masked}
 
@@ -115,6 +117,31 @@ four_all P f k h = part (le_or_lt 8 k) (le_or_lt 16 k) (le_or_lt 24 k)
     part (inl x) (inl g) (inr l) = subst P (sub-add_cancel g) (f (k - 16) (omega arith)).2
     part (inl x) (inl y) (inl g) = subst P (sub-add_cancel g) (f (k - 24) (omega arith)).3
 
+-- code j is not as wide as w
+abbrev pub Short : List ℕ → ℕ → ℕ → Type 0
+Short cs w j = size (get_or cs j 0) < w
+
+-- the OR of the four from code i on
+abbrev pub four_or : List ℕ → ℕ → ℕ
+four_or cs i = bit_or (bit_or (get_or cs i 0) (get_or cs (i + 8) 0)) (bit_or (get_or cs (i + 16) 0) (get_or cs (i + 24) 0))
+
+-- it is as wide as the widest of the four, so no wider than the codes, and these no wider than w
+module _ (cs : List ℕ) (w i : ℕ) (most : width_of cs ≤ w) where
+  widest : size (four_or cs i)
+      ≡ max (max (size (get_or cs i 0)) (size (get_or cs (i + 8) 0))) (max (size (get_or cs (i + 16) 0)) (size (get_or cs (i + 24) 0)))
+  widest = size_four (get_or cs i 0) (get_or cs (i + 8) 0) (get_or cs (i + 16) 0) (get_or cs (i + 24) 0)
+
+  no_wider : size (four_or cs i) ≤ width_of cs
+  no_wider = omega (arith, widest, size_at cs i, size_at cs (i + 8), size_at cs (i + 16), size_at cs (i + 24))
+
+  pub four_wide : eqb (size (four_or cs i)) w ≡ true → w ≡ width_of cs
+  four_wide e = omega (arith, eqb-true (size (four_or cs i)) w e, no_wider, most)
+
+  pub four_short : eqb (size (four_or cs i)) w ≡ false → Four (Short cs w) i
+  four_short e =
+      let less : size (four_or cs i) < w = omega (arith, eqb-false (size (four_or cs i)) w e, no_wider, most) in
+      (omega (arith, widest), omega (arith, widest), omega (arith, widest), omega (arith, widest))
+
 -- ---- the padding
 
 pub padding : (s : List ℕ) (n w : ℕ) → Below 256 s → w ≡ given_width s
@@ -159,15 +186,15 @@ pub untrue : (b : Bool) → (b ≡ true → ⊥) → b ≡ false
 untrue true f = absurd (f refl)
 untrue false f = refl
 
-pub bad_answer : {W U n : ℕ} {s : List ℕ} → (Good W U n s → ⊥) → answers.Bad ≡ group_answer W U n s
+pub bad_answer : {W U n : ℕ} {s : List ℕ} → (Good W U n s → ⊥) → None ≡ group_answer W U n s
 unfolding group_answer
 bad_answer {W = W} {U = U} {n = n} {s = s} h =
-    ap (λ (b : Bool). cond b (answers.Good (group_length n s)) answers.Bad) (sym (untrue (good_group W U n s) (λ e. h (true_good W U n s e))))
+    ap (λ (b : Bool). cond b (Some (group_length n s)) None) (sym (untrue (good_group W U n s) (λ e. h (true_good W U n s e))))
 
-pub good_answer : {W U n : ℕ} {s : List ℕ} (k : ℕ) → Good W U n s → k ≡ group_length n s → answers.Good k ≡ group_answer W U n s
+pub good_answer : {W U n : ℕ} {s : List ℕ} (k : ℕ) → Good W U n s → k ≡ group_length n s → Some k ≡ group_answer W U n s
 unfolding group_answer
 good_answer {n = n} {s = s} k g e =
-    ap answers.Good e ∙ ap (λ (b : Bool). cond b (answers.Good (group_length n s)) answers.Bad) (sym (good_true g))
+    ap Some e ∙ ap (λ (b : Bool). cond b (Some (group_length n s)) None) (sym (good_true g))
 
 -- a group of width 0 is its first byte alone
 module _ (n : ℕ) (s : List ℕ) (none : given_width s ≡ 0) where

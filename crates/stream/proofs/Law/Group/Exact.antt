@@ -15,6 +15,7 @@ use lib.Pow.{pow_pos, pow_mono}
 use lib.Seq.{length-take-le}
 use Rattle.blocks.specs.Bytes.{Below, number, digits}
 use Rattle.stream.specs.Group.{bytes_for, width_of, packed, group_bytes, given_width, group_length, group_number, group_codes, within, good_group}
+use Rattle.std.specs.List.{list_all}
 use Rattle.stream.specs.Theorem.{Limited, Starts}
 use Rattle.blocks.proofs.Law.Digits.{byte, below_take, below_drop, number_digits_whole, digits_number, number_lt}
 use Rattle.stream.proofs.Law.Group.RoundTrip.{width_holds, width_least, read_width, read_length, read_number, read_codes, length_codes, codes_below}
@@ -46,6 +47,12 @@ pub limited_within : (U : ℕ) (cs : List ℕ) → Limited U cs → within U cs 
 unfolding within
 limited_within U [] h = refl
 limited_within U (c ∷ cs) h = ap₂ ◌&&◌ (le-leb (c / 2) U (h 0)) (limited_within U cs (λ i. h (suc i)))
+
+-- the test of each code
+pub all_within : (U : ℕ) (cs : List ℕ) → list_all (λ c. leb (c / 2) U) cs ≡ within U cs
+unfolding within
+all_within U [] = refl
+all_within U (c ∷ cs) = ap (λ (b : Bool). leb (c / 2) U && b) (all_within U cs)
 
 pub good_true : {W U n : ℕ} {s : List ℕ} → Good W U n s → good_group W U n s ≡ true
 unfolding good_group

@@ -2,11 +2,11 @@
 -- Assumes nothing.
 use mathlib.Core.Path.{◌≡◌, refl, sym, ap, ap₂, subst, ◌∙◌}
 use mathlib.Core.Logic.{inl}
-use mathlib.Core.List.{List, ◌∷◌, ◌++◌, append_assoc}
+use mathlib.Core.List.{List, [], ◌∷◌, ◌++◌, append_assoc, append-nil}
 use Prim.Native.Nat.{ℕ, suc, ◌+◌, ◌-◌, ◌*◌, ◌%◌, ◌^◌, ◌≤◌, max}
 use native.Mathlib.Numerals.{one-add}
 use native.Mathlib.Omega.{arith}
-use lib.ListN.{length, take, drop, length-append}
+use lib.ListN.{length, take, drop, set, length-append}
 use lib.Seq.{take_all}
 use borrow.Rule.Slice.PartMut.{put_mid}
 use Rattle.blocks.specs.Bytes.{Below}
@@ -14,7 +14,7 @@ use Rattle.stream.specs.Group.{bytes_for, width_of, packed, group_bytes}
 use Rattle.stream.proofs.Law.Group.RoundTrip.{length_packed, length_group, width_holds}
 use Rattle.stream.proofs.Law.Group.Whole.{bytes_whole}
 use Rattle.stream.proofs.Law.Group.Parts.{below_left, below_right, two_packed, width_of_four, four_long}
-use Rattle.stream.proofs.Law.Plain.Appended.{Appended, one_piece, piece_fits}
+use Rattle.stream.proofs.Law.Plain.Appended.{Appended, first_set, one_piece, piece_fits}
 
 -- a full record counts all its codes, and these are 32
 pub record Full (n : ℕ) (codes : List ℕ) : Type 0 where
@@ -93,3 +93,31 @@ module _ (all rest base out : List ℕ) (put : ℕ) (a : Appended all rest base 
   one_block next ys e back =
       subst (λ (p : ℕ). Appended all more base (put_mid put (length out - put) out ys) p) (sym e)
       (one_piece all rest base out put a (packed w codes) more ys (4 * w) is long back)
+
+-- how far the writing of four blocks has come: the width stands, then each block
+module _ (w : ℕ) (a b c d all base : List ℕ) (k : InBlocks w a b c d all) (room : length (group_bytes all) ≤ length base) where
+  pub begun : Appended (group_bytes all) (packed w a ++ (packed w b ++ (packed w c ++ packed w d))) base (set base 0 w) 1
+  begun = first_set (group_bytes all) (packed w a ++ (packed w b ++ (packed w c ++ packed w d))) base w k.group_is room
+
+  -- what a block that was lent the part from `put` on leaves there
+  abbrev Left : List ℕ → List ℕ → ℕ → List ℕ → Type 0
+  Left codes out put ys = ys ≡ packed w codes ++ drop (4 * w) (take (length out - put) (drop put out))
+
+  abbrev over : List ℕ → ℕ → List ℕ → List ℕ
+  over out put ys = put_mid put (length out - put) out ys
+
+  module _ (ya : List ℕ) (ea : Left a (set base 0 w) 1 ya) where
+    pub stands_1 : Appended (group_bytes all) (packed w b ++ (packed w c ++ packed w d)) base (over (set base 0 w) 1 ya) (1 + 4 * w)
+    stands_1 = one_block _ _ _ _ _ begun w a (packed w b ++ (packed w c ++ packed w d)) refl k.long_a (1 + 4 * w) ya refl ea
+
+    module _ (yb : List ℕ) (eb : Left b (over (set base 0 w) 1 ya) (1 + 4 * w) yb) where
+      pub stands_2 : Appended (group_bytes all) (packed w c ++ packed w d) base (over (over (set base 0 w) 1 ya) (1 + 4 * w) yb) (1 + 8 * w)
+      stands_2 = one_block _ _ _ _ _ stands_1 w b (packed w c ++ packed w d) refl k.long_b (1 + 8 * w) yb (omega arith) eb
+
+      module _ (yc : List ℕ) (ec : Left c (over (over (set base 0 w) 1 ya) (1 + 4 * w) yb) (1 + 8 * w) yc) where
+        pub stands_3 : Appended (group_bytes all) (packed w d) base (over (over (over (set base 0 w) 1 ya) (1 + 4 * w) yb) (1 + 8 * w) yc) (1 + 12 * w)
+        stands_3 = one_block _ _ _ _ _ stands_2 w c (packed w d) refl k.long_c (1 + 12 * w) yc (omega arith) ec
+
+        pub stands_4 : (yd : List ℕ) → Left d (over (over (over (set base 0 w) 1 ya) (1 + 4 * w) yb) (1 + 8 * w) yc) (1 + 12 * w) yd
+            → Appended (group_bytes all) [] base (over (over (over (over (set base 0 w) 1 ya) (1 + 4 * w) yb) (1 + 8 * w) yc) (1 + 12 * w) yd) (1 + 16 * w)
+        stands_4 yd ed = one_block _ _ _ _ _ stands_3 w d [] (sym (append-nil (packed w d))) k.long_d (1 + 16 * w) yd (omega arith) ed

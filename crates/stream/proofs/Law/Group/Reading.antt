@@ -3,12 +3,11 @@
 use mathlib.Core.Path.{◌≡◌, refl, sym, ap, ap₂, ◌∙◌}
 use mathlib.Core.List.{List, [], ◌∷◌, ◌++◌}
 use Prim.Native.Nat.{ℕ, zero, suc, ◌+◌, ◌-◌, ◌*◌, ◌/◌, ◌%◌, ◌^◌, ◌≤◌, ◌<◌}
-use native.Mathlib.Nat.{mod-one, sub-add_cancel, not-suc-le-zero, le_of_suc-le-suc, le_of_lt}
+use native.Mathlib.Nat.{mod-one, sub-add_cancel, not-suc-le-zero, le_of_suc-le-suc}
 use native.Mathlib.Numerals.{add-one}
-use native.Mathlib.Omega.{arith}
 use lib.ListN.{length, take, drop, set, get_or, replicate}
 use lib.Pow.{pow_pos, shr-shr, mod-mod-pow}
-use lib.Seq.{take-suc, take-suc-set, length-take-le, set_at, append_snoc}
+use lib.Seq.{take-suc-set}
 use Rattle.blocks.specs.Bytes.{Below, number, digits}
 use Rattle.stream.specs.Group.{bytes_for, given_width, group_number, group_codes}
 use Rattle.blocks.proofs.Law.Digits.{byte, number_part, digits_mod, digits_snoc}
@@ -55,17 +54,3 @@ pub take_replicate : (n m a : ℕ) → n ≤ m → take n (replicate m a) ≡ re
 take_replicate zero m a h = refl
 take_replicate (suc n) zero a h = absurd (not-suc-le-zero h)
 take_replicate (suc n) (suc m) a h = ap (λ (r : List ℕ). a ∷ r) (take_replicate n m a (le_of_suc-le-suc h))
-
--- ---- a copy with zeros behind
-
-one_fewer : (m i : ℕ) → i < m → m - i ≡ suc (m - (i + 1))
-one_fewer m i h = omega arith
-
-pub one_copied : (s : List ℕ) (i m : ℕ) → i < length s → i < m
-    → set (take i s ++ replicate (m - i) 0) i (get_or s i 0) ≡ take (i + 1) s ++ replicate (m - (i + 1)) 0
-one_copied s i m h k =
-    let zeros : List ℕ = replicate (m - (i + 1)) 0 in
-    ap (λ (n : ℕ). set (take i s ++ replicate n 0) i (get_or s i 0)) (one_fewer m i k)
-    ∙ set_at (take i s) 0 zeros (get_or s i 0) i (length-take-le i s (le_of_lt h))
-    ∙ sym (append_snoc (take i s) (get_or s i 0) zeros)
-    ∙ ap (λ (r : List ℕ). r ++ zeros) (sym (ap (λ (n : ℕ). take n s) (add-one i) ∙ take-suc s i 0 h))

@@ -1,12 +1,11 @@
--- The width by the OR of the codes: the bit length of an OR is the larger of the two lengths, and leading zeros give it.
+-- The width by the OR of the codes: the bit length of an OR is the larger of the two lengths.
 -- Assumes nothing.
 use mathlib.Core.Path.{◌≡◌, sym, ap, ap₂, ◌∙◌, subst}
 use mathlib.Core.List.{List, [], ◌∷◌, ◌++◌}
-use Prim.Native.Nat.{ℕ, suc, ◌-◌, ◌^◌, ◌≤◌, ◌<◌, max}
-use native.Mathlib.Nat.{le_antisymm, le-max_left, le-max_right, max-le, lt_of_le_of_lt, lt_of_lt_of_le, lt_of_not-le, le_of_suc-le-suc, two-pow-succ}
+use Prim.Native.Nat.{ℕ, ◌^◌, ◌≤◌, ◌<◌, max}
+use native.Mathlib.Nat.{le_antisymm, le-max_left, le-max_right, max-le, lt_of_le_of_lt, lt_of_lt_of_le}
 use native.Mathlib.Omega.{arith}
 use lib.Bits.{bit_or, or_comm, or_lt, or_add_and, and_le_r}
-use lib.Count.{count_leading_zeros, leading_length}
 use lib.Ieee.{size}
 use lib.Ieee.Digits.{size-lt, size-le}
 use lib.ListN.{get_or}
@@ -35,15 +34,15 @@ size_or a b = size_join (bit_or a b) a b (le_or a b) (subst (λ (x : ℕ). b ≤
 pub size_max : (a b : ℕ) → size (max a b) ≡ max (size a) (size b)
 size_max a b = size_join (max a b) a b (le-max_left a b) (le-max_right a b) (λ m ha hb. omega arith)
 
-largest_snoc : (xs : List ℕ) (c : ℕ) → largest (xs ++ (c ∷ [])) ≡ max (largest xs) c
-unfolding largest
-largest_snoc [] c = omega arith
-largest_snoc (x ∷ xs) c = omega (arith, largest_snoc xs c)
-
 -- no code is wider than all of them
 pub size_at : (cs : List ℕ) (i : ℕ) → size (get_or cs i 0) ≤ width_of cs
 unfolding width_of
 size_at cs i = size_mono (get_or cs i 0) (largest cs) (largest_at cs i)
+
+largest_snoc : (xs : List ℕ) (c : ℕ) → largest (xs ++ (c ∷ [])) ≡ max (largest xs) c
+unfolding largest
+largest_snoc [] c = omega arith
+largest_snoc (x ∷ xs) c = omega (arith, largest_snoc xs c)
 
 -- one code more
 pub or_width : (all c : ℕ) (xs : List ℕ) → size all ≡ width_of xs → size (bit_or all c) ≡ width_of (xs ++ (c ∷ []))
@@ -54,11 +53,3 @@ or_width all c xs e =
 -- the OR of four
 pub size_four : (a b c d : ℕ) → size (bit_or (bit_or a b) (bit_or c d)) ≡ max (max (size a) (size b)) (max (size c) (size d))
 size_four a b c d = size_or (bit_or a b) (bit_or c d) ∙ ap₂ max (size_or a b) (size_or c d)
-
--- "Width less leading zeros"
-pub size_leading : (k a : ℕ) → a < 2 ^ k → k - count_leading_zeros k a ≡ size a
-size_leading k a h =
-    let l = leading_length k a h in
-    let least : l.0 ≤ size a =
-    le_of_suc-le-suc (lt_of_not-le (λ (g : suc (size a) ≤ l.0). omega (arith, pow_mono g, l.3, size-lt a, two-pow-succ (size a)))) in
-    omega (arith, size-le a l.0 l.2, l.1)

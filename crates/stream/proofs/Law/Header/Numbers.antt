@@ -1,30 +1,13 @@
 -- The 32-bit numbers of a stream, at their byte places.
-use mathlib.Core.Path.{◌≡◌, ◌∙◌}
-use mathlib.Core.List.{List, [], ◌∷◌}
-use Prim.Native.Nat.{ℕ, ◌+◌, ◌*◌, ◌^◌, ◌≤◌, ◌<◌}
-use native.Mathlib.Nat.{add-zero, lt_of_lt_of_le, pow-le-pow_right}
+use mathlib.Core.List.{List}
+use Prim.Native.Nat.{ℕ, ◌^◌, ◌≤◌, ◌<◌}
+use native.Mathlib.Nat.{lt_of_lt_of_le, pow-le-pow_right}
 use native.Mathlib.Omega.{arith}
-use lib.ListN.{length, take, drop, get_or, length-take, length-drop}
-use lib.Seq.{get_or-drop}
-use Rattle.blocks.specs.Bytes.{Below, number}
+use lib.ListN.{length, take, drop, length-take}
+use Rattle.blocks.specs.Bytes.{Below}
 use Rattle.stream.specs.Header.{word, header_of}
 use Rattle.stream.specs.Relied.{Words}
 use Rattle.blocks.proofs.Law.Digits.{byte, below_drop, below_take, number_lt}
-
-four : (l : List ℕ) → 4 ≤ length l
-    → number 256 (take 4 l) ≡ get_or l 0 0 + 256 * (get_or l 1 0 + 256 * (get_or l 2 0 + 256 * get_or l 3 0))
-unfolding number
-four [] h = omega arith
-four (a ∷ []) h = omega arith
-four (a ∷ (b ∷ [])) h = omega arith
-four (a ∷ (b ∷ (c ∷ []))) h = omega arith
-four (a ∷ (b ∷ (c ∷ (d ∷ l)))) h = omega arith
-
--- the four bytes of a number
-pub word_is : (s : List ℕ) (p : ℕ) → p + 4 ≤ length s
-    → word s p ≡ get_or s p 0 + 256 * (get_or s (p + 1) 0 + 256 * (get_or s (p + 2) 0 + 256 * get_or s (p + 3) 0))
-unfolding word
-word_is s p h = four (drop p s) (rw length-drop (omega arith)) ∙ simp (get_or-drop, add-zero)
 
 -- a number of four bytes is below 2 ^ 32, also where the stream ends before it
 pub word_small : (s : List ℕ) (p : ℕ) → Below 256 s → word s p < 2 ^ 32

@@ -16,7 +16,7 @@ use Rattle.stream.specs.Header.{setting_in}
 use Rattle.stream.specs.Rows.{first}
 use Rattle.stream.specs.Operations.{chunk_rows}
 use Rattle.stream.specs.Relied.{Layout, Placed, Readable}
-use Rattle.stream.specs.declared.answers.Step.TheVariants.{Pass}
+use Rattle.std.specs.Prelude.{Ok}
 use Rattle.stream.specs.declared.header.Header.{Header}
 use Rattle.stream.specs.Lent.{chosen, landed}
 use Rattle.stream.proofs.Law.Values.Counts.{length_chunk}
@@ -91,7 +91,7 @@ pub record Restored (h : Header) (s base : List ℕ) (j : ℕ) (out : List ℕ) 
   pub is : out ≡ joined (chunk_values h s) j ++ drop (min (1024 * j) h.count) base
 
 -- such a loop: its begin, what it asks of a turn, a turn, and its end
-module _ (W : ℕ) (h : Header) (s base : List ℕ) (pre : Readable W h s × (first (chunk_rows h s) ≡ Pass) × (h.count ≤ length base)) where
+module _ (W : ℕ) (h : Header) (s base : List ℕ) (pre : Readable W h s × (first (chunk_rows h s) ≡ Ok tt) × (h.count ≤ length base)) where
   l : Layout (length s) h
   l = pre.0.opened.layout
 

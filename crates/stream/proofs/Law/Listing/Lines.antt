@@ -19,17 +19,15 @@ use Rattle.stream.specs.Header.{header_of, setting_in}
 use Rattle.stream.specs.Tables.{start_at, chunk_table_right}
 use Rattle.stream.specs.Stream.{joined, count_of}
 use Rattle.stream.specs.Relied.{Opened}
-use Rattle.stream.specs.Rows.{first, answer}
+use Rattle.stream.specs.Rows.{first}
 use Rattle.stream.specs.Operations.{opening_rows, content_rows, check_rows, check_answer}
 use Rattle.stream.specs.Setting.{highest_level}
 use Rattle.stream.specs.Listing.{most_input, decimal, minus, signed_decimal, newline, labelled, too_long}
 use Rattle.stream.specs.Listing.{chunk_word, at_word, bytes_word, groups_word, chunk_line, answer_lines, listing, Appends}
-use Rattle.stream.specs.declared.answers.Answer.{Answer}
-use Rattle.stream.specs.declared.answers.Answer.TheVariants.{Done, Refused}
-use Rattle.stream.specs.declared.answers.Step.{Step}
-use Rattle.stream.specs.declared.answers.Step.TheVariants.{Pass, Stop}
+use Rattle.std.specs.Prelude.{Result, Ok}
+use Rattle.stream.specs.declared.answers.Refusal.{Refusal}
 use Rattle.stream.specs.declared.header.Header.{Header}
-use Rattle.stream.proofs.Law.Rows.First.{opened_both}
+use Rattle.stream.proofs.Law.Rows.First.{opened_both, done_pass}
 use Rattle.stream.proofs.Law.Rows.Passed.{opened_as, checking}
 
 -- ---- a signed number, from its size and its test against 0
@@ -68,17 +66,12 @@ one_line_more f j = rw add-one
 
 -- ---- the whole text
 
-answered : (step : Step) (m n : ℕ) → answer step m ≡ Done n → step ≡ Pass
-unfolding answer
-answered Pass m n e = refl
-answered (Stop number detail) m n e = let z : Refused number detail ≡ Done n = e in cc
-
 -- what is relied on of a stream that the check accepts
-pub accepted : (level : ℕ) (s : List ℕ) → Below 256 s → (n : ℕ) → check_answer level s ≡ Done n
+pub accepted : (level : ℕ) (s : List ℕ) → Below 256 s → (n : ℕ) → check_answer level s ≡ Ok n
     → Opened (length s) (header_of s) × (chunk_table_right (header_of s) s ≡ true)
 unfolding check_answer check_rows
 accepted level s b n e =
-    let pass = answered (first (check_rows level s)) (header_of s).count n e in
+    let pass = (done_pass (first (check_rows level s)) (header_of s).count n e).0 in
     let opening = (opened_both (opening_rows level s) (content_rows (header_of s) s) pass).0 in
     (opened_as level s opening b (header_of s) refl, (checking level s pass).1.chunks)
 
@@ -91,7 +84,7 @@ pub too_long_is : (s : List ℕ) → most_input < length s → too_long ++ newli
 unfolding listing
 too_long_is s l = rw (lt-ltb most_input (length s) l)
 
-pub answered_is : (s : List ℕ) → length s ≤ most_input → (found a : Answer) → found ≡ check_answer highest_level s → found ≡ a
+pub answered_is : (s : List ℕ) → length s ≤ most_input → (found a : Result ℕ Refusal) → found ≡ check_answer highest_level s → found ≡ a
     → answer_lines a s ≡ listing s
 unfolding listing
 answered_is s l found a e is = rw (le-ltb most_input (length s) l, ← e, is)

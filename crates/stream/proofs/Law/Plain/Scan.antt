@@ -9,8 +9,8 @@ use native.Mathlib.Numerals.{add-one}
 use native.Mathlib.Omega.{arith}
 use Rattle.stream.specs.Tables.{every}
 use Rattle.stream.specs.Rows.{Row, rows_from, first}
-use Rattle.stream.specs.declared.answers.Step.{Step}
-use Rattle.stream.specs.declared.answers.Step.TheVariants.{Pass, Stop}
+use Rattle.std.specs.Prelude.{⊤, Result, Ok, Err}
+use Rattle.stream.specs.declared.answers.Refusal.{Refusal}
 use Rattle.stream.proofs.Law.Rows.First.{passed, stopped, passed_both}
 use Rattle.blocks.proofs.Law.Truth.{le_or_lt}
 use Rattle.stream.proofs.Law.Plain.Truth.{and_left, and_right}
@@ -61,52 +61,52 @@ module _ (f : ℕ → Row) where
   unfolding rows_from
   rows_next = next (rows_from f) (λ i rest. f i ∷ rest) (λ k i. refl)
 
-  pub rows_on : (n i : ℕ) → i < n → first (f i ∷ []) ≡ Pass → first (rows_from f (n - i) i) ≡ first (rows_from f (n - (i + 1)) (i + 1))
+  pub rows_on : (n i : ℕ) → i < n → first (f i ∷ []) ≡ Ok tt → first (rows_from f (n - i) i) ≡ first (rows_from f (n - (i + 1)) (i + 1))
   rows_on n i h e = ap first (rows_next n i h) ∙ passed (f i) (rows_from f (n - (i + 1)) (i + 1)) e
 
-  pub rows_stop : (number detail n i : ℕ) → i < n → first (f i ∷ []) ≡ Stop number detail → first (rows_from f (n - i) i) ≡ Stop number detail
-  rows_stop number detail n i h e = ap first (rows_next n i h) ∙ stopped number detail (f i) (rows_from f (n - (i + 1)) (i + 1)) e
+  pub rows_stop : (refusal : Refusal) (n i : ℕ) → i < n → first (f i ∷ []) ≡ Err refusal → first (rows_from f (n - i) i) ≡ Err refusal
+  rows_stop refusal n i h e = ap first (rows_next n i h) ∙ stopped refusal (f i) (rows_from f (n - (i + 1)) (i + 1)) e
 
-  pub rows_done : (n i : ℕ) → n ≤ i → first (rows_from f (n - i) i) ≡ Pass
+  pub rows_done : (n i : ℕ) → n ≤ i → first (rows_from f (n - i) i) ≡ Ok tt
   unfolding rows_from first
   rows_done n i h = ap first (none_left (rows_from f) n i h)
 
   -- rows of which none is given: none of them is
-  pub rows_at : (k i j : ℕ) → first (rows_from f k i) ≡ Pass → i ≤ j → j < i + k → first (f j ∷ []) ≡ Pass
+  pub rows_at : (k i j : ℕ) → first (rows_from f k i) ≡ Ok tt → i ≤ j → j < i + k → first (f j ∷ []) ≡ Ok tt
   unfolding rows_from
   rows_at zero i j e l h = absurd (omega arith)
   rows_at (suc k) i j e l h =
       go (le_or_lt j i) (λ m. rows_at k (suc i) j both.1 m (omega arith))
     where
-      both : (first (f i ∷ []) ≡ Pass) × (first (rows_from f k (suc i)) ≡ Pass)
+      both : (first (f i ∷ []) ≡ Ok tt) × (first (rows_from f k (suc i)) ≡ Ok tt)
       both = passed_both (f i) (rows_from f k (suc i)) e
 
-      go : (j ≤ i) ⊎ (i < j) → (suc i ≤ j → first (f j ∷ []) ≡ Pass) → first (f j ∷ []) ≡ Pass
+      go : (j ≤ i) ⊎ (i < j) → (suc i ≤ j → first (f j ∷ []) ≡ Ok tt) → first (f j ∷ []) ≡ Ok tt
       go (inl m) later = ap (λ (j : ℕ). first (f j ∷ [])) (let q : j ≡ i = omega arith in q) ∙ both.0
       go (inr m) later = later m
 
   -- the row that is found, and none before it
-  pub record FoundRow (number detail k i : ℕ) : Type 0 where
+  pub record FoundRow (refusal : Refusal) (k i : ℕ) : Type 0 where
     pub at : ℕ
     pub from : i ≤ at
     pub below : at < i + k
-    pub before : (l : ℕ) → i ≤ l → l < at → first (f l ∷ []) ≡ Pass
-    pub stops : first (f at ∷ []) ≡ Stop number detail
+    pub before : (l : ℕ) → i ≤ l → l < at → first (f l ∷ []) ≡ Ok tt
+    pub stops : first (f at ∷ []) ≡ Err refusal
 
-  one_more : (number detail k i : ℕ) → first (f i ∷ []) ≡ Pass → FoundRow number detail k (suc i) → FoundRow number detail (suc k) i
-  one_more number detail k i pass r =
+  one_more : (refusal : Refusal) (k i : ℕ) → first (f i ∷ []) ≡ Ok tt → FoundRow refusal k (suc i) → FoundRow refusal (suc k) i
+  one_more refusal k i pass r =
       record { at = r.at; from = omega (arith, r.from); below = omega (arith, r.below); before = λ l low high. go l low high (le_or_lt l i); stops = r.stops }
     where
-      go : (l : ℕ) → i ≤ l → l < r.at → (l ≤ i) ⊎ (i < l) → first (f l ∷ []) ≡ Pass
+      go : (l : ℕ) → i ≤ l → l < r.at → (l ≤ i) ⊎ (i < l) → first (f l ∷ []) ≡ Ok tt
       go l low high (inl m) = ap (λ (j : ℕ). first (f j ∷ [])) (let q : l ≡ i = omega arith in q) ∙ pass
       go l low high (inr m) = r.before l m high
 
-  pub rows_found : (number detail k i : ℕ) → first (rows_from f k i) ≡ Stop number detail → FoundRow number detail k i
+  pub rows_found : (refusal : Refusal) (k i : ℕ) → first (rows_from f k i) ≡ Err refusal → FoundRow refusal k i
   unfolding rows_from first
-  rows_found number detail zero i e = let z : Pass ≡ Stop number detail = e in absurd (let n : ◌≡◌ {A = ℕ} 0 1 = cc in omega (arith, n))
-  rows_found number detail (suc k) i e = go (first (f i ∷ [])) refl (λ r. rows_found number detail k (suc i) r)
+  rows_found refusal zero i e = let z : Ok tt ≡ Err refusal = e in absurd (let n : ◌≡◌ {A = ℕ} 0 1 = cc in omega (arith, n))
+  rows_found refusal (suc k) i e = go (first (f i ∷ [])) refl (λ r. rows_found refusal k (suc i) r)
     where
-      go : (a : Step) → first (f i ∷ []) ≡ a → (first (rows_from f k (suc i)) ≡ Stop number detail → FoundRow number detail k (suc i)) → FoundRow number detail (suc k) i
-      go Pass pass later = one_more number detail k i pass (later (sym (passed (f i) (rows_from f k (suc i)) pass) ∙ e))
-      go (Stop x y) stop later =
-          record { at = i; from = omega arith; below = omega arith; before = λ l low high. absurd (omega arith); stops = stop ∙ sym (stopped x y (f i) (rows_from f k (suc i)) stop) ∙ e }
+      go : (a : Result ⊤ Refusal) → first (f i ∷ []) ≡ a → (first (rows_from f k (suc i)) ≡ Err refusal → FoundRow refusal k (suc i)) → FoundRow refusal (suc k) i
+      go (Ok u) pass later = one_more refusal k i pass (later (sym (passed (f i) (rows_from f k (suc i)) pass) ∙ e))
+      go (Err x) stop later =
+          record { at = i; from = omega arith; below = omega arith; before = λ l low high. absurd (omega arith); stops = stop ∙ sym (stopped x (f i) (rows_from f k (suc i)) stop) ∙ e }

@@ -1,7 +1,8 @@
 -- Small laws of Bool.
+use Rattle.std.specs.Prelude.{Some, None}
 use mathlib.Core.Path.{◌≡◌, refl}
 use mathlib.Core.Logic.{◌⊎◌, inl, inr}
-use mathlib.Core.Bool.{Bool, true, false, ◌&&◌, ◌||◌}
+use mathlib.Core.Bool.{Bool, true, false, ◌&&◌, ◌||◌, cond}
 
 pub and_left : (a b : Bool) → a && b ≡ true → a ≡ true
 and_left true b e = refl
@@ -30,3 +31,13 @@ or_false false b e = (refl, e)
 pub either : (a b : Bool) → a || b ≡ true → (a ≡ true) ⊎ (b ≡ true)
 either true b e = inl refl
 either false b e = inr e
+
+-- ---- an answer that is there where a test holds
+
+pub given_some : {A : Type 0} (b : Bool) (x y : A) → cond b (Some x) None ≡ Some y → (b ≡ true) × (x ≡ y)
+given_some true x y e = let z : Some x ≡ Some y = e in (refl, cc)
+given_some false x y e = let z : None ≡ Some y = e in (cc, cc)
+
+pub given_none : {A : Type 0} (b : Bool) (x : A) → cond b (Some x) None ≡ None → b ≡ false
+given_none true x e = let z : Some x ≡ None = e in cc
+given_none false x e = refl

@@ -16,13 +16,12 @@ use Rattle.numbers.proofs.Theorems.{no_u_is_larger}
 use Rattle.blocks.specs.Bytes.{Below}
 use Rattle.stream.specs.Group.{group_bytes}
 use Rattle.stream.specs.Setting.{known_width, fraction_bits, ruled, group_size, clipped, code_at, codes_of, patterns_of, limit_of}
-use Rattle.stream.specs.Chunk.{chunk_bytes}
+use Rattle.stream.specs.Chunk.{good, chunk_bytes}
 use Rattle.stream.specs.Header.{word, k_of, setting_in, chunks_in}
 use Rattle.stream.specs.Tables.{every, start_at, start_right, chunk_table_right}
 use Rattle.stream.specs.Stream.{joined, count_of, chunk_of, chunk_state, chunk_values, values_in}
 use Rattle.stream.specs.Writing.{spell, piece, piece_bytes, data_of, starts_of, header_numbers, end_of}
 use Rattle.stream.specs.Theorem.{Limited, coming_back}
-use Rattle.stream.specs.declared.chunk.ChunkAnswer.TheVariants.{Good}
 use Rattle.stream.specs.declared.header.Header.{Header}
 use Rattle.stream.specs.declared.setting.Setting.{Setting}
 use Rattle.blocks.proofs.Law.Truth.{le_or_lt}
@@ -149,7 +148,7 @@ module _ (level needed : ℕ) (t : Setting) (vs : List ℕ) (sides : ℕ) (f : F
   unfolding count_of
   count_is j = sym (length_codes_after t 0 (piece vs j) ∙ length_piece vs j)
 
-  pub chunk_good : (j : ℕ) → j < chunks → chunk_state header bytes j ≡ Good
+  pub chunk_good : (j : ℕ) → j < chunks → chunk_state header bytes j ≡ good
   unfolding chunk_state piece_bytes
   chunk_good j h =
       let below = piece_below (2 ^ t.width) vs j p.patterns in

@@ -12,6 +12,7 @@ use borrow.Author.Tests.{lt-ltb, le-ltb, lt-leb, le-leb, eq-eqb, ne_eqb}
 use lib.Dec.{leb, eqb, lit<}
 use lib.ListN.{length, drop, get_or, length-append, get_or-append}
 use Rattle.blocks.specs.Bytes.{Below}
+use Rattle.stream.specs.Chunk.{good}
 use Rattle.stream.specs.Setting.{known_level, need, stream_need, k_bits, group_size, codes_of, mode_number}
 use Rattle.stream.specs.Rows.{Row, rows_from, first}
 use Rattle.stream.specs.Header.{word, header_of, k_of, chunks_in, setting_right, layout_right}
@@ -21,9 +22,9 @@ use Rattle.stream.specs.Writing.{spell, piece, piece_bytes, data_of, starts_of, 
 use Rattle.stream.specs.Packing.{Sent}
 use Rattle.stream.specs.Theorem.{coming_back}
 use Rattle.stream.specs.Operations.{header_rows, opening_rows, need_row, id_row, side_rows, table_rows, chunk_row, chunk_rows, content_rows, own_rows, check_rows, unpack_rows, probe_rows}
-use Rattle.stream.specs.declared.answers.Step.{Step}
-use Rattle.stream.specs.declared.answers.Step.TheVariants.{Pass, Stop}
-use Rattle.stream.specs.declared.chunk.ChunkAnswer.TheVariants.{Good}
+use Rattle.std.specs.Prelude.{⊤, Result, Ok, Err}
+use Rattle.stream.specs.declared.answers.Refusal.{Refusal}
+use Rattle.stream.specs.declared.answers.Refusal.TheVariants.{NeedsMinor, BrokenHeader, MustBeUnderstood}
 use Rattle.stream.specs.declared.header.Header.{Header}
 use Rattle.stream.specs.declared.setting.Setting.{Setting}
 use Rattle.stream.proofs.Law.Rows.First.{and_then, then_none, first_append, passed}
@@ -109,12 +110,12 @@ module _ (level : ℕ) (t : Setting) (vs : List ℕ) where
   pub plain_sent : Sent level t vs [] (need t) (stream level t vs)
   plain_sent = subst (Sent level t vs [] (need t)) (sym plain_is) (sided_sent level t vs [] (no_sides (length (stream level t vs) + 12 * 0)))
 
-turned : (b : Bool) (x y : Step) → cond (not b) x y ≡ cond b y x
+turned : (b : Bool) (x y : Result ⊤ Refusal) → cond (not b) x y ≡ cond b y x
 turned true x y = refl
 turned false x y = refl
 
 -- rows of which none is given
-all_pass : (f : ℕ → Row) (k i : ℕ) → ((j : ℕ) → i ≤ j → j < i + k → first (f j ∷ []) ≡ Pass) → first (rows_from f k i) ≡ Pass
+all_pass : (f : ℕ → Row) (k i : ℕ) → ((j : ℕ) → i ≤ j → j < i + k → first (f j ∷ []) ≡ Ok tt) → first (rows_from f k i) ≡ Ok tt
 unfolding rows_from first
 all_pass f zero i h = refl
 all_pass f (suc k) i h = passed (f i) (rows_from f k (suc i)) (h i (omega arith) (omega arith)) ∙ all_pass f k (suc i) (λ j l m. h j (omega arith) (omega arith))
@@ -201,7 +202,7 @@ module _ (level : ℕ) (t : Setting) (vs : List ℕ) (p : Storable level t vs) (
       ap₂ ids_in header_read after_data
       ∙ ids_read (header_for level needed t vs (length ps)) (spell numbers ++ data_of t vs chunks) ps well data_ends refl
 
-  pub chunks_kept : (j : ℕ) → j < chunks → chunk_state (header_of s) s j ≡ Good
+  pub chunks_kept : (j : ℕ) → j < chunks → chunk_state (header_of s) s j ≡ good
   chunks_kept j h = ap₂ (λ (x : Header) (l : List ℕ). chunk_state x l j) header_read after_front ∙ chunk_good level needed t vs (length ps) fits behind j h
 
   pub values_read : values s ≡ coming_back t vs
@@ -214,8 +215,8 @@ module _ (level : ℕ) (t : Setting) (vs : List ℕ) (p : Storable level t vs) (
   -- ---- the rows
 
   -- what the tables and the chunks say is what the ids say
-  abbrev late : Step
-  late = cond (not (eqb needed (stream_need t (some_high (ids_of ps))))) (Stop 8 0) (first (map id_row (ids_of ps)))
+  abbrev late : Result ⊤ Refusal
+  late = cond (not (eqb needed (stream_need t (some_high (ids_of ps))))) (Err BrokenHeader) (first (map id_row (ids_of ps)))
 
   tables_read : first (table_rows (header_of s) s) ≡ late
   unfolding side_rows need_row first k_of
@@ -224,32 +225,32 @@ module _ (level : ℕ) (t : Setting) (vs : List ℕ) (p : Storable level t vs) (
       ∙ rw (ids_kept, header_read, setting_back t p.setting, ruled_stream_need 0 t (some_high (ids_of ps)))
 
   -- and with the early 8: where both minors are right the ids decide, and else it is 8
-  abbrev pub told : Step
-  told = cond (leb needed level && eqb needed (stream_need t (some_high (ids_of ps)))) (first (map id_row (ids_of ps))) (Stop 8 0)
+  abbrev pub told : Result ⊤ Refusal
+  told = cond (leb needed level && eqb needed (stream_need t (some_high (ids_of ps)))) (first (map id_row (ids_of ps))) (Err BrokenHeader)
 
-  pub told_low : some_high (ids_of ps) ≡ false → needed ≡ need t → told ≡ Pass
+  pub told_low : some_high (ids_of ps) ≡ false → needed ≡ need t → told ≡ Ok tt
   told_low low is =
       rw (low, le-leb needed level (omega (arith, p.needs, is)), eq-eqb needed (stream_need t false) (is ∙ sym (low_need t))) (low_pass (ids_of ps) low)
 
-  pub told_high : some_high (ids_of ps) ≡ true → needed ≡ stream_need t true → needed ≤ level → told ≡ Stop 15 (first_high (ids_of ps))
+  pub told_high : some_high (ids_of ps) ≡ true → needed ≡ stream_need t true → needed ≤ level → told ≡ Err (MustBeUnderstood (first_high (ids_of ps)))
   told_high high is reached = rw (high, le-leb needed level reached, eq-eqb needed (stream_need t true) is) (high_stop (ids_of ps) high)
 
-  pub told_wrong : ((needed ≡ stream_need t (some_high (ids_of ps))) × (needed ≤ level) → ⊥) → told ≡ Stop 8 0
+  pub told_wrong : ((needed ≡ stream_need t (some_high (ids_of ps))) × (needed ≤ level) → ⊥) → told ≡ Err BrokenHeader
   told_wrong other = go (le_or_lt needed level)
     where
-      go : (needed ≤ level) ⊎ (level < needed) → told ≡ Stop 8 0
+      go : (needed ≤ level) ⊎ (level < needed) → told ≡ Err BrokenHeader
       go (inl reached) = rw (le-leb needed level reached, ne_eqb needed (stream_need t (some_high (ids_of ps))) (λ is. other (is, reached)))
       go (inr exceeds) = rw (lt-leb needed level exceeds)
 
-  told_early : (needed < need t) ⊎ (level < needed) → told ≡ Stop 8 0
+  told_early : (needed < need t) ⊎ (level < needed) → told ≡ Err BrokenHeader
   told_early (inl short) = told_wrong (λ right. omega (arith, need_most t (some_high (ids_of ps)), right.0))
   told_early (inr exceeds) = told_wrong (λ right. omega (arith, right.1))
 
   told_late : needed ≤ level → late ≡ told
-  told_late reached = rw (le-leb needed level reached) (turned (eqb needed (stream_need t (some_high (ids_of ps)))) (Stop 8 0) (first (map id_row (ids_of ps))))
+  told_late reached = rw (le-leb needed level reached) (turned (eqb needed (stream_need t (some_high (ids_of ps)))) (Err BrokenHeader) (first (map id_row (ids_of ps))))
 
   -- so a reader says this, if it says the early 8 by the minors and else what is late
-  either_time : (x : Step) → (need t ≤ needed → needed ≤ level → x ≡ late) → ((needed < need t) ⊎ (level < needed) → x ≡ Stop 8 0) → x ≡ told
+  either_time : (x : Result ⊤ Refusal) → (need t ≤ needed → needed ≤ level → x ≡ late) → ((needed < need t) ⊎ (level < needed) → x ≡ Err BrokenHeader) → x ≡ told
   either_time x good broken = go (le_or_lt (need t) needed) (le_or_lt needed level)
     where
       go : (need t ≤ needed) ⊎ (needed < need t) → (needed ≤ level) ⊎ (level < needed) → x ≡ told
@@ -257,7 +258,7 @@ module _ (level : ℕ) (t : Setting) (vs : List ℕ) (p : Storable level t vs) (
       go (inl least) (inr exceeds) = broken (inr exceeds) ∙ sym (told_early (inr exceeds))
       go (inr short) r = broken (inl short) ∙ sym (told_early (inl short))
 
-  then_good : (rows : List Row) → first rows ≡ Pass → first (table_rows (header_of s) s ++ rows) ≡ late
+  then_good : (rows : List Row) → first rows ≡ Ok tt → first (table_rows (header_of s) s ++ rows) ≡ late
   then_good rows good =
       first_append (table_rows (header_of s) s) rows
       ∙ ap₂ and_then tables_read good
@@ -275,17 +276,17 @@ module _ (level : ℕ) (t : Setting) (vs : List ℕ) (p : Storable level t vs) (
   own_read i l = then_good (chunk_row (header_of s) s (i / 1024) ∷ []) (sym (good_row (header_of s) s (i / 1024) (chunks_kept (i / 1024) (omega arith))))
 
   module _ (L : ℕ) (known : known_level L ≡ true) where
-    opening_pass : needed ≤ L → need t ≤ needed → needed ≤ level → first (opening_rows L s) ≡ Pass
+    opening_pass : needed ≤ L → need t ≤ needed → needed ≤ level → first (opening_rows L s) ≡ Ok tt
     unfolding opening_rows header_rows first
     opening_pass h least reached =
         rw (known, le-ltb (length s) 48 long, setting_kept least reached, layout_kept) (rw (header_read, le-ltb L needed h))
 
-    opening_broken : needed ≤ L → (needed < need t) ⊎ (level < needed) → first (opening_rows L s) ≡ Stop 8 0
+    opening_broken : needed ≤ L → (needed < need t) ⊎ (level < needed) → first (opening_rows L s) ≡ Err BrokenHeader
     unfolding opening_rows header_rows first
     opening_broken h wrong =
         rw (known, le-ltb (length s) 48 long, setting_broken wrong) (rw (header_read, le-ltb L needed h))
 
-    opening_stop : L < needed → first (opening_rows L s) ≡ Stop 7 needed
+    opening_stop : L < needed → first (opening_rows L s) ≡ Err (NeedsMinor needed)
     unfolding opening_rows header_rows first
     opening_stop h =
         rw (known, le-ltb (length s) 48 long) (rw (header_read, lt-ltb L needed h))
@@ -294,10 +295,10 @@ module _ (level : ℕ) (t : Setting) (vs : List ℕ) (p : Storable level t vs) (
     check_read h =
         either_time (first (check_rows L s))
         (λ least reached. sym (check_content L s (opening_pass h least reached) (header_of s) refl) ∙ content_read)
-        (λ wrong. sym (check_shut L s 8 0 (opening_broken h wrong)))
+        (λ wrong. sym (check_shut L s BrokenHeader (opening_broken h wrong)))
 
-    pub check_stop : L < needed → first (check_rows L s) ≡ Stop 7 needed
-    check_stop h = sym (check_shut L s 7 needed (opening_stop h))
+    pub check_stop : L < needed → first (check_rows L s) ≡ Err (NeedsMinor needed)
+    check_stop h = sym (check_shut L s (NeedsMinor needed) (opening_stop h))
 
     pub unpack_read : (room : ℕ) → length vs ≤ room → needed ≤ L → first (unpack_rows t.width L s room) ≡ told
     unpack_read room l h =
@@ -305,10 +306,10 @@ module _ (level : ℕ) (t : Setting) (vs : List ℕ) (p : Storable level t vs) (
         let count = ap (λ (x : Header). x.count) header_read in
         either_time (first (unpack_rows t.width L s room))
         (λ least reached. sym (unpack_content L s (opening_pass h least reached) (header_of s) refl t.width room width (omega (arith, count))) ∙ content_read)
-        (λ wrong. sym (unpack_shut L s 8 0 (opening_broken h wrong) t.width room))
+        (λ wrong. sym (unpack_shut L s BrokenHeader (opening_broken h wrong) t.width room))
 
-    pub unpack_stop : (W room : ℕ) → L < needed → first (unpack_rows W L s room) ≡ Stop 7 needed
-    unpack_stop W room h = sym (unpack_shut L s 7 needed (opening_stop h) W room)
+    pub unpack_stop : (W room : ℕ) → L < needed → first (unpack_rows W L s room) ≡ Err (NeedsMinor needed)
+    unpack_stop W room h = sym (unpack_shut L s (NeedsMinor needed) (opening_stop h) W room)
 
     pub probe_read : (i : ℕ) → i < length vs → needed ≤ L → first (probe_rows t.width L s i) ≡ told
     probe_read i l h =
@@ -316,7 +317,7 @@ module _ (level : ℕ) (t : Setting) (vs : List ℕ) (p : Storable level t vs) (
         let count = ap (λ (x : Header). x.count) header_read in
         either_time (first (probe_rows t.width L s i))
         (λ least reached. sym (probe_own L s (opening_pass h least reached) (header_of s) refl t.width i width (omega (arith, count))) ∙ own_read i l)
-        (λ wrong. sym (probe_shut L s 8 0 (opening_broken h wrong) t.width i))
+        (λ wrong. sym (probe_shut L s BrokenHeader (opening_broken h wrong) t.width i))
 
-    pub probe_stop : (W i : ℕ) → L < needed → first (probe_rows W L s i) ≡ Stop 7 needed
-    probe_stop W i h = sym (probe_shut L s 7 needed (opening_stop h) W i)
+    pub probe_stop : (W i : ℕ) → L < needed → first (probe_rows W L s i) ≡ Err (NeedsMinor needed)
+    probe_stop W i h = sym (probe_shut L s (NeedsMinor needed) (opening_stop h) W i)

@@ -1,4 +1,5 @@
 -- The rows of the tables and the chunks, from what the checks find.
+use Rattle.std.specs.Prelude.{Ok, Err}
 use mathlib.Core.Path.{◌≡◌, refl, sym, ap, ◌∙◌}
 use mathlib.Core.Bool.{Bool, true, false, ◌&&◌}
 use mathlib.Core.List.{List, [], ◌∷◌}
@@ -6,15 +7,14 @@ use Prim.Native.Nat.{ℕ, zero, suc, ◌+◌, ◌*◌, ◌<◌}
 use native.Mathlib.Omega.{arith}
 use lib.ListN.{get_or, replicate}
 use Rattle.stream.specs.Setting.{group_size, limit_of, patterns_of}
-use Rattle.stream.specs.Chunk.{chunk_answer, chunk_codes}
+use Rattle.stream.specs.Chunk.{Verdict, good, chunk_answer, chunk_codes}
 use Rattle.stream.specs.Header.{setting_in}
 use Rattle.stream.specs.Stream.{count_of, chunk_of, chunk_state, chunk_values}
 use Rattle.stream.specs.Rows.{Row, rows_from, numbers_of, first}
 use Rattle.stream.specs.Tables.{chunk_table_right, side_table_right, ids_in}
 use Rattle.stream.specs.Operations.{side_rows, table_rows, fault_detail, fault_row, chunk_row, chunk_rows}
-use Rattle.stream.specs.declared.answers.Step.TheVariants.{Pass, Stop}
-use Rattle.stream.specs.declared.chunk.ChunkAnswer.{ChunkAnswer}
-use Rattle.stream.specs.declared.chunk.ChunkAnswer.TheVariants.{Good, Bad}
+use Rattle.std.specs.Prelude.{Ok, Err}
+use Rattle.stream.specs.declared.answers.Refusal.TheVariants.{BrokenTable, BrokenChunk}
 use Rattle.stream.specs.declared.header.Header.{Header}
 use Rattle.stream.specs.declared.setting.Setting.{Setting}
 use Rattle.stream.proofs.Law.Plain.Scan.{rows_at}
@@ -26,10 +26,10 @@ module _ (h : Header) (s : List ℕ) (j : ℕ) where
     unfolding chunk_state
     state_is = rw (setting, counts, parts)
 
-    pub found_is : (r a : ChunkAnswer) → r ≡ chunk_answer t.width (limit_of t) (group_size t) n part → r ≡ a → chunk_state h s j ≡ a
+    pub found_is : (r a : Verdict) → r ≡ chunk_answer t.width (limit_of t) (group_size t) n part → r ≡ a → chunk_state h s j ≡ a
     found_is r a e is = sym state_is ∙ sym e ∙ is
 
-    pub good_is : chunk_state h s j ≡ Good → chunk_answer t.width (limit_of t) (group_size t) n part ≡ Good
+    pub good_is : chunk_state h s j ≡ good → chunk_answer t.width (limit_of t) (group_size t) n part ≡ good
     good_is g = state_is ∙ g
 
     pub values_are : patterns_of t (chunk_codes (group_size t) n part) ≡ chunk_values h s j
@@ -39,25 +39,25 @@ module _ (h : Header) (s : List ℕ) (j : ℕ) where
     pub value_is : (v i : ℕ) → v ≡ get_or (patterns_of t (chunk_codes (group_size t) n part)) i 0 → v ≡ get_or (chunk_values h s j) i 0
     value_is v i e = e ∙ ap (λ (vs : List ℕ). get_or vs i 0) values_are
 
-  pub good_row : chunk_state h s j ≡ Good → Pass ≡ first (chunk_row h s j ∷ [])
+  pub good_row : chunk_state h s j ≡ good → Ok tt ≡ first (chunk_row h s j ∷ [])
   unfolding chunk_row fault_row first
   good_row e = rw e
 
-  pub bad_row : (group : ℕ) → chunk_state h s j ≡ Bad group → Stop 10 (j * 32 + group) ≡ first (chunk_row h s j ∷ [])
+  pub bad_row : (group : ℕ) → chunk_state h s j ≡ Err group → Err (BrokenChunk (j * 32 + group)) ≡ first (chunk_row h s j ∷ [])
   unfolding chunk_row fault_row fault_detail first
   bad_row group e = rw e
 
-  row_passed : (a : ChunkAnswer) → first (fault_row j a ∷ []) ≡ Pass → a ≡ Good
+  row_passed : (a : Verdict) → first (fault_row j a ∷ []) ≡ Ok tt → a ≡ good
   unfolding fault_row first
-  row_passed Good e = refl
-  row_passed (Bad group) e = let z : Stop 10 (fault_detail j group) ≡ Pass = e in cc
+  row_passed (Ok kept) e = refl
+  row_passed (Err group) e = let z : Err (BrokenChunk (fault_detail j group)) ≡ Ok tt = e in cc
 
-  pub passed_good : first (chunk_row h s j ∷ []) ≡ Pass → chunk_state h s j ≡ Good
+  pub passed_good : first (chunk_row h s j ∷ []) ≡ Ok tt → chunk_state h s j ≡ good
   unfolding chunk_row
   passed_good e = row_passed (chunk_state h s j) e
 
 -- rows of which none is given: every chunk is good
-pub all_good : (h : Header) (s : List ℕ) → first (chunk_rows h s) ≡ Pass → (j : ℕ) → j < h.chunks → chunk_state h s j ≡ Good
+pub all_good : (h : Header) (s : List ℕ) → first (chunk_rows h s) ≡ Ok tt → (j : ℕ) → j < h.chunks → chunk_state h s j ≡ good
 unfolding chunk_rows
 all_good h s e j l = passed_good h s j (rows_at (chunk_row h s) h.chunks 0 j e (omega arith) (omega arith))
 
@@ -66,9 +66,9 @@ ten : (h : Header) (s : List ℕ) (j : ℕ) (rows : List Row) → numbers_of (ch
 unfolding chunk_row fault_row numbers_of
 ten h s j rows = go (chunk_state h s j)
   where
-    go : (a : ChunkAnswer) → numbers_of (fault_row j a ∷ rows) ≡ 10 ∷ numbers_of rows
-    go Good = refl
-    go (Bad group) = refl
+    go : (a : Verdict) → numbers_of (fault_row j a ∷ rows) ≡ 10 ∷ numbers_of rows
+    go (Ok kept) = refl
+    go (Err group) = refl
 
 tens : (h : Header) (s : List ℕ) (k i : ℕ) → numbers_of (rows_from (chunk_row h s) k i) ≡ replicate k 10
 unfolding numbers_of rows_from
@@ -89,6 +89,6 @@ module _ (h : Header) (s : List ℕ) (a b : Bool) (chunks : a ≡ chunk_table_ri
   unfolding table_rows first
   tables_pass e = rw (← chunks, ← sides, e)
 
-  pub tables_stop : a && b ≡ false → Stop 9 0 ≡ first (table_rows h s)
+  pub tables_stop : a && b ≡ false → Err BrokenTable ≡ first (table_rows h s)
   unfolding table_rows first
   tables_stop e = rw (← chunks, ← sides, e)

@@ -13,7 +13,8 @@ use Rattle.stream.specs.Header.{setting_in}
 use Rattle.stream.specs.Tables.{side_id, ids_from, ids_in, first_high, high_id, some_high}
 use Rattle.stream.specs.Rows.{Row, first, numbers_of}
 use Rattle.stream.specs.Operations.{need_row, id_row, side_rows}
-use Rattle.stream.specs.declared.answers.Step.TheVariants.{Pass, Stop}
+use Rattle.std.specs.Prelude.{Ok, Err}
+use Rattle.stream.specs.declared.answers.Refusal.TheVariants.{BrokenHeader, MustBeUnderstood}
 use Rattle.stream.specs.declared.header.Header.{Header}
 use Rattle.stream.proofs.Law.Plain.Truth.{or_true, or_false}
 use Rattle.stream.proofs.Law.Plain.Scan.{next, all_left, none_left}
@@ -21,26 +22,26 @@ use Rattle.stream.proofs.Law.Rows.First.{passed_both, not_given}
 
 -- ---- 15
 
-pub low_pass : (ids : List ℕ) → some_high ids ≡ false → first (map id_row ids) ≡ Pass
+pub low_pass : (ids : List ℕ) → some_high ids ≡ false → first (map id_row ids) ≡ Ok tt
 unfolding some_high id_row first
 low_pass [] e = refl
 low_pass (id ∷ ids) e = let b = or_false (high_id id) (some_high ids) e in rw b.0 (low_pass ids b.1)
 
-pub pass_low : (ids : List ℕ) → first (map id_row ids) ≡ Pass → some_high ids ≡ false
+pub pass_low : (ids : List ℕ) → first (map id_row ids) ≡ Ok tt → some_high ids ≡ false
 unfolding some_high id_row
 pass_low [] e = refl
 pass_low (id ∷ ids) e =
     let b = passed_both (id_row id) (map id_row ids) e in
-    rw (not_given 15 id (high_id id) b.0) (pass_low ids b.1)
+    rw (not_given (MustBeUnderstood id) (high_id id) b.0) (pass_low ids b.1)
 
 -- the first of them that is high
-pub high_stop : (ids : List ℕ) → some_high ids ≡ true → first (map id_row ids) ≡ Stop 15 (first_high ids)
+pub high_stop : (ids : List ℕ) → some_high ids ≡ true → first (map id_row ids) ≡ Err (MustBeUnderstood (first_high ids))
 unfolding some_high first_high id_row first
 high_stop [] e = let z : false ≡ true = e in cc
 high_stop (id ∷ ids) e = go (high_id id) refl (λ later. high_stop ids later)
   where
-    go : (b : Bool) → high_id id ≡ b → (some_high ids ≡ true → first (map id_row ids) ≡ Stop 15 (first_high ids))
-        → cond (high_id id) (Stop 15 id) (first (map id_row ids)) ≡ Stop 15 (cond (high_id id) id (first_high ids))
+    go : (b : Bool) → high_id id ≡ b → (some_high ids ≡ true → first (map id_row ids) ≡ Err (MustBeUnderstood (first_high ids)))
+        → cond (high_id id) (Err (MustBeUnderstood id)) (first (map id_row ids)) ≡ Err (MustBeUnderstood (cond (high_id id) id (first_high ids)))
     go true is rest = rw is
     go false is rest = rw is (rest (rw is at e))
 
@@ -81,32 +82,34 @@ module _ (h : Header) (s : List ℕ) where
   unfolding ids_in high_id
   high_entry i l high = high_from h.sides 0 i l (subst (λ (n : ℕ). high_id (side_id h s n) ≡ true) (sym (zero-add i)) (le-leb (2 ^ 31) (side_id h s i) high))
 
-  -- ---- the loop: the id that was looked at last, and then the others
+  -- ---- the loop over the entries: what it has still to find
 
-  -- at first, where 0 stands for it
-  pub ids_start : first_high (ids_in h s) ≡ first_high (0 ∷ ids_from h s (h.sides - 0) 0)
-  unfolding ids_in first_high high_id
+  pub ids_start : first_high (ids_in h s) ≡ first_high (ids_from h s (h.sides - 0) 0)
+  unfolding ids_in
   ids_start = ap first_high (all_left (ids_from h s) h.sides)
 
-  module _ (i id : ℕ) where
-    abbrev rest : List ℕ
-    rest = ids_from h s (h.sides - i) i
+  module _ (i : ℕ) where
+    abbrev id : ℕ
+    id = side_id h s i
 
-    low_first : id < 2 ^ 31 → first_high (id ∷ rest) ≡ first_high rest
-    unfolding first_high high_id
-    low_first low = rw (lt-leb (2 ^ 31) id low)
+    abbrev later : List ℕ
+    later = ids_from h s (h.sides - (i + 1)) (i + 1)
 
-    pub ids_on : i < h.sides → id < 2 ^ 31 → first_high (id ∷ rest) ≡ first_high (side_id h s i ∷ ids_from h s (h.sides - (i + 1)) (i + 1))
+    an_entry : i < h.sides → first_high (ids_from h s (h.sides - i) i) ≡ first_high (id ∷ later)
     unfolding ids_from
-    ids_on l low = low_first low ∙ ap first_high (next (ids_from h s) (λ i ids. side_id h s i ∷ ids) (λ k i. refl) h.sides i l)
+    an_entry l = ap first_high (next (ids_from h s) (λ i ids. side_id h s i ∷ ids) (λ k i. refl) h.sides i l)
 
-    pub ids_done : h.sides ≤ i → id < 2 ^ 31 → first_high (id ∷ rest) ≡ 0
-    unfolding ids_from first_high
-    ids_done l low = low_first low ∙ ap first_high (none_left (ids_from h s) h.sides i l)
-
-    pub ids_stop : 2 ^ 31 ≤ id → first_high (id ∷ rest) ≡ id
+    pub ids_on : i < h.sides → id < 2 ^ 31 → first_high (ids_from h s (h.sides - i) i) ≡ first_high later
     unfolding first_high high_id
-    ids_stop high = rw (le-leb (2 ^ 31) id high)
+    ids_on l low = an_entry l ∙ ap (λ (b : Bool). cond b id (first_high later)) (lt-leb (2 ^ 31) id low)
+
+    pub ids_stop : i < h.sides → 2 ^ 31 ≤ id → first_high (ids_from h s (h.sides - i) i) ≡ id
+    unfolding first_high high_id
+    ids_stop l high = an_entry l ∙ ap (λ (b : Bool). cond b id (first_high later)) (le-leb (2 ^ 31) id high)
+
+    pub ids_done : h.sides ≤ i → first_high (ids_from h s (h.sides - i) i) ≡ 0
+    unfolding ids_from first_high
+    ids_done l = ap first_high (none_left (ids_from h s) h.sides i l)
 
 -- ---- 8, and then 15
 
@@ -115,7 +118,7 @@ module _ (h : Header) (ids : List ℕ) where
   unfolding side_rows need_row first
   need_kept e = rw (eq-eqb h.needed (stream_need (setting_in h) (some_high ids)) e)
 
-  pub need_broken : (h.needed ≡ stream_need (setting_in h) (some_high ids) → ⊥) → first (side_rows h ids) ≡ Stop 8 0
+  pub need_broken : (h.needed ≡ stream_need (setting_in h) (some_high ids) → ⊥) → first (side_rows h ids) ≡ Err BrokenHeader
   unfolding side_rows need_row first
   need_broken n = rw (ne_eqb h.needed (stream_need (setting_in h) (some_high ids)) n)
 
@@ -128,11 +131,11 @@ module _ (h : Header) (ids : List ℕ) where
     asked : n ≡ stream_need (setting_in h) (some_high ids)
     asked = need-is ∙ ap (stream_need (setting_in h)) high_is
 
-    pub side_need : (h.needed ≡ n → ⊥) → Stop 8 0 ≡ first (side_rows h ids)
+    pub side_need : (h.needed ≡ n → ⊥) → Err BrokenHeader ≡ first (side_rows h ids)
     side_need other = sym (need_broken (λ e. other (e ∙ sym asked)))
 
-    pub side_high : h.needed ≡ n → leb (2 ^ 31) id ≡ true → Stop 15 id ≡ first (side_rows h ids)
-    side_high e high = sym (need_kept (e ∙ asked) ∙ high_stop ids (sym high_is ∙ high) ∙ ap (Stop 15) (sym is))
+    pub side_high : h.needed ≡ n → leb (2 ^ 31) id ≡ true → Err (MustBeUnderstood id) ≡ first (side_rows h ids)
+    side_high e high = sym (need_kept (e ∙ asked) ∙ high_stop ids (sym high_is ∙ high) ∙ ap (λ (i : ℕ). Err (MustBeUnderstood i)) (sym is))
 
-    pub side_low : h.needed ≡ n → leb (2 ^ 31) id ≡ false → Pass ≡ first (side_rows h ids)
+    pub side_low : h.needed ≡ n → leb (2 ^ 31) id ≡ false → Ok tt ≡ first (side_rows h ids)
     side_low e low = sym (need_kept (e ∙ asked) ∙ low_pass ids (sym high_is ∙ low))

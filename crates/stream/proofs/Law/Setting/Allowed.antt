@@ -1,5 +1,5 @@
 -- What is known of a setting: its need by cases, its group size, and its bin where it is allowed.
-use mathlib.Core.Path.{◌≡◌, refl, sym, subst, ◌∙◌}
+use mathlib.Core.Path.{◌≡◌, refl, sym, subst}
 use mathlib.Core.Logic.{◌⊎◌, inl, inr, ⊎_elim}
 use mathlib.Core.Bool.{Bool, true, false, ◌&&◌, cond}
 use Prim.Native.Nat.{ℕ, suc, ◌+◌, ◌-◌, ◌*◌, ◌/◌, ◌^◌, ◌≤◌, ◌<◌, zero-le, max}
@@ -13,11 +13,11 @@ use lib.ListN.{length}
 use Rattle.blocks.specs.Bytes.{Below}
 use mir.Syntax.{w32}
 use mir.Val.{SFits, of_z}
-use Rattle.bins.specs.declared.bin.BinAnswer.TheVariants as bin
-use Rattle.bins.specs.Tolerance.{allowed_k, last_bin}
+use Rattle.std.specs.Prelude.{Some, None, is_some, unwrap_or}
+use Rattle.bins.specs.Tolerance.{allowed_k, last_bin, bin_of}
 use Rattle.numbers.specs.Theorem.{Format}
 use Rattle.bins.specs.Answers.{bin_answer}
-use Rattle.numbers.proofs.Theorems.{format_32, format_64, a_bin_is_that_of_k, no_bin_means_not_allowed, an_allowed_k_has_a_bin}
+use Rattle.numbers.proofs.Theorems.{format_32, format_64, an_allowed_k_has_a_bin}
 use Rattle.stream.specs.Setting.{highest_level, known_level, known_width, known_size, fraction_bits, lossless_mode, is_zero, allowed_mode, allowed_setting}
 use Rattle.stream.specs.Setting.{bin_for, setting_of, ruled, width_need, mode_need, size_need, need, stream_need, group_size, clipped, pattern_at, patterns_after, limit_of}
 use Rattle.stream.specs.Chunk.{groups_in}
@@ -160,21 +160,23 @@ unfolding is_zero
 zero_test (pos n) f = refl
 zero_test (negsuc n) f = let h : n < 2 ^ 31 = f.sfits in ne_eqb (2 ^ 32 - suc n) 0 (λ e. omega arith)
 
--- an allowed setting of mode 1: its k has a bin
-module _ (W mode : ℕ) (k : ℤ) (allowed : allowed_mode W mode k ≡ true) (lossy : mode ≡ 1) where
-  k_allowed : allowed_k W (fraction_bits W) k ≡ true
-  unfolding allowed_mode
-  k_allowed = rw (eq-eqb mode 1 lossy) at allowed
+-- whether a k is allowed, by its bin
+pub bin_some : (W m : ℕ) (k : ℤ) → is_some (bin_answer W m k) ≡ allowed_k W m k
+unfolding bin_answer
+bin_some W m k = go (allowed_k W m k)
+  where
+    go : (b : Bool) → is_some (cond b (Some (bin_of W m k)) None) ≡ b
+    go true = refl
+    go false = refl
 
-  pub setting_bin : (j : ℕ) → bin_answer W (fraction_bits W) k ≡ bin.Bin j → j ≡ bin_for W mode k
-  unfolding bin_for
-  setting_bin j is = rw (eq-eqb mode 1 lossy) (sym (a_bin_is_that_of_k W (fraction_bits W) k j is).1)
+-- the k of an allowed setting of mode 1, and its bin
+k_allowed : (W mode : ℕ) (k : ℤ) → allowed_mode W mode k ≡ true → mode ≡ 1 → allowed_k W (fraction_bits W) k ≡ true
+unfolding allowed_mode
+k_allowed W mode k allowed lossy = rw (eq-eqb mode 1 lossy) at allowed
 
-  pub setting_has_bin : bin_answer W (fraction_bits W) k ≡ bin.NotAllowed → ⊥
-  setting_has_bin is =
-      let f : true ≡ false = sym k_allowed ∙ no_bin_means_not_allowed W (fraction_bits W) k is in
-      let z : ◌≡◌ {A = ℕ} 0 1 = cc in
-      omega arith
+pub setting_bin : (W mode : ℕ) (k : ℤ) → allowed_mode W mode k ≡ true → mode ≡ 1 → unwrap_or (bin_answer W (fraction_bits W) k) 0 ≡ bin_for W mode k
+unfolding bin_for bin_answer
+setting_bin W mode k allowed lossy = rw (eq-eqb mode 1 lossy, k_allowed W mode k allowed lossy) refl
 
 -- ---- the modes
 

@@ -1,35 +1,53 @@
 -- Codes and patterns of a setting, behind the pattern before: a list of them is as long as its source, its parts follow each other by their carry,
 -- they stay below 2 ^ W, and where each is coded by itself zeros are zeros. Modes 0 and 1 are maps, mode 2 cites the laws of `numbers`.
-use mathlib.Core.Path.{◌≡◌, refl, sym, ap, ap₂, ◌∙◌}
+use mathlib.Core.Path.{◌≡◌, refl, sym, ap₂, ◌∙◌}
+use mathlib.Core.Logic.{◌⊎◌, inl, inr}
 use mathlib.Core.Bool.{Bool, true, false, cond}
 use mathlib.Core.List.{List, ◌∷◌, ◌++◌, map, map-append}
-use Prim.Native.Nat.{ℕ, zero, suc, ◌^◌, ◌≤◌, ◌<◌}
+use Prim.Native.Nat.{ℕ, zero, suc, min, ◌^◌, ◌≤◌, ◌<◌}
 use native.Mathlib.Nat.{min-le_right}
 use native.Mathlib.Omega.{arith}
 use borrow.Author.Tests.{eq-eqb, ne_eqb}
 use lib.Dec.{eqb}
 use lib.Pow.{pow_pos}
-use lib.ListN.{length, take, drop, replicate, length-map}
-use lib.Seq.{length-take-le}
+use lib.ListN.{length, replicate, length-map}
 use Rattle.numbers.specs.Difference.{difference_codes, running_sums, last_of}
 use Rattle.numbers.specs.Theorem.{Format}
-use Rattle.bins.specs.Tolerance.{last_bin}
+use Rattle.numbers.specs.Lossless.{lossless_code, lossless_restored}
+use Rattle.bins.specs.Tolerance.{last_bin, tolerance_code, tolerance_restored}
 use Rattle.numbers.proofs.Theorems.{lossless_code_has_W_bits, lossless_pattern_has_W_bits, tolerance_code_has_W_bits, tolerance_pattern_has_W_bits, lossless_zero, tolerance_zero, difference_codes_have_W_bits, running_sums_have_W_bits, sums_of_an_append, as_many_differences, as_many_sums}
 use Rattle.blocks.specs.Bytes.{Below}
 use Rattle.stream.specs.Setting.{fraction_bits, clipped, code_at, pattern_at, codes_after, patterns_after}
 use Rattle.stream.specs.declared.setting.Setting.{Setting}
-use Rattle.stream.proofs.Law.Plain.Mapped.{length_put, map_below}
+use Rattle.stream.proofs.Law.Plain.Mapped.{map_below}
 
--- ---- modes 0 and 1: what is filled from the front keeps its length
+-- ---- the rules of the modes 0 and 1, at a width and its fraction bits
 
-pub length_filled : (t : Setting) (n : ℕ) (codes base out : List ℕ) (i : ℕ) → n ≤ length codes → n ≤ length base → i ≤ n
-    → out ≡ map (pattern_at t) (take i (take n codes)) ++ drop i base → length out ≡ length base
-length_filled t n codes base out i h l k e =
-    ap length e ∙ length_put (pattern_at t) (take n codes) base i (rw (length-take-le n codes h) k) (omega arith)
+pub fraction_is : (W m : ℕ) → ((W ≡ 32) × (m ≡ 23)) ⊎ ((W ≡ 64) × (m ≡ 52)) → fraction_bits W ≡ m
+unfolding fraction_bits
+fraction_is W m (inl (e, f)) = rw (e, f) refl
+fraction_is W m (inr (e, f)) = rw (e, f) refl
 
-pub length_coded : (t : Setting) (values base out : List ℕ) (i : ℕ) → length values ≤ length base → i ≤ length values
-    → out ≡ map (code_at t) (take i values) ++ drop i base → length out ≡ length base
-length_coded t values base out i h k e = ap length e ∙ length_put (code_at t) values base i k (omega arith)
+pub width_most : (W m : ℕ) → ((W ≡ 32) × (m ≡ 23)) ⊎ ((W ≡ 64) × (m ≡ 52)) → W ≤ 64
+width_most W m (inl (e, f)) = omega arith
+width_most W m (inr (e, f)) = omega arith
+
+module _ (t : Setting) (W m : ℕ) (e : t.width ≡ W) (f : fraction_bits W ≡ m) where
+  pub lossless_code_is : (p : ℕ) → t.mode ≡ 0 → code_at t p ≡ lossless_code W m p
+  unfolding code_at
+  lossless_code_is p z = rw (eq-eqb t.mode 0 z, e, f) refl
+
+  pub tolerance_code_is : (p : ℕ) → (t.mode ≡ 0 → ⊥) → code_at t p ≡ tolerance_code W m t.halves (min t.bin (last_bin W m)) p
+  unfolding code_at clipped
+  tolerance_code_is p n = rw (ne_eqb t.mode 0 n, e, f) refl
+
+  pub lossless_pattern_is : (c : ℕ) → t.mode ≡ 0 → pattern_at t c ≡ lossless_restored W m c
+  unfolding pattern_at
+  lossless_pattern_is c z = rw (eq-eqb t.mode 0 z, e, f) refl
+
+  pub tolerance_pattern_is : (c : ℕ) → (t.mode ≡ 0 → ⊥) → pattern_at t c ≡ tolerance_restored W m (min t.bin (last_bin W m)) c
+  unfolding pattern_at clipped
+  tolerance_pattern_is c n = rw (ne_eqb t.mode 0 n, e, f) refl
 
 -- ---- the modes
 

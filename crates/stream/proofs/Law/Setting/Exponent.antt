@@ -1,8 +1,8 @@
 -- The header's numbers for k and for the mode have 32 bits, and give the setting back.
-use mathlib.Core.Path.{◌≡◌, refl, sym, ap}
+use mathlib.Core.Path.{◌≡◌, refl, sym, ap, ◌∙◌}
 use mathlib.Core.Logic.{◌⊎◌, inl, inr}
 use mathlib.Core.Bool.{Bool, true, false, cond}
-use Prim.Native.Nat.{ℕ, suc, ◌+◌, ◌-◌, ◌^◌, ◌≤◌, ◌<◌}
+use Prim.Native.Nat.{ℕ, suc, ◌+◌, ◌-◌, ◌%◌, ◌^◌, ◌≤◌, ◌<◌}
 use native.Mathlib.Omega.{arith}
 use borrow.Author.Tests.{eq-eqb, ne_eqb, lt-ltb, le-ltb}
 use lib.Dec.{eqb, lit<}
@@ -38,6 +38,14 @@ module _ (a b : ℕ) (small-a : a < 2 ^ 31) (small_b : b < 2 ^ 31) where
   pub above_bits : b ≤ a → a - b ≡ bits_of 32 (sub_ℕ a b)
   unfolding bits_of
   above_bits h = rw (le-ltb a b h)
+
+  -- as the library subtracts in words of 32 bits
+  pub wrapped_bits : (a + (2 ^ 32 - b)) % 2 ^ 32 ≡ bits_of 32 (sub_ℕ a b)
+  wrapped_bits = go (le_or_lt b a)
+    where
+      go : (b ≤ a) ⊎ (a < b) → (a + (2 ^ 32 - b)) % 2 ^ 32 ≡ bits_of 32 (sub_ℕ a b)
+      go (inl h) = (let e : (a + (2 ^ 32 - b)) % 2 ^ 32 ≡ a - b = omega arith in e) ∙ above_bits h
+      go (inr h) = (let e : (a + (2 ^ 32 - b)) % 2 ^ 32 ≡ 2 ^ 32 - 1 - (b - a - 1) = omega arith in e) ∙ below_bits h
 
   difference_bits : bits_of 32 (sub_ℕ a b) < 2 ^ 32
   difference_bits = go (le_or_lt b a)

@@ -1,12 +1,11 @@
 -- A known width is a format of the number rules, and a whole number of bytes. What a setting needs is a known level.
 use mathlib.Core.Path.{◌≡◌, refl, sym, subst}
 use mathlib.Core.Logic.{⊎_elim}
-use mathlib.Core.Bool.{Bool, true, false, ◌&&◌, cond}
+use mathlib.Core.Bool.{Bool, true, false, cond}
 use Prim.Native.Nat.{ℕ, ◌*◌, ◌≤◌, max}
-use borrow.Author.Tests.{ltb-true, ltb-false}
 use native.Mathlib.Nat.{max-le}
 use native.Mathlib.Omega.{arith}
-use lib.Dec.{ltb, eqb, lit≤}
+use lib.Dec.{eqb, lit≤}
 use Rattle.numbers.specs.Theorem.{Format}
 use Rattle.numbers.proofs.Theorems.{format_32, format_64}
 use Rattle.stream.specs.Setting.{known_width, fraction_bits, width_need, mode_need, size_need, need, stream_need}
@@ -64,14 +63,3 @@ need_most t false = omega arith
 pub low_need : (t : Setting) → stream_need t false ≡ need t
 unfolding stream_need
 low_need t = refl
-
--- from a test of the setting's need against 12
-pub raised_need : (t : Setting) (high : Bool) (n : ℕ) → n ≡ need t → high && ltb n 12 ≡ true → 12 ≡ stream_need t high
-unfolding stream_need
-raised_need t true n is e = omega (arith, ltb-true n 12 e)
-raised_need t false n is e = let z : false ≡ true = e in absurd (let x : ◌≡◌ {A = ℕ} 0 1 = cc in omega (arith, x))
-
-pub kept_need : (t : Setting) (high : Bool) (n : ℕ) → n ≡ need t → high && ltb n 12 ≡ false → n ≡ stream_need t high
-unfolding stream_need
-kept_need t true n is e = omega (arith, ltb-false n 12 e)
-kept_need t false n is e = is

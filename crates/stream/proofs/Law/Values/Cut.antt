@@ -16,9 +16,10 @@ use Rattle.stream.specs.Setting.{known_level}
 use Rattle.stream.specs.Rows.{first, answer}
 use Rattle.stream.specs.Operations.{header_rows, opening_rows, table_rows, chunk_row, chunk_rows, content_rows, own_rows, check_rows, unpack_rows, probe_rows}
 use Rattle.stream.specs.Relied.{Layout}
-use Rattle.stream.specs.Theorem.{cut_number, cut_answer}
-use Rattle.stream.specs.declared.answers.Step.{Step}
-use Rattle.stream.specs.declared.answers.Step.TheVariants.{Pass, Stop}
+use Rattle.stream.specs.Theorem.{cut_refusal, cut_answer}
+use Rattle.std.specs.Prelude.{⊤, Result, Ok, Err}
+use Rattle.stream.specs.declared.answers.Refusal.{Refusal}
+use Rattle.stream.specs.declared.answers.Refusal.TheVariants.{UnknownLevel, NoHeader, NeedsMinor, BrokenHeader, BrokenTable}
 use Rattle.stream.specs.declared.header.Header.{Header}
 use Rattle.blocks.proofs.Law.Truth.{le_or_lt}
 use Rattle.stream.proofs.Law.Plain.Truth.{and_left, and_right, and_false}
@@ -31,16 +32,16 @@ use Rattle.stream.proofs.Law.Rows.Given.{check_shut, unpack_shut, probe_shut, ch
 use Rattle.stream.proofs.Law.Rows.Passed.{Opening, Tables, opening_passes}
 
 -- the three places where a cut can be
-cases : (c : ℕ) (h : Header) (x : Step) → (c < 48 → x ≡ Stop 5 0) → (48 ≤ c → c < h.end → x ≡ Stop 8 0) → (48 ≤ c → h.end ≤ c → x ≡ Stop 9 0)
-    → x ≡ Stop (cut_number h c) 0
-unfolding cut_number
+cases : (c : ℕ) (h : Header) (x : Result ⊤ Refusal) → (c < 48 → x ≡ Err NoHeader) → (48 ≤ c → c < h.end → x ≡ Err BrokenHeader) → (48 ≤ c → h.end ≤ c → x ≡ Err BrokenTable)
+    → x ≡ Err (cut_refusal h c)
+unfolding cut_refusal
 cases c h x in-header in-data behind = go (le_or_lt 48 c)
   where
-    further : 48 ≤ c → (h.end ≤ c) ⊎ (c < h.end) → x ≡ Stop (cond (ltb c h.end) 8 9) 0
+    further : 48 ≤ c → (h.end ≤ c) ⊎ (c < h.end) → x ≡ Err (cond (ltb c h.end) BrokenHeader BrokenTable)
     further l (inl m) = rw (le-ltb c h.end m) (behind l m)
     further l (inr m) = rw (lt-ltb c h.end m) (in-data l m)
 
-    go : (48 ≤ c) ⊎ (c < 48) → x ≡ Stop (cond (ltb c 48) 5 (cond (ltb c h.end) 8 9)) 0
+    go : (48 ≤ c) ⊎ (c < 48) → x ≡ Err (cond (ltb c 48) NoHeader (cond (ltb c h.end) BrokenHeader BrokenTable))
     go (inl l) = rw (le-ltb c 48 l) (further l (le_or_lt h.end c))
     go (inr l) = rw (lt-ltb c 48 l) (in-header l)
 
@@ -77,16 +78,16 @@ module _ (h : Header) (s t : List ℕ) (n : ℕ) (same : take n t ≡ take n s) 
       go (inr l) = sym (side_short h t l)
 
 -- the tables' row, where the side table is not right
-tables_wrong : (h : Header) (t : List ℕ) → side_table_right h t ≡ false → first (table_rows h t) ≡ Stop 9 0
+tables_wrong : (h : Header) (t : List ℕ) → side_table_right h t ≡ false → first (table_rows h t) ≡ Err BrokenTable
 tables_wrong h t wrong = sym (tables_stop h t (chunk_table_right h t) false refl (sym wrong) (and_false (chunk_table_right h t)))
 
-content_wrong : (h : Header) (t : List ℕ) → side_table_right h t ≡ false → first (content_rows h t) ≡ Stop 9 0
+content_wrong : (h : Header) (t : List ℕ) → side_table_right h t ≡ false → first (content_rows h t) ≡ Err BrokenTable
 unfolding content_rows
-content_wrong h t wrong = shut 9 0 (table_rows h t) (chunk_rows h t) (tables_wrong h t wrong)
+content_wrong h t wrong = shut BrokenTable (table_rows h t) (chunk_rows h t) (tables_wrong h t wrong)
 
-own_wrong : (h : Header) (t : List ℕ) (i : ℕ) → side_table_right h t ≡ false → first (own_rows h t i) ≡ Stop 9 0
+own_wrong : (h : Header) (t : List ℕ) (i : ℕ) → side_table_right h t ≡ false → first (own_rows h t i) ≡ Err BrokenTable
 unfolding own_rows
-own_wrong h t i wrong = shut 9 0 (table_rows h t) (chunk_row h t (i / 1024) ∷ []) (tables_wrong h t wrong)
+own_wrong h t i wrong = shut BrokenTable (table_rows h t) (chunk_row h t (i / 1024) ∷ []) (tables_wrong h t wrong)
 
 -- ---- a stream that is cut
 
@@ -108,7 +109,7 @@ module _ (s : List ℕ) (c : ℕ) (cut : c < length s) where
       go (inr l) = sym (side_short h left (omega (arith, left_length)))
 
   module _ (level : ℕ) (o : Opening level s) where
-    short_cut : c < 48 → first (opening_rows level left) ≡ Stop 5 0
+    short_cut : c < 48 → first (opening_rows level left) ≡ Err NoHeader
     unfolding opening_rows first
     short_cut l = rw (o.known, left_length, lt-ltb c 48 l)
 
@@ -116,13 +117,13 @@ module _ (s : List ℕ) (c : ℕ) (cut : c < length s) where
       header_kept : header_of s ≡ header_of left
       header_kept = sym (header_front left s c same_front long)
 
-      data_cut : c < (header_of s).end → first (opening_rows level left) ≡ Stop 8 0
+      data_cut : c < (header_of s).end → first (opening_rows level left) ≡ Err BrokenHeader
       unfolding opening_rows header_rows first
       data_cut l =
           rw (o.known, left_length, le-ltb c 48 long, ← header_kept, eq-eqb (header_of s).major 1 o.major, le-ltb level (header_of s).needed o.needed, o.setting)
           (rw (layout_in (header_of s) (length s) c o.layout, lt-leb (header_of s).end c l))
 
-      data_left : (header_of s).end ≤ c → first (opening_rows level left) ≡ Pass
+      data_left : (header_of s).end ≤ c → first (opening_rows level left) ≡ Ok tt
       unfolding opening_rows header_rows first
       data_left l =
           rw (o.known, left_length, le-ltb c 48 long, ← header_kept, eq-eqb (header_of s).major 1 o.major, le-ltb level (header_of s).needed o.needed, o.setting)
@@ -140,45 +141,45 @@ module _ (s : List ℕ) (c : ℕ) (cut : c < length s) where
   -- ---- the rows of each reader. In all of them the tables come behind the opening, and behind rows that look at the header alone.
 
   module _ (level : ℕ) (o : Opening level s) (t : Tables (header_of s) s) where
-    pub check_cut : first (check_rows level left) ≡ Stop (cut_number (header_of s) c) 0
+    pub check_cut : first (check_rows level left) ≡ Err (cut_refusal (header_of s) c)
     check_cut =
         cases c (header_of s) (first (check_rows level left))
-        (λ l. sym (check_shut level left 5 0 (short_cut level o l)))
-        (λ l m. sym (check_shut level left 8 0 (data_cut level o l m)))
+        (λ l. sym (check_shut level left NoHeader (short_cut level o l)))
+        (λ l m. sym (check_shut level left BrokenHeader (data_cut level o l m)))
         (λ l m. sym (check_content level left (data_left level o l m) (header_of s) (header_kept level o l)) ∙ content_wrong (header_of s) left (side_table_cut (header_of s) t.sides))
 
     module _ (W : ℕ) (width : (header_of s).width ≡ W) where
-      pub unpack_cut : (room : ℕ) → (header_of s).count ≤ room → first (unpack_rows W level left room) ≡ Stop (cut_number (header_of s) c) 0
+      pub unpack_cut : (room : ℕ) → (header_of s).count ≤ room → first (unpack_rows W level left room) ≡ Err (cut_refusal (header_of s) c)
       unpack_cut room enough =
           cases c (header_of s) (first (unpack_rows W level left room))
-          (λ l. sym (unpack_shut level left 5 0 (short_cut level o l) W room))
-          (λ l m. sym (unpack_shut level left 8 0 (data_cut level o l m) W room))
+          (λ l. sym (unpack_shut level left NoHeader (short_cut level o l) W room))
+          (λ l m. sym (unpack_shut level left BrokenHeader (data_cut level o l m) W room))
           (λ l m. sym (unpack_content level left (data_left level o l m) (header_of s) (header_kept level o l) W room width enough) ∙ content_wrong (header_of s) left (side_table_cut (header_of s) t.sides))
 
-      pub probe_cut : (i : ℕ) → i < (header_of s).count → first (probe_rows W level left i) ≡ Stop (cut_number (header_of s) c) 0
+      pub probe_cut : (i : ℕ) → i < (header_of s).count → first (probe_rows W level left i) ≡ Err (cut_refusal (header_of s) c)
       probe_cut i below =
           cases c (header_of s) (first (probe_rows W level left i))
-          (λ l. sym (probe_shut level left 5 0 (short_cut level o l) W i))
-          (λ l m. sym (probe_shut level left 8 0 (data_cut level o l m) W i))
+          (λ l. sym (probe_shut level left NoHeader (short_cut level o l) W i))
+          (λ l m. sym (probe_shut level left BrokenHeader (data_cut level o l m) W i))
           (λ l m. sym (probe_own level left (data_left level o l m) (header_of s) (header_kept level o l) W i width below) ∙ own_wrong (header_of s) left i (side_table_cut (header_of s) t.sides))
 
   -- ---- the same at another level, which may not know itself, or not reach the need
 
-  unknown_cut : (level : ℕ) → known_level level ≡ false → first (check_rows level left) ≡ Stop 1 0
+  unknown_cut : (level : ℕ) → known_level level ≡ false → first (check_rows level left) ≡ Err UnknownLevel
   unfolding check_rows opening_rows first
   unknown_cut level e = rw e
 
   module _ (level level' : ℕ) (o : Opening level s) (t : Tables (header_of s) s) (known : known_level level' ≡ true) where
-    short_at : c < 48 → first (check_rows level' left) ≡ Stop 5 0
+    short_at : c < 48 → first (check_rows level' left) ≡ Err NoHeader
     unfolding check_rows opening_rows first
     short_at l = rw (known, left_length, lt-ltb c 48 l)
 
-    too_new_at : 48 ≤ c → level' < (header_of s).needed → first (check_rows level' left) ≡ Stop 7 (header_of s).needed
+    too_new_at : 48 ≤ c → level' < (header_of s).needed → first (check_rows level' left) ≡ Err (NeedsMinor (header_of s).needed)
     unfolding check_rows opening_rows header_rows first
     too_new_at l m =
         rw (known, left_length, le-ltb c 48 l, ← header_kept level o l, eq-eqb (header_of s).major 1 o.major, lt-ltb level' (header_of s).needed m)
 
-    reached_at : (header_of s).needed ≤ level' → first (check_rows level' left) ≡ Stop (cut_number (header_of s) c) 0
+    reached_at : (header_of s).needed ≤ level' → first (check_rows level' left) ≡ Err (cut_refusal (header_of s) c)
     reached_at l =
         check_cut level'
         record { known = known; long = o.long; major = o.major; needed = l; setting = o.setting; layout = o.layout }
@@ -221,7 +222,7 @@ module _ (s more : List ℕ) (some : more ≡ [] → ⊥) (level : ℕ) (o : Ope
   side_table_added : side_table_right (header_of s) longer ≡ false
   side_table_added = other_length (header_of s) s longer (length s) front_kept (table_within (header_of s) s t.sides) t.sides (λ e. some (nothing more (omega (arith, e, added_length))))
 
-  added_opening : first (opening_rows level longer) ≡ Pass
+  added_opening : first (opening_rows level longer) ≡ Ok tt
   added_opening =
       opening_passes level longer
       record {
@@ -233,13 +234,13 @@ module _ (s more : List ℕ) (some : more ≡ [] → ⊥) (level : ℕ) (o : Ope
         layout = rw (← added_header) (layout_in (header_of s) (length s) (length longer) o.layout ∙ le-leb (header_of s).end (length longer) (omega (arith, laid.within, added_length)));
       }
 
-  pub check_added : first (check_rows level longer) ≡ Stop 9 0
+  pub check_added : first (check_rows level longer) ≡ Err BrokenTable
   check_added = sym (check_content level longer added_opening (header_of s) added_header) ∙ content_wrong (header_of s) longer side_table_added
 
   module _ (W : ℕ) (width : (header_of s).width ≡ W) where
-    pub unpack_added : (room : ℕ) → (header_of s).count ≤ room → first (unpack_rows W level longer room) ≡ Stop 9 0
+    pub unpack_added : (room : ℕ) → (header_of s).count ≤ room → first (unpack_rows W level longer room) ≡ Err BrokenTable
     unpack_added room enough =
         sym (unpack_content level longer added_opening (header_of s) added_header W room width enough) ∙ content_wrong (header_of s) longer side_table_added
 
-    pub probe_added : (i : ℕ) → i < (header_of s).count → first (probe_rows W level longer i) ≡ Stop 9 0
+    pub probe_added : (i : ℕ) → i < (header_of s).count → first (probe_rows W level longer i) ≡ Err BrokenTable
     probe_added i below = sym (probe_own level longer added_opening (header_of s) added_header W i width below) ∙ own_wrong (header_of s) longer i side_table_added

@@ -6,71 +6,19 @@ use Prim.Native.Nat.{ℕ, ◌/◌, ◌≤◌, ◌<◌}
 use native.Mathlib.Nat.{le_trans}
 use native.Mathlib.Omega.{arith}
 use borrow.Author.Tests.{le-ltb, eq-eqb}
-use lib.Ieee.{Float, nan, inf, fin, binary32, binary64, of_bits}
 use lib.ListN.{length, get_or}
 use Rattle.stream.specs.Setting.{known_level}
 use Rattle.stream.specs.Header.{header_of}
 use Rattle.stream.specs.Stream.{values, value_at}
-use Rattle.stream.specs.Rows.{Row, first, answer}
-use Rattle.stream.specs.Probe.{told32, told64, shown32, shown64, probed32, probed64}
+use Rattle.stream.specs.Rows.{Row, first}
 use Rattle.stream.specs.Operations.{opening_rows, table_rows, chunk_row, content_rows, width_row, room_row, index_row, own_rows, check_rows, unpack_rows, probe_rows}
-use Rattle.stream.specs.declared.answers.Answer.TheVariants.{Done, Refused}
-use Rattle.stream.specs.declared.answers.Probe32.TheVariants as p32
-use Rattle.stream.specs.declared.answers.Probe64.TheVariants as p64
-use Rattle.stream.specs.declared.answers.Step.{Step}
-use Rattle.stream.specs.declared.answers.Step.TheVariants.{Pass, Stop}
+use Rattle.std.specs.Prelude.{Ok}
 use Rattle.stream.proofs.Law.Rows.First.{and_then, first_append, opened, opened_both}
 use Rattle.stream.proofs.Law.Rows.Chunks.{all_good, good_row}
 use Rattle.stream.proofs.Law.Header.Layout.{laid_out}
 use Rattle.stream.proofs.Law.Rows.Passed.{Opening, Unpacking, opening, opening_passes, tables_passed, unpacking}
 use Rattle.stream.proofs.Law.Rows.Given.{probe_own}
 use Rattle.stream.proofs.Law.Values.Counts.{length_values, value_of}
-
--- ---- an answer tells its step
-
-pub done_pass : (a : Step) (m n : ℕ) → answer a m ≡ Done n → (a ≡ Pass) × (m ≡ n)
-unfolding answer
-done_pass Pass m n e = let z : Done m ≡ Done n = e in (refl, cc)
-done_pass (Stop number detail) m n e = let z : Refused number detail ≡ Done n = e in (cc, cc)
-
-pub refused_stop : (a : Step) (m number detail : ℕ) → answer a m ≡ Refused number detail → a ≡ Stop number detail
-unfolding answer
-refused_stop Pass m number detail e = let z : Done m ≡ Refused number detail = e in cc
-refused_stop (Stop x y) m number detail e = let z : Refused x y ≡ Refused number detail = e in cc
-
--- probe's answer likewise
-
-told_no_refusal32 : (p : ℕ) (v : Float) (number detail : ℕ) → told32 p v ≡ p32.Refused number detail → ◌≡◌ {A = ℕ} 0 1
-unfolding told32
-told_no_refusal32 p nan number detail e = let z : p32.NotANumber p ≡ p32.Refused number detail = e in cc
-told_no_refusal32 p (inf s) number detail e = let z : p32.Infinity s ≡ p32.Refused number detail = e in cc
-told_no_refusal32 p (fin s m x) number detail e = let z : p32.Finite (fin s m x) ≡ p32.Refused number detail = e in cc
-
-pub refused_stop32 : (step : Step) (p number detail : ℕ) → probed32 step p ≡ p32.Refused number detail → step ≡ Stop number detail
-unfolding probed32 shown32
-refused_stop32 Pass p number detail e = let z = told_no_refusal32 p (of_bits binary32 p) number detail e in absurd (omega arith)
-refused_stop32 (Stop x y) p number detail e = let z : p32.Refused x y ≡ p32.Refused number detail = e in cc
-
-pub shown_pass32 : (step : Step) (p q : ℕ) → probed32 step p ≡ shown32 q → step ≡ Pass
-unfolding probed32 shown32
-shown_pass32 Pass p q e = refl
-shown_pass32 (Stop number detail) p q e = let z = told_no_refusal32 q (of_bits binary32 q) number detail (sym e) in absurd (omega arith)
-
-told_no_refusal64 : (p : ℕ) (v : Float) (number detail : ℕ) → told64 p v ≡ p64.Refused number detail → ◌≡◌ {A = ℕ} 0 1
-unfolding told64
-told_no_refusal64 p nan number detail e = let z : p64.NotANumber p ≡ p64.Refused number detail = e in cc
-told_no_refusal64 p (inf s) number detail e = let z : p64.Infinity s ≡ p64.Refused number detail = e in cc
-told_no_refusal64 p (fin s m x) number detail e = let z : p64.Finite (fin s m x) ≡ p64.Refused number detail = e in cc
-
-pub refused_stop64 : (step : Step) (p number detail : ℕ) → probed64 step p ≡ p64.Refused number detail → step ≡ Stop number detail
-unfolding probed64 shown64
-refused_stop64 Pass p number detail e = let z = told_no_refusal64 p (of_bits binary64 p) number detail e in absurd (omega arith)
-refused_stop64 (Stop x y) p number detail e = let z : p64.Refused x y ≡ p64.Refused number detail = e in cc
-
-pub shown_pass64 : (step : Step) (p q : ℕ) → probed64 step p ≡ shown64 q → step ≡ Pass
-unfolding probed64 shown64
-shown_pass64 Pass p q e = refl
-shown_pass64 (Stop number detail) p q e = let z = told_no_refusal64 q (of_bits binary64 q) number detail (sym e) in absurd (omega arith)
 
 -- ---- check and unpack
 
@@ -84,7 +32,7 @@ unpack_check level s room l =
 
 -- ---- probe and unpack
 
-module _ (W level : ℕ) (s : List ℕ) (room : ℕ) (e : first (unpack_rows W level s room) ≡ Pass) where
+module _ (W level : ℕ) (s : List ℕ) (room : ℕ) (e : first (unpack_rows W level s room) ≡ Ok tt) where
   u : Unpacking W level s room
   u = unpacking W level s room e
 
@@ -94,7 +42,7 @@ module _ (W level : ℕ) (s : List ℕ) (room : ℕ) (e : first (unpack_rows W l
   counted = length_values (header_of s) s (length s) (laid_out (length s) (header_of s) u.opening.layout)
 
   module _ (i : ℕ) (below : i < (header_of s).count) where
-    pub probe_passes : first (probe_rows W level s i) ≡ Pass
+    pub probe_passes : first (probe_rows W level s i) ≡ Ok tt
     unfolding own_rows
     probe_passes =
         let h = header_of s in
@@ -116,19 +64,19 @@ higher level level' s l k o =
 
 module _ (level level' : ℕ) (s : List ℕ) (l : level ≤ level') (k : known_level level' ≡ true) where
   -- rows that every operation has behind its opening
-  higher_rows : (rows : List Row) → first (opening_rows level s ++ rows) ≡ Pass → first (opening_rows level' s ++ rows) ≡ Pass
+  higher_rows : (rows : List Row) → first (opening_rows level s ++ rows) ≡ Ok tt → first (opening_rows level' s ++ rows) ≡ Ok tt
   higher_rows rows e =
       let both = opened_both (opening_rows level s) rows e in
       opened (opening_rows level' s) rows (opening_passes level' s (higher level level' s l k (opening level s both.0))) ∙ both.1
 
-  pub higher_check : first (check_rows level s) ≡ Pass → first (check_rows level' s) ≡ Pass
+  pub higher_check : first (check_rows level s) ≡ Ok tt → first (check_rows level' s) ≡ Ok tt
   unfolding check_rows
   higher_check e = higher_rows (content_rows (header_of s) s) e
 
-  pub higher_unpack : (W room : ℕ) → first (unpack_rows W level s room) ≡ Pass → first (unpack_rows W level' s room) ≡ Pass
+  pub higher_unpack : (W room : ℕ) → first (unpack_rows W level s room) ≡ Ok tt → first (unpack_rows W level' s room) ≡ Ok tt
   unfolding unpack_rows
   higher_unpack W room e = higher_rows (width_row W (header_of s) ∷ room_row room (header_of s) ∷ content_rows (header_of s) s) e
 
-  pub higher_probe : (W i : ℕ) → first (probe_rows W level s i) ≡ Pass → first (probe_rows W level' s i) ≡ Pass
+  pub higher_probe : (W i : ℕ) → first (probe_rows W level s i) ≡ Ok tt → first (probe_rows W level' s i) ≡ Ok tt
   unfolding probe_rows
   higher_probe W i e = higher_rows (width_row W (header_of s) ∷ index_row i (header_of s) ∷ own_rows (header_of s) s i) e

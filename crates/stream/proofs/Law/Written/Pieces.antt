@@ -49,7 +49,7 @@ unfolding chunks_in
 pieces_whole vs = pieces vs ((length vs + 1023) / 1024) ∙ take_all (1024 * ((length vs + 1023) / 1024)) vs (omega arith)
 
 -- the same of a list that may be too short to have it
-pub piece_clipped : (vs : List ℕ) (j from to : ℕ) → from ≡ min (1024 * j) (length vs) → to ≡ from + min 1024 (length vs - from)
+pub piece_clipped : (vs : List ℕ) (j from to : ℕ) → from ≡ min (1024 * j) (length vs) → to ≡ min (from + 1024) (length vs)
     → take (to - from) (drop from vs) ≡ piece vs j
 unfolding piece
 piece_clipped vs j from to e l =

@@ -1,4 +1,5 @@
 -- `stream::chunk::bytes_there` meets its contract.
+use Rattle.std.specs.Prelude.{Some, None}
 use mathlib.Core.Bool.{Bool, cond}
 use mathlib.Core.List.{List}
 use mathlib.Core.Path.{◌≡◌, sym, ap, ◌∙◌}
@@ -7,8 +8,8 @@ use native.Mathlib.Numerals.{one-add}
 use native.Mathlib.Omega.{arith}
 use Prim.Native.Nat.{ℕ, ◌+◌, ◌*◌, ◌/◌, ◌≤◌}
 use lib.ListN.{length, get_or}
-use Rattle.stream.specs.Group.{bytes_for, given_width, group_length, whole_group}
-use Rattle.stream.proofs.Law.Chunk.Whole.{facts_whole, not_whole, there_whole}
+use Rattle.stream.specs.Group.{bytes_for, given_width, group_length}
+use Rattle.stream.proofs.Law.Chunk.Whole.{facts_whole, not_whole, there}
 use Rattle.stream.proofs.chunk.bytes_there.Goals as goal
 use Rattle.stream.proofs.chunk.bytes_there.Lts as lts
 use Rattle.stream.proofs.chunk.bytes_there.Reads as reads
@@ -16,9 +17,9 @@ use Rattle.stream.proofs.chunk.bytes_there.Reads as reads
 abbrev Else2 : Type 0
 Else2 = lts.Else2 reads.Pre reads.Post
 
--- a result of 0 where one of the two rules is broken
-none : (W n : ℕ) (s : List ℕ) → ((given_width s ≤ W) × (group_length n s ≤ length s) → ⊥) → ◌≡◌ {A = ℕ} 0 (cond (whole_group W n s) (group_length n s) 0)
-none W n s broken = sym (ap (λ (b : Bool). cond b (group_length n s) 0) (not_whole W n s broken))
+-- not there where one of the two rules is broken
+none : (W n : ℕ) (s : List ℕ) → ((given_width s ≤ W) × (group_length n s ≤ length s) → ⊥) → None ≡ there W n s
+none W n s broken = sym (ap (λ (b : Bool). cond b (Some (group_length n s)) None) (not_whole W n s broken))
 
 -- the bytes by the first of them
 spelled : (n : ℕ) (s : List ℕ) → 1 + (get_or s 0 0 * n + 7) / 8 ≡ group_length n s
@@ -57,4 +58,4 @@ returns c =
     let a = c.args in
     let s = a.s.now in
     let is = spelled a.n s in
-    is ∙ sym (there_whole a.width a.n s (facts_whole a.width a.n s (omega (arith, c.if-width-w.false)) (omega (arith, is, c.if-s-bytes.false))))
+    ap Some is ∙ sym (ap (λ (b : Bool). cond b (Some (group_length a.n s)) None) (facts_whole a.width a.n s (omega (arith, c.if-width-w.false)) (omega (arith, is, c.if-s-bytes.false))))

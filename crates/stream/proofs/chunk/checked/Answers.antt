@@ -1,13 +1,11 @@
 -- `stream::chunk::checked` meets its contract. The invariant: what is left of the bytes decides what the whole chunk answers.
+use Rattle.std.specs.Prelude.{Err}
 use Prim.Native.Nat.{ℕ, ◌+◌, ◌≤◌, ◌<◌}
 use Rattle.stream.proofs.Law.Setting.Allowed.{width_most}
-use Rattle.stream.proofs.Law.Chunk.Checking.{bad_means, good_means, good_length, part_is, found, found_bad, found_good, found_over, found_end, within_bytes}
-use Rattle.stream.specs.Chunk.{chunk_answer}
+use Rattle.stream.proofs.Law.Chunk.Checking.{bad_means, good_means, part_is, found, found_bad, found_good, found_over, found_end, within_bytes}
+use Rattle.stream.specs.Chunk.{Verdict, chunk_answer}
 use Rattle.stream.specs.Group.{group_length, good_group, group_answer}
 use Rattle.stream.specs.Setting.{limit_of, group_size}
-use Rattle.stream.specs.declared.chunk.ChunkAnswer.TheVariants.{Bad}
-use Rattle.stream.specs.declared.chunk.ChunkAnswer.{ChunkAnswer}
-use borrow.Author.Rules.{rules}
 use lib.ListN.{length, drop}
 use mathlib.Core.Bool.{true}
 use mathlib.Core.List.{List}
@@ -43,7 +41,7 @@ abbrev bytes : At-loop → List ℕ
 bytes l = (start l).args.s.now
 
 -- what the walk finds, from here on
-abbrev finds : At-loop → ℕ → ℕ → ℕ → ChunkAnswer
+abbrev finds : At-loop → ℕ → ℕ → ℕ → Verdict
 finds l = found (size l) (some l) (start l).args.t.width (limit l) (bytes l)
 
 -- the whole, in the words of the contract
@@ -59,20 +57,18 @@ record Passed (W U : ℕ) (s : List ℕ) (count at k : ℕ) : Type 0 where
   long : k ≡ group_length count (drop at s)
 
 passed : (c : Past-After-known_told) → let l = c.before.before.before.before.before in
-    Passed (start l).args.t.width (limit l) (bytes l) c.group_count-count.result l.loop-left.at c.in-Good.k
+    Passed (start l).args.t.width (limit l) (bytes l) c.min-count.result l.loop-left.at c.in-Some.bytes
 passed c =
     let l = c.before.before.before.before.before in
     let W = (start l).args.t.width in
-    let count = c.group_count-count.result in
-    let said = sym (ap (group_answer W (limit l) count) (part_is (bytes l) l.loop-left.at)) ∙ sym c.checked-a.ensures ∙ c.in-Good.is in
-    record {
-      good = good_means W (limit l) count (drop l.loop-left.at (bytes l)) _ said;
-      long = good_length W (limit l) count (drop l.loop-left.at (bytes l)) _ said;
-    }
+    let count = c.min-count.result in
+    let said = sym (ap (group_answer W (limit l) count) (part_is (bytes l) l.loop-left.at)) ∙ sym c.in-Some.ensures in
+    let found = good_means W (limit l) count (drop l.loop-left.at (bytes l)) _ said in
+    record { good = found.0; long = found.1 }
 
 -- the group lies within the bytes
-inside : (c : Past-After-known_told) → let l = c.before.before.before.before.before in l.loop-left.at + c.in-Good.k ≤ length (bytes l)
-inside c = let l = c.before.before.before.before.before in within_bytes (start l).args.t.width (limit l) c.group_count-count.result (bytes l) l.loop-left.at _ l.loop-left.invariant.0 (passed c).good (passed c).long
+inside : (c : Past-After-known_told) → let l = c.before.before.before.before.before in l.loop-left.at + c.in-Some.bytes ≤ length (bytes l)
+inside c = let l = c.before.before.before.before.before in within_bytes (start l).args.t.width (limit l) c.min-count.result (bytes l) l.loop-left.at _ l.loop-left.invariant.0 (passed c).good (passed c).long
 
 pub limit_of-limit-requires : goal.limit_of-limit-requires
 limit_of-limit-requires c = c.requires.0
@@ -81,18 +77,15 @@ pub loop-left-init : goal.loop-left-init
 unfolding chunk_answer
 loop-left-init c = (omega arith, omega (arith, c.requires.1), λ some. refl)
 
-pub checked-a-requires : goal.checked-a-requires
-checked-a-requires c = let s = c.before in (omega (arith, c.group_count-count.ensures, c.group_size-size.ensures.2), width_most s.args.t.width s.requires.0.known)
+pub checked-requires : goal.checked-requires
+checked-requires c = let s = c.before in (omega (arith, c.min-count.ensures, c.group_size-size.ensures.2), width_most s.args.t.width s.requires.0.known)
 
-pub enum_told-1 : goal.enum_told-1
-enum_told-1 c = search rules
-
-pub returns-in-Bad : goal.returns-in-Bad
-returns-in-Bad c =
+pub returns-in_default : goal.returns-in_default
+returns-in_default c =
     let l = c.before.before.before.before.before.before in
     let a = (start l).args in
-    let count = c.group_count-count in
-    let said = sym (ap (group_answer a.t.width (limit l) count.result) (part_is (bytes l) l.loop-left.at)) ∙ sym c.checked-a.ensures ∙ c.in-Bad.is in
+    let count = c.min-count in
+    let said = sym (ap (group_answer a.t.width (limit l) count.result) (part_is (bytes l) l.loop-left.at)) ∙ sym c.in_default.ensures in
     sym (found_bad (size l) (some l) a.t.width (limit l) (bytes l) l.loop-left.left l.loop-left.at l.loop-left.i count.result c.loop-left-test.true count.ensures
     (bad_means a.t.width (limit l) count.result (drop l.loop-left.at (bytes l)) said))
     ∙ told l
@@ -101,20 +94,20 @@ pub overflow_add-at : goal.overflow_add-at
 overflow_add-at c = omega (arith, inside c.before, (start c.before.before.before.before.before.before).well_formed)
 
 pub overflow_sub-left : goal.overflow_sub-left
-overflow_sub-left c = omega (arith, c.group_count-count.ensures)
+overflow_sub-left c = omega (arith, c.min-count.ensures)
 
 pub loop-left-smaller : goal.loop-left-smaller
-loop-left-smaller c = omega (arith, c.group_count-count.ensures, c.loop-left-test.true, some c.before.before.before.before.before.before)
+loop-left-smaller c = omega (arith, c.min-count.ensures, c.loop-left-test.true, some c.before.before.before.before.before.before)
 
 pub loop-left-preserved : goal.loop-left-preserved
 loop-left-preserved c =
     let l = c.before.before.before.before.before.before in
-    let count = c.group_count-count in
+    let count = c.min-count in
     let taken = c.loop-left-test.true in (
       inside c.before,
       omega (arith, l.loop-left.invariant.1, count.ensures, taken, some l),
       λ some.
-          sym (found_good (size l) some (start l).args.t.width (limit l) (bytes l) l.loop-left.left l.loop-left.at l.loop-left.i count.result c.in-Good.k taken count.ensures (passed c.before).good (passed c.before).long)
+          sym (found_good (size l) some (start l).args.t.width (limit l) (bytes l) l.loop-left.left l.loop-left.at l.loop-left.i count.result c.in-Some.bytes taken count.ensures (passed c.before).good (passed c.before).long)
           ∙ l.loop-left.invariant.2 some,
     )
 
@@ -122,7 +115,7 @@ pub returns-then-at-s : goal.returns-then-at-s
 returns-then-at-s c =
     let l = c.before.before.before.before in
     let none : l.loop-left.left ≡ 0 = omega (arith, c.loop-left-test.false) in
-    ap Bad c.previous.ensures
+    ap Err c.saturating_sub.ensures
     ∙ sym (found_over (size l) (some l) (start l).args.t.width (limit l) (bytes l) l.loop-left.at l.loop-left.i c.if-at-s.true)
     ∙ ap (λ (n : ℕ). finds l n l.loop-left.at l.loop-left.i) (sym none)
     ∙ told l

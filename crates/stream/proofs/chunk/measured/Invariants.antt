@@ -1,10 +1,7 @@
-use Prim.Native.Nat.{◌-◌}
+use Rattle.std.proofs.Common.{◌*◌}
 use Rattle.stream.specs.Lent.{lent_codes}
 use Rattle.stream.proofs.Law.Chunk.Walks.{Measured}
 use Rattle.stream.proofs.chunk.measured.Given as goal
 
-abbrev pub invariant-loop-at : goal.invariant-loop-at
-invariant-loop-at l = Measured 32 (lent_codes l.t l.v32 l.v64) l.n l.at l.total
-
-abbrev pub decreases-loop-at : goal.decreases-loop-at
-decreases-loop-at l = l.n - l.at
+abbrev pub invariant-loop-i : goal.invariant-loop-i
+invariant-loop-i l = Measured 32 (lent_codes l.t l.v32 l.v64) l.n (32 * l.i) l.total

@@ -32,8 +32,8 @@ Start = lts.Start tie.the-claims reads.Pre reads.Post goal.the-invariant-loop-le
 abbrev At-loop : Type 0
 At-loop = lts.At-loop tie.the-claims reads.Pre reads.Post goal.the-invariant-loop-left goal.the-decreases-loop-left tie.handed_clauses
 
-abbrev After-group_count : Type 0
-After-group_count = lts.After-group_count tie.the-claims reads.Pre reads.Post goal.the-invariant-loop-left goal.the-decreases-loop-left tie.handed_clauses
+abbrev After-min : Type 0
+After-min = lts.After-min tie.the-claims reads.Pre reads.Post goal.the-invariant-loop-left goal.the-decreases-loop-left tie.handed_clauses
 
 abbrev After-group_length : Type 0
 After-group_length = lts.After-group_length tie.the-claims reads.Pre reads.Post goal.the-invariant-loop-left goal.the-decreases-loop-left tie.handed_clauses
@@ -53,39 +53,39 @@ module _ (l : At-loop) where
   inside = going_inside (group_size t) (size_some t) t.width (bytes l) l.loop-left.left l.loop-left.at l.loop-left.invariant.1
 
 -- how many codes the next group has, and that it is a good one
-count_is : (c : After-group_count) → let l = c.before.before in c.group_count-count.result ≡ min (group_size (t l)) l.loop-left.left
-count_is c = omega (arith, c.group_count-count.ensures, c.group_size-size.ensures.0)
+count_is : (c : After-min) → let l = c.before.before in c.min-count.result ≡ min (group_size (t l)) l.loop-left.left
+count_is c = omega (arith, c.min-count.ensures, c.group_size-size.ensures.0)
 
-count_most : (c : After-group_count) → c.group_count-count.result ≤ 128
-count_most c = omega (arith, c.group_count-count.ensures, c.group_size-size.ensures.2)
+count_most : (c : After-min) → c.min-count.result ≤ 128
+count_most c = omega (arith, c.min-count.ensures, c.group_size-size.ensures.2)
 
-count_some : (c : After-group_count) → 0 < c.group_count-count.result
-count_some c = omega (arith, c.group_count-count.ensures, c.group_size-size.ensures.1, c.loop-left-test.true)
+count_some : (c : After-min) → 0 < c.min-count.result
+count_some c = omega (arith, c.min-count.ensures, c.group_size-size.ensures.1, c.loop-left-test.true)
 
-wide : (c : After-group_count) → let l = c.before.before in given_width (drop l.loop-left.at (bytes l)) ≤ (t l).width
-wide c = let l = c.before.before in going_wide (group_size (t l)) (size_some (t l)) (t l).width (bytes l) l.loop-left.left l.loop-left.at l.loop-left.invariant.1 c.group_count-count.result c.loop-left-test.true (count_is c)
+wide : (c : After-min) → let l = c.before.before in given_width (drop l.loop-left.at (bytes l)) ≤ (t l).width
+wide c = let l = c.before.before in going_wide (group_size (t l)) (size_some (t l)) (t l).width (bytes l) l.loop-left.left l.loop-left.at l.loop-left.invariant.1 c.min-count.result c.loop-left-test.true (count_is c)
 
-whole : (c : After-group_count) → let l = c.before.before in
-    group_length c.group_count-count.result (drop l.loop-left.at (bytes l)) ≤ length (drop l.loop-left.at (bytes l))
-whole c = let l = c.before.before in going_whole (group_size (t l)) (size_some (t l)) (t l).width (bytes l) l.loop-left.left l.loop-left.at l.loop-left.invariant.1 c.group_count-count.result c.loop-left-test.true (count_is c)
+whole : (c : After-min) → let l = c.before.before in
+    group_length c.min-count.result (drop l.loop-left.at (bytes l)) ≤ length (drop l.loop-left.at (bytes l))
+whole c = let l = c.before.before in going_whole (group_size (t l)) (size_some (t l)) (t l).width (bytes l) l.loop-left.left l.loop-left.at l.loop-left.invariant.1 c.min-count.result c.loop-left-test.true (count_is c)
 
 -- where the count was made, and the loop, behind a turn
-abbrev counted : After-group_length → After-group_count
+abbrev counted : After-group_length → After-min
 counted c = c.before.before.before.before.before.before.before.before.before.before.before.before.before.before.before.before
 
 abbrev turn : After-group_length → At-loop
 turn c = c.before.before.before.before.before.before.before.before.before.before.before.before.before.before.before.before.before.before
 
 -- its bytes, as their number is measured
-bytes_are : (c : After-group_length) → c.group_length-at.result ≡ group_length (counted c).group_count-count.result (drop (turn c).loop-left.at (bytes (turn c)))
-bytes_are c = c.group_length-at.ensures ∙ ap (group_length (counted c).group_count-count.result) (part_is (bytes (turn c)) (turn c).loop-left.at)
+bytes_are : (c : After-group_length) → c.group_length-at.result ≡ group_length (counted c).min-count.result (drop (turn c).loop-left.at (bytes (turn c)))
+bytes_are c = c.group_length-at.ensures ∙ ap (group_length (counted c).min-count.result) (part_is (bytes (turn c)) (turn c).loop-left.at)
 
 on : (c : After-group_length) → let l = turn c in
-    Going (group_size (t l)) (size_some (t l)) (t l).width (bytes l) (l.loop-left.left - (counted c).group_count-count.result) (l.loop-left.at + c.group_length-at.result)
+    Going (group_size (t l)) (size_some (t l)) (t l).width (bytes l) (l.loop-left.left - (counted c).min-count.result) (l.loop-left.at + c.group_length-at.result)
 on c =
     let l = turn c in
     let e = counted c in
-    goes (group_size (t l)) (size_some (t l)) (t l).width (bytes l) l.loop-left.left l.loop-left.at l.loop-left.invariant.1 e.group_count-count.result e.loop-left-test.true (count_is e) c.group_length-at.result (bytes_are c)
+    goes (group_size (t l)) (size_some (t l)) (t l).width (bytes l) l.loop-left.left l.loop-left.at l.loop-left.invariant.1 e.min-count.result e.loop-left-test.true (count_is e) c.group_length-at.result (bytes_are c)
 
 pub loop-left-init : goal.loop-left-init
 loop-left-init c =
@@ -116,7 +116,7 @@ put_values-requires c =
       at_bound = (
         omega (arith, l.loop-left.invariant.0, p.allowed.1),
         omega (arith, count_most e, p.in_bounds.0, chosen_long (t l).width (start l).args.c32.now (start l).args.c64.now l.loop-left.c32 l.loop-left.c64 l.loop-left.invariant.3 l.loop-left.invariant.4),
-        omega (arith, p.in_bounds.1, l.loop-left.invariant.0, e.group_count-count.ensures, same_room _ _ _ _ _ l.loop-left.invariant.2),
+        omega (arith, p.in_bounds.1, l.loop-left.invariant.0, e.min-count.ensures, same_room _ _ _ _ _ l.loop-left.invariant.2),
       );
     }
 
@@ -133,20 +133,20 @@ pub overflow_add-at : goal.overflow_add-at
 overflow_add-at c = let l = turn c.before in omega (arith, going_inside (group_size (t l)) (size_some (t l)) (t l).width (bytes l) _ _ (on c.before), (start l).well_formed)
 
 pub overflow_sub-left : goal.overflow_sub-left
-overflow_sub-left c = omega (arith, (counted c.before).group_count-count.ensures)
+overflow_sub-left c = omega (arith, (counted c.before).min-count.ensures)
 
 pub overflow_add-done : goal.overflow_add-done
-overflow_add-done c = let l = turn c.before in omega (arith, (counted c.before).group_count-count.ensures, l.loop-left.invariant.0, (start l).requires.allowed.1)
+overflow_add-done c = let l = turn c.before in omega (arith, (counted c.before).min-count.ensures, l.loop-left.invariant.0, (start l).requires.allowed.1)
 
 pub loop-left-smaller : goal.loop-left-smaller
-loop-left-smaller c = omega (arith, (counted c.before).group_count-count.ensures, count_some (counted c.before))
+loop-left-smaller c = omega (arith, (counted c.before).min-count.ensures, count_some (counted c.before))
 
 pub loop-left-preserved : goal.loop-left-preserved
 loop-left-preserved c =
     let e = counted c.before in
     let l = turn c.before in
     let v = (start l).args in
-    let n = e.group_count-count.result in
+    let n = e.min-count.result in
     let k = c.group_length-at.result in
     let call = c.put_values in
     let out : List ℕ = chosen v.t.width l.loop-left.o32 l.loop-left.o64 in
@@ -157,7 +157,7 @@ loop-left-preserved c =
     let more = chunk_codes (group_size (t l)) (l.loop-left.left - n) (drop (l.loop-left.at + k) (bytes l)) in
     let lands = call.ensures ∙ ap (λ (u : List ℕ). landed l.loop-left.done (patterns_after (t l) b (group_codes n u)) out) (part_is (bytes l) l.loop-left.at) in
     let inside : l.loop-left.done ≤ length out = omega (arith, l.loop-left.invariant.0, (start l).requires.in_bounds.1, same_room _ _ _ _ _ l.loop-left.invariant.2) in (
-      omega (arith, l.loop-left.invariant.0, e.group_count-count.ensures),
+      omega (arith, l.loop-left.invariant.0, e.min-count.ensures),
       on c.before,
       one_landed _ _ _ _ _ l.loop-left.invariant.2 piece (patterns_after (t l) _ more) _ n
           (patterns_next (group_size (t l)) (size_some (t l)) (bytes l) l.loop-left.left l.loop-left.at n k e.loop-left-test.true (count_is e) (bytes_are c.before) (t l) b

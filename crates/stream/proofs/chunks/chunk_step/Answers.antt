@@ -2,9 +2,8 @@
 use Rattle.stream.proofs.Law.Tables.Starts.{placed}
 use Rattle.stream.proofs.Law.Rows.Chunks.{found_is, good_row, bad_row}
 use Rattle.stream.proofs.Law.Rows.Place.{group_small}
+use Rattle.stream.specs.Chunk.{Verdict}
 use Rattle.stream.specs.Stream.{chunk_state}
-use Rattle.stream.specs.declared.chunk.ChunkAnswer.{ChunkAnswer}
-use borrow.Author.Rules.{rules}
 use mathlib.Core.Path.{◌≡◌}
 use native.Mathlib.Omega.{arith}
 use Rattle.stream.proofs.chunks.chunk_step.Goals as goal
@@ -16,7 +15,7 @@ abbrev After-checked : Type 0
 After-checked = lts.After-checked tie.the-claims reads.Pre reads.Post
 
 -- what the check found is the chunk's state
-state_is : (c : After-checked) (a : ChunkAnswer) → c.checked-found.result ≡ a → let s = c.args in chunk_state s.h s.bytes.now s.j ≡ a
+state_is : (c : After-checked) (a : Verdict) → c.checked-found.result ≡ a → let s = c.args in chunk_state s.h s.bytes.now s.j ≡ a
 state_is c a e =
     let at-setting-in = c.before.before.before in
     let s = c.args in
@@ -34,21 +33,18 @@ chunk_at-part-requires c =
 pub checked-found-requires : goal.checked-found-requires
 checked-found-requires c = (c.setting_in-t.ensures.1, c.count_at.ensures.1)
 
-pub enum_told-1 : goal.enum_told-1
-enum_told-1 c = search rules
-
 -- a bad group is below 32
 pub overflow_add-result : goal.overflow_add-result
 overflow_add-result c =
     let s = c.args in
     let p = c.requires in
-    let small = group_small s.h s.bytes.now _ p.0.layout s.j p.2 _ (state_is c.before.before _ c.in-Bad.is) in
+    let small = group_small s.h s.bytes.now _ p.0.layout s.j p.2 _ (state_is c.before.before _ c.in-Err.is) in
     omega (arith, small, p.0.layout.few, p.0.layout.chunks)
 
-pub returns-in-Good : goal.returns-in-Good
-returns-in-Good c = let s = c.args in good_row s.h s.bytes.now s.j (state_is c.before.before _ c.in-Good.is)
+pub returns-in-Ok : goal.returns-in-Ok
+returns-in-Ok c = let s = c.args in good_row s.h s.bytes.now s.j (state_is c.before.before _ c.in-Ok.is)
 
-pub returns-in-Bad : goal.returns-in-Bad
-returns-in-Bad c =
+pub returns-in-Err : goal.returns-in-Err
+returns-in-Err c =
     let s = c.args in
-    bad_row s.h s.bytes.now s.j _ (state_is c.before.before _ c.in-Bad.is)
+    bad_row s.h s.bytes.now s.j _ (state_is c.before.before _ c.in-Err.is)

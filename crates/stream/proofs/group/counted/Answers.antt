@@ -1,8 +1,5 @@
--- `first` meets its contract: the part has as many codes as are asked for.
--- Assumes nothing.
-use mathlib.Core.Path.{sym}
-use lib.Seq.{length-take-le}
+use Rattle.words.proofs.Lists.{take_of}
 use Rattle.stream.proofs.group.counted.Goals as goal
 
-pub slice_bounds-result-end : goal.slice_bounds-result-end
-slice_bounds-result-end c = sym (length-take-le c.args.n c.args.codes.now c.requires)
+pub returns : goal.returns
+returns g c = take_of g.met.T.Word.values_law c.args.n c.args.codes.now

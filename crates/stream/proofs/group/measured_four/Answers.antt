@@ -1,63 +1,25 @@
--- `stream::group::measured_four` meets its contract.
-use mathlib.Core.Path.{◌≡◌, sym, ap₂, ◌∙◌}
-use mathlib.Core.List.{◌++◌}
-use Prim.Native.Nat.{ℕ, suc, ◌+◌, ◌*◌, ◌/◌, ◌≤◌}
-use native.Mathlib.Nat.{mul-le-mul}
+use Rattle.std.proofs.Common.{ℕ, suc, ◌+◌, ◌*◌, ◌/◌, ◌++◌, take, sym, ap₂, ◌∙◌, arith, rules}
 use native.Mathlib.Numerals.{one-add}
-use native.Mathlib.Omega.{arith}
-use lib.ListN.{length, take}
-use lib.Seq.{length-take-le}
 use Rattle.stream.specs.Group.{bytes_for}
 use Rattle.stream.proofs.Law.Group.RoundTrip.{length_group}
-use Rattle.stream.proofs.Law.Group.Parts.{four_long}
-use borrow.Author.Rules.{rules}
+use Rattle.stream.proofs.Law.Group.Records.{at_most_64, four_fit, four_counts}
 use Rattle.stream.proofs.group.measured_four.Goals as goal
-use Rattle.stream.proofs.group.measured_four.Lts as lts
-use Rattle.stream.proofs.group.measured_four.Reads as reads
-use Rattle.stream.proofs.group.measured_four.Tie as tie
-
-abbrev Start : Type 0
-Start = lts.Start tie.the-claims reads.Pre reads.Post
-
-abbrev After-width_four : Type 0
-After-width_four = lts.After-width_four tie.the-claims reads.Pre reads.Post
-
-abbrev start : After-width_four → Start
-start c = c.before.before.before.before.before
-
--- the group is small, so no sum wraps
-small : (c : After-width_four) → let a = (start c).args in c.width_four.result * (a.a.count + a.b.count + a.c.count + a.d.count) ≤ 64 * 128
-small c =
-    let a = (start c).args in
-    let few : a.a.count + a.b.count + a.c.count + a.d.count ≤ 128 = omega (arith, (start c).requires) in
-    mul-le-mul c.width_four.ensures.1 few
 
 pub overflow_mul-result : goal.overflow_mul-result
-overflow_mul-result c = omega (arith, small c)
+overflow_mul-result g c = record { fits = omega (arith, four_fit _ _ _ _ _ _ c.width_four.ensures.1 (at_most_64 g.met.T.Word.formats_law) c.requires) }
 
 pub overflow_add-result : goal.overflow_add-result
-overflow_add-result c = omega (arith, small c)
+overflow_add-result g c = record { fits = omega (arith, four_fit _ _ _ _ _ _ c.width_four.ensures.1 (at_most_64 g.met.T.Word.formats_law) c.requires) }
 
 pub overflow_add-result-2 : goal.overflow_add-result-2
-overflow_add-result-2 c = omega (arith, small c)
+overflow_add-result-2 g c = record { fits = omega (arith, four_fit _ _ _ _ _ _ c.width_four.ensures.1 (at_most_64 g.met.T.Word.formats_law) c.requires) }
 
 pub returns : goal.returns
 unfolding bytes_for
-returns c =
-    let s = start c in
-    let a = s.args in
-    let long_a : length a.a.codes ≡ 32 = search rules in
-    let long_b : length a.b.codes ≡ 32 = search rules in
-    let long_c : length a.c.codes ≡ 32 = search rules in
-    let long_d : length a.d.codes ≡ 32 = search rules in
-    let xs = take a.a.count a.a.codes in
-    let ys = take a.b.count a.b.codes in
-    let zs = take a.c.count a.c.codes in
-    let us = take a.d.count a.d.codes in
-    let many =
-    four_long xs ys zs us a.a.count a.b.count a.c.count a.d.count
-    (length-take-le a.a.count a.a.codes (omega (arith, s.requires)))
-    (length-take-le a.b.count a.b.codes (omega (arith, s.requires)))
-    (length-take-le a.c.count a.c.codes (omega (arith, s.requires)))
-    (length-take-le a.d.count a.d.codes (omega (arith, s.requires))) in
-    one-add _ ∙ ap₂ (λ (w n : ℕ). suc ((w * n + 7) / 8)) c.width_four.ensures.0 (sym many) ∙ sym (length_group (xs ++ ys ++ zs ++ us))
+returns g c =
+    let v = g.T.Word.values in
+    let a = c.args in
+    one-add _
+    ∙ ap₂ (λ (w n : ℕ). suc ((w * n + 7) / 8)) c.width_four.ensures.0
+    (sym (four_counts g.met.T.Word.values_law c.width_four.result a.a a.b a.c a.d (search rules) (search rules) (search rules) (search rules) c.requires))
+    ∙ sym (length_group (take a.a.count (v a.a.codes) ++ take a.b.count (v a.b.codes) ++ take a.c.count (v a.c.codes) ++ take a.d.count (v a.d.codes)))

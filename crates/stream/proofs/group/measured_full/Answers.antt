@@ -1,14 +1,16 @@
--- `stream::group::measured_full` meets its contract: the group is whole bytes.
-use mathlib.Core.Path.{◌≡◌}
-use native.Mathlib.Omega.{arith}
-use lib.ListN.{length}
+use Rattle.std.proofs.Common.{arith, rules}
+use Rattle.stream.proofs.Law.Group.Records.{at_most_64, long_of}
 use Rattle.stream.proofs.Law.Group.Whole.{length_is}
-use borrow.Author.Rules.{rules}
 use Rattle.stream.proofs.group.measured_full.Goals as goal
 
+pub overflow_mul-result : goal.overflow_mul-result
+overflow_mul-result g c = record { fits = omega (arith, c.width.ensures.1, at_most_64 g.met.T.Word.formats_law) }
+
+pub overflow_add-result : goal.overflow_add-result
+overflow_add-result g c = record { fits = omega (arith, c.width.ensures.1, at_most_64 g.met.T.Word.formats_law) }
+
 pub returns : goal.returns
-returns c =
-    let s = c in
-    let codes = s.args.g.codes in
-    let long : length codes ≡ 32 = search rules in
-    length_is 4 codes long s.args.g.count c.width.result (omega (arith, s.requires)) c.width.ensures.0
+returns g c =
+    let r = c.args.g in
+    let long = long_of g.met.T.Word.values_law r (search rules) in
+    length_is 4 (g.T.Word.values r.codes) long r.count c.width.result (omega (arith, long, c.requires)) c.width.ensures.0

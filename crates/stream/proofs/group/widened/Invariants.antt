@@ -1,11 +1,6 @@
-use mathlib.Core.Path.{◌≡◌}
-use Prim.Native.Nat.{◌-◌, ◌≤◌}
-use lib.ListN.{length, take}
+use Rattle.std.proofs.Common.{◌≡◌, length, take}
 use Rattle.stream.proofs.group.widened.Given as goal
 
+-- the codes passed are copied
 abbrev pub invariant-loop-i : goal.invariant-loop-i
-invariant-loop-i l =
-    (l.i ≤ 32) × (l.wide.count ≡ l.initial.wide.count) × (length l.wide.codes ≡ 32) × (take l.i l.wide.codes ≡ take l.i l.codes)
-
-abbrev pub decreases-loop-i : goal.decreases-loop-i
-decreases-loop-i l = 32 - l.i
+invariant-loop-i l = (length l.wide ≡ 32) × (take l.i l.wide ≡ take l.i l.codes)

@@ -1,42 +1,27 @@
--- `width` meets its contract. The invariant: the OR so far has the bit length of the largest code so far.
--- Assumes nothing.
-use mathlib.Core.Path.{◌≡◌, refl, ap, ◌∙◌}
-use Prim.Native.Nat.{ℕ}
-use native.Mathlib.Numerals.{add-one}
-use native.Mathlib.Omega.{arith}
-use lib.Bits.{or_lt}
-use lib.Count.{leading_le}
-use lib.ListN.{length, take, get_or}
-use lib.Seq.{take-suc, take-length}
+use Rattle.std.proofs.Common.{◌<◌, refl, ap, sym, ◌∙◌, add-one, take, length, get_or, arith}
+use lib.Seq.{take-suc, take_all}
+use Rattle.words.proofs.Lists.{length_of, get_of}
 use Rattle.stream.specs.Group.{width_of, largest}
-use Rattle.stream.proofs.Law.Group.Width.{or_width, size_leading}
+use Rattle.stream.proofs.Law.Group.Width.{or_width}
 use Rattle.stream.proofs.group.width.Goals as goal
 
-pub loop-i-init : goal.loop-i-init
+pub loop-code-init : goal.loop-code-init
 unfolding width_of largest
-loop-i-init c = (omega arith, omega arith, refl)
+loop-code-init g c = rw c.of-all.ensures refl
 
-pub loop-i-preserved : goal.loop-i-preserved
-loop-i-preserved c =
-    let codes = c.args.codes.now in
-    let i = c.loop-i.i in
-    let all = c.loop-i.all in (
-      omega arith,
-      or_lt 64 all (get_or codes i 0) c.loop-i.invariant.1 (c.shared_slice_known-1.given i).fits,
-      rw (add-one, take-suc codes i 0 c.loop-i-test.true) (or_width all (get_or codes i 0) (take i codes) c.loop-i.invariant.2),
-    )
-
-pub overflow_cast-result : goal.overflow_cast-result
-overflow_cast-result c = omega (arith, leading_le 64 c.loop-i.all)
-
-pub overflow_sub-result : goal.overflow_sub-result
-overflow_sub-result c = leading_le 64 c.loop-i.all
+pub loop-code-preserved : goal.loop-code-preserved
+loop-code-preserved g c =
+    let L = g.met.T.Word in
+    let xs = c.args.codes.now in
+    let cs = g.T.Word.values xs in
+    let i = c.loop-code.code-index in
+    let under : i < length cs = omega (arith, length_of L.values_law xs, c.loop-code-test.true) in
+    let code = get_of L.values_law xs i c.code-item.result c.loop-code-test.true ∙ sym (ap g.T.Word.value c.code-item.is) in
+    rw (add-one, take-suc cs i 0 under, L.bitor_law _ _ _ c.bitor-all.ensures, ← code) (or_width (g.T.Word.value c.loop-code.all) (get_or cs i 0) (take i cs) c.loop-code.invariant)
 
 pub returns : goal.returns
-returns c =
-    let codes = c.args.codes.now in
-    let all = c.loop-i.all in
-    let end : c.loop-i.i ≡ length codes = omega arith in (
-      size_leading 64 all c.loop-i.invariant.1 ∙ c.loop-i.invariant.2 ∙ ap width_of (ap (λ (n : ℕ). take n codes) end ∙ take-length codes),
-      omega arith,
-    )
+returns g c =
+    let xs = c.args.codes.now in
+    let cs = g.T.Word.values xs in
+    let l = c.loop-code in
+    (c.bit_length.ensures.0 ∙ l.invariant ∙ ap width_of (take_all l.code-index cs (omega (arith, length_of g.met.T.Word.values_law xs, c.loop-code-test.false))), c.bit_length.ensures.1)

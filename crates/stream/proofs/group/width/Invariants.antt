@@ -1,12 +1,8 @@
-use mathlib.Core.Path.{◌≡◌}
-use Prim.Native.Nat.{◌-◌, ◌^◌, ◌≤◌, ◌<◌}
-use lib.Ieee.{size}
-use lib.ListN.{length, take}
+use Rattle.std.proofs.Common.{◌≡◌, take}
+use Rattle.std.specs.Float.Ieee.{size}
 use Rattle.stream.specs.Group.{width_of}
 use Rattle.stream.proofs.group.width.Given as goal
 
-abbrev pub invariant-loop-i : goal.invariant-loop-i
-invariant-loop-i l = (l.i ≤ length l.codes) × (l.all < 2 ^ 64) × (size l.all ≡ width_of (take l.i l.codes))
-
-abbrev pub decreases-loop-i : goal.decreases-loop-i
-decreases-loop-i l = length l.codes - l.i
+-- the OR so far has the bit length of the largest code so far
+abbrev pub invariant-loop-code : goal.invariant-loop-code
+invariant-loop-code g l = size (g.T.Word.value l.all) ≡ width_of (take l.code-index (g.T.Word.values l.codes))

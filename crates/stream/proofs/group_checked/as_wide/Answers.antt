@@ -5,7 +5,7 @@ use Prim.Native.Nat.{ℕ}
 use native.Mathlib.Omega.{arith}
 use lib.Count.{leading_le}
 use lib.Dec.{eqb}
-use Rattle.stream.proofs.Law.Group.Width.{size_leading}
+use Rattle.words.proofs.Bits.{size_leading}
 use Rattle.stream.proofs.group_checked.as_wide.Goals as goal
 
 pub overflow_cast-result : goal.overflow_cast-result

@@ -9,13 +9,13 @@ pub returns-then-w-le32 : goal.returns-then-w-le32
 returns-then-w-le32 c =
     let full = c.before in
     let a = full.args in
-    c.width32.ensures.0 ∙ ap width_of (c.opened32.ensures ∙ opened_codes a.w a.n a.s.now full.if-n-eq32.true)
+    c.width.ensures.0 ∙ ap width_of (c.opened32.ensures ∙ opened_codes a.w a.n a.s.now full.if-n-eq32.true)
 
 pub returns-then-w-s : goal.returns-then-w-s
 returns-then-w-s c =
     let full = c.before in
     let a = full.args in
-    c.width.ensures.0 ∙ ap width_of (c.opened64.ensures ∙ opened_codes a.w a.n a.s.now full.if-n-eq32.true)
+    c.width-then-w-s.ensures.0 ∙ ap width_of (c.opened64.ensures ∙ opened_codes a.w a.n a.s.now full.if-n-eq32.true)
 
 pub returns : goal.returns
 returns c =

@@ -22,8 +22,8 @@ Start = lts.Start tie.the-claims reads.Pre reads.Post goal.the-invariant-loop-le
 abbrev At-loop : Type 0
 At-loop = lts.At-loop tie.the-claims reads.Pre reads.Post goal.the-invariant-loop-left goal.the-decreases-loop-left
 
-abbrev After-block_count : Type 0
-After-block_count = lts.After-block_count tie.the-claims reads.Pre reads.Post goal.the-invariant-loop-left goal.the-decreases-loop-left
+abbrev After-min : Type 0
+After-min = lts.After-min tie.the-claims reads.Pre reads.Post goal.the-invariant-loop-left goal.the-decreases-loop-left
 
 abbrev After-block_limited : Type 0
 After-block_limited = lts.After-block_limited tie.the-claims reads.Pre reads.Post goal.the-invariant-loop-left goal.the-decreases-loop-left
@@ -46,7 +46,7 @@ module _ (l : At-loop) where
   bytes i = (l.shared_slice_known-1.given i).fits
 
 -- the block that comes next
-module _ (c : After-block_count) where
+module _ (c : After-min) where
   abbrev turn : At-loop
   turn = c.before.before
 
@@ -57,13 +57,13 @@ module _ (c : After-block_count) where
   from = turn.loop-left.from
 
   abbrev count : ℕ
-  count = c.block_count-count.result
+  count = c.min-count.result
 
   abbrev part : List ℕ
   part = take (length (s turn) - from) (drop from (s turn))
 
   turns : Next (w turn) (s turn) left count from
-  turns = next turn.loop-left.invariant.0 c.loop-left-test.true c.block_count-count.ensures (start turn).requires.2
+  turns = next turn.loop-left.invariant.0 c.loop-left-test.true c.min-count.ensures (start turn).requires.2
 
 -- what is asked, by what was found of it
 asked : (c : After-block_limited) → let b = c.before.before in
@@ -75,7 +75,7 @@ asked c =
     let l = turn b in
     let rest = block_codes (w l) (left b - count b) (drop (from b + 4 * w l) (s l)) in
     l.loop-left.invariant.1
-    ∙ ap (within (limit l)) (next_block (w l) (left b) (count b) (from b) (s l) (bytes l) b.block_count-count.ensures)
+    ∙ ap (within (limit l)) (next_block (w l) (left b) (count b) (from b) (s l) (bytes l) b.min-count.ensures)
     ∙ within_append (limit l) (block_codes (w l) (count b) (part b)) rest
     ∙ ap (λ (x : Bool). x && within (limit l) rest) (sym c.block_limited.ensures)
 
@@ -97,7 +97,7 @@ pub block_limited-requires : goal.block_limited-requires
 block_limited-requires c =
     let b = c.before.before in
     let l = turn b in (
-      omega (arith, b.block_count-count.ensures),
+      omega (arith, b.min-count.ensures),
       (start l).requires.1,
       (start l).requires.2,
       (turns b).there,
@@ -116,10 +116,10 @@ pub overflow_add-from : goal.overflow_add-from
 overflow_add-from c = omega (arith, (turns c.before.before.before.before).near)
 
 pub overflow_sub-left : goal.overflow_sub-left
-overflow_sub-left c = let b = c.before in omega (arith, b.block_count-count.ensures)
+overflow_sub-left c = let b = c.before in omega (arith, b.min-count.ensures)
 
 pub loop-left-smaller : goal.loop-left-smaller
-loop-left-smaller c = let b = c.before in omega (arith, b.block_count-count.ensures, b.loop-left-test.true)
+loop-left-smaller c = let b = c.before in omega (arith, b.min-count.ensures, b.loop-left-test.true)
 
 pub loop-left-preserved : goal.loop-left-preserved
 loop-left-preserved c =

@@ -21,8 +21,8 @@ Start = lts.Start tie.the-claims reads.Pre reads.Post goal.the-invariant-loop-le
 abbrev At-loop : Type 0
 At-loop = lts.At-loop tie.the-claims reads.Pre reads.Post goal.the-invariant-loop-left goal.the-decreases-loop-left
 
-abbrev After-block_count : Type 0
-After-block_count = lts.After-block_count tie.the-claims reads.Pre reads.Post goal.the-invariant-loop-left goal.the-decreases-loop-left
+abbrev After-min : Type 0
+After-min = lts.After-min tie.the-claims reads.Pre reads.Post goal.the-invariant-loop-left goal.the-decreases-loop-left
 
 -- the loop's place
 module _ (l : At-loop) where
@@ -39,7 +39,7 @@ module _ (l : At-loop) where
   bytes i = (l.shared_slice_known-1.given i).fits
 
 -- the block that comes next
-module _ (c : After-block_count) where
+module _ (c : After-min) where
   abbrev turn : At-loop
   turn = c.before.before
 
@@ -50,13 +50,13 @@ module _ (c : After-block_count) where
   from = turn.loop-left.from
 
   abbrev count : ℕ
-  count = c.block_count-count.result
+  count = c.min-count.result
 
   abbrev part : List ℕ
   part = take (length (s turn) - from) (drop from (s turn))
 
   turns : Next (w turn) (s turn) left count from
-  turns = next turn.loop-left.invariant.0 c.loop-left-test.true c.block_count-count.ensures (start turn).requires.2
+  turns = next turn.loop-left.invariant.0 c.loop-left-test.true c.min-count.ensures (start turn).requires.2
 
   abbrev codes : List ℕ
   codes = block_codes (w turn) count part
@@ -66,7 +66,7 @@ module _ (c : After-block_count) where
 
   -- what is asked of the block and of the rest
   asked : eqb (w turn) (width_of (group_codes (start turn).args.n (s turn))) ≡ eqb (w turn) (width_of (codes ++ rest))
-  asked = turn.loop-left.invariant.1 ∙ ap (λ (cs : List ℕ). eqb (w turn) (width_of cs)) (next_block (w turn) left count from (s turn) (bytes turn) c.block_count-count.ensures)
+  asked = turn.loop-left.invariant.1 ∙ ap (λ (cs : List ℕ). eqb (w turn) (width_of cs)) (next_block (w turn) left count from (s turn) (bytes turn) c.min-count.ensures)
 
 pub loop-left-init : goal.loop-left-init
 loop-left-init c =
@@ -86,7 +86,7 @@ pub block_width-requires : goal.block_width-requires
 block_width-requires c =
     let b = c.before.before in
     let l = turn b in (
-      omega (arith, b.block_count-count.ensures),
+      omega (arith, b.min-count.ensures),
       (start l).requires.1,
       (start l).requires.2,
       (turns b).there,
@@ -107,10 +107,10 @@ pub overflow_add-from : goal.overflow_add-from
 overflow_add-from c = omega (arith, (turns c.before.before.before.before).near)
 
 pub overflow_sub-left : goal.overflow_sub-left
-overflow_sub-left c = let b = c.before in omega (arith, b.block_count-count.ensures)
+overflow_sub-left c = let b = c.before in omega (arith, b.min-count.ensures)
 
 pub loop-left-smaller : goal.loop-left-smaller
-loop-left-smaller c = let b = c.before in omega (arith, b.block_count-count.ensures, b.loop-left-test.true)
+loop-left-smaller c = let b = c.before in omega (arith, b.min-count.ensures, b.loop-left-test.true)
 
 pub loop-left-preserved : goal.loop-left-preserved
 loop-left-preserved c =

@@ -8,11 +8,11 @@ use Rattle.stream.proofs.group_checked.full_limited.Goals as goal
 pub returns-then-w-le32 : goal.returns-then-w-le32
 returns-then-w-le32 c =
     let f = c.before in
-    c.limited32.ensures
+    c.limited.ensures
     ∙ ap (within f.args.limit) (c.opened32.ensures ∙ opened_codes f.args.w 32 f.args.s.now refl)
 
 pub returns : goal.returns
 returns c =
     let f = c.before in
-    c.limited.ensures
+    c.limited-2.ensures
     ∙ ap (within f.args.limit) (c.opened64.ensures ∙ opened_codes f.args.w 32 f.args.s.now refl)

@@ -1,35 +1,34 @@
--- `limited` meets its contract. The invariant: no code passed is above the limit.
--- Assumes nothing.
-use mathlib.Core.Path.{sym}
-use Prim.Native.Nat.{ℕ, ◌/◌, ◌≤◌, zero-le}
+use Rattle.std.proofs.Common.{ℕ, ◌≡◌, ◌/◌, ◌≤◌, get_or, sym, ap, ◌∙◌, arith}
+use Prim.Native.Nat.{zero-le}
 use native.Mathlib.Nat.{not-le_of_lt}
-use native.Mathlib.Omega.{arith}
-use borrow.Author.Count.{below_none, below_more}
-use lib.ListN.{get_or}
+use borrow.Author.Count.{below_more}
+use Rattle.words.proofs.Lists.{length_of, get_of}
 use Rattle.stream.specs.Group.{within}
 use Rattle.blocks.proofs.Law.Digits.{everywhere}
 use Rattle.stream.proofs.Law.Group.Exact.{within_limited, limited_within}
 use Rattle.stream.proofs.Law.Group.Checking.{untrue}
 use Rattle.stream.proofs.group_checked.limited.Goals as goal
 
-pub loop-i-init : goal.loop-i-init
-loop-i-init c = (omega arith, below_none (λ (k : ℕ). get_or c.args.codes.now k 0 / 2 ≤ c.args.limit))
+pub returns-then-limit-wide : goal.returns-then-limit-wide
+returns-then-limit-wide g c =
+    let xs = c.args.codes.now in
+    let cs = g.T.Word.values xs in
+    let i = c.loop-code.code-index in
+    let code : get_or cs i 0 ≡ c.wide.result = get_of g.met.T.Word.values_law xs i c.code-item.result c.loop-code-test.true ∙ sym (ap g.T.Word.value c.code-item.is) ∙ sym c.wide.ensures in
+    sym (untrue (within c.args.limit cs) (λ e. not-le_of_lt (rw code c.if-limit-wide.true) (within_limited c.args.limit cs e i)))
 
-pub returns-then-limit-codes : goal.returns-then-limit-codes
-returns-then-limit-codes c =
-    let a = c.args in
-    let i = c.loop-i.i in
-    sym (untrue (within a.limit a.codes.now) (λ e. not-le_of_lt c.if-limit-codes.true (within_limited a.limit a.codes.now e i)))
-
-pub loop-i-preserved : goal.loop-i-preserved
-loop-i-preserved c =
-    let a = c.args in
-    let l = c.loop-i in
-    (omega arith, below_more (λ (k : ℕ). get_or a.codes.now k 0 / 2 ≤ a.limit) l.i l.invariant.1 c.if-limit-codes.false)
+pub loop-code-preserved : goal.loop-code-preserved
+loop-code-preserved g c =
+    let xs = c.args.codes.now in
+    let cs = g.T.Word.values xs in
+    let i = c.loop-code.code-index in
+    let code : get_or cs i 0 ≡ c.wide.result = get_of g.met.T.Word.values_law xs i c.code-item.result c.loop-code-test.true ∙ sym (ap g.T.Word.value c.code-item.is) ∙ sym c.wide.ensures in
+    below_more (λ (k : ℕ). get_or cs k 0 / 2 ≤ c.args.limit) i c.loop-code.invariant (rw code c.if-limit-wide.false)
 
 pub returns : goal.returns
-returns c =
-    let a = c.args in
-    let l = c.loop-i in
-    sym (limited_within a.limit a.codes.now
-    (everywhere (λ (x : ℕ). x / 2 ≤ a.limit) a.codes.now zero-le (λ k h. l.invariant.1 k (omega arith))))
+returns g c =
+    let xs = c.args.codes.now in
+    let cs = g.T.Word.values xs in
+    let l = c.loop-code in
+    sym (limited_within c.args.limit cs
+    (everywhere (λ (x : ℕ). x / 2 ≤ c.args.limit) cs zero-le (λ k h. l.invariant k (omega (arith, h, length_of g.met.T.Word.values_law xs, c.loop-code-test.false)))))

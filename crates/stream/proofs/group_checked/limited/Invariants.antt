@@ -1,9 +1,6 @@
-use Prim.Native.Nat.{ℕ, ◌-◌, ◌/◌, ◌≤◌, ◌<◌}
-use lib.ListN.{length, get_or}
+use Rattle.std.proofs.Common.{ℕ, ◌/◌, ◌≤◌, ◌<◌, get_or}
 use Rattle.stream.proofs.group_checked.limited.Given as goal
 
-abbrev pub invariant-loop-i : goal.invariant-loop-i
-invariant-loop-i l = (l.i ≤ length l.codes) × ((k : ℕ) → k < l.i → get_or l.codes k 0 / 2 ≤ l.limit)
-
-abbrev pub decreases-loop-i : goal.decreases-loop-i
-decreases-loop-i l = length l.codes - l.i
+-- no code passed is above the limit
+abbrev pub invariant-loop-code : goal.invariant-loop-code
+invariant-loop-code g l = (k : ℕ) → k < l.code-index → get_or (g.T.Word.values l.codes) k 0 / 2 ≤ l.limit

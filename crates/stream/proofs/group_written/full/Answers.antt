@@ -1,67 +1,54 @@
--- `stream::group_written::full` meets its contract: the width, and the block behind it.
-use mathlib.Core.Path.{◌≡◌, ◌∙◌}
-use mathlib.Core.List.{List}
-use Prim.Native.Nat.{ℕ, ◌+◌, ◌-◌, ◌*◌, ◌≤◌}
-use native.Mathlib.Omega.{arith}
-use lib.ListN.{length, set, length-set, length-drop}
-use borrow.Rule.Slice.PartMut.{same_len_mid}
+use Rattle.std.proofs.Common.{◌≤◌, length, length-drop, arith, rules}
+use lib.ListN.{length-set}
+use Rattle.stream.proofs.Law.Group.Records.{long_of}
 use Rattle.stream.proofs.Law.Group.RoundTrip.{width_holds}
 use Rattle.stream.proofs.Law.Group.Whole.{length_is, room_is, written_is}
 use Rattle.stream.proofs.Law.Plain.Parts.{behind_first}
-use borrow.Author.Rules.{rules}
 use Rattle.stream.proofs.group_written.full.Goals as goal
-use Rattle.stream.proofs.group_written.full.Lts as lts
-use Rattle.stream.proofs.group_written.full.Reads as reads
-use Rattle.stream.proofs.group_written.full.Tie as tie
-
-abbrev Start : Type 0
-Start = lts.Start tie.the-claims reads.Pre reads.Post tie.handed_clauses
-
-abbrev After-width : Type 0
-After-width = lts.After-width tie.the-claims reads.Pre reads.Post tie.handed_clauses
-
-abbrev entry : After-width → Start
-entry c = c.before.before.before.before
-
-abbrev codes : After-width → List ℕ
-codes c = (entry c).args.g.codes
-
-long : (c : After-width) → length (codes c) ≡ 32
-long c = search rules
-
-all : (c : After-width) → length (codes c) ≤ (entry c).args.g.count
-all c = omega (arith, long c, (entry c).requires.0)
-
-room : (c : After-width) → 1 + 4 * c.width-w.result ≤ length (entry c).args.out.now
-room c = room_is 4 (codes c) (long c) (entry c).args.g.count c.width-w.result (all c) c.width-w.ensures.0 (entry c).args.out.now (entry c).requires.1
 
 pub bounds-out-0 : goal.bounds-out-0
-bounds-out-0 c = omega (arith, room c)
+bounds-out-0 g c =
+    let r = c.args.g in
+    let long = long_of g.met.T.Word.values_law r (search rules) in
+    omega (arith, room_is 4 (g.T.Word.values r.codes) long r.count c.width-w.result (omega (arith, long, c.requires.0)) c.width-w.ensures.0 c.args.out.now c.requires.1)
 
 pub slice_bounds-put_block-count : goal.slice_bounds-put_block-count
-slice_bounds-put_block-count c = rw length-set (omega (arith, room c))
+slice_bounds-put_block-count g c =
+    let r = c.args.g in
+    let long = long_of g.met.T.Word.values_law r (search rules) in
+    let room = room_is 4 (g.T.Word.values r.codes) long r.count c.width-w.result (omega (arith, long, c.requires.0)) c.width-w.ensures.0 c.args.out.now c.requires.1 in
+    rw length-set (omega (arith, room))
 
 pub slice_bounds-put_block-start : goal.slice_bounds-put_block-start
-slice_bounds-put_block-start c = simp length-set (omega (arith, room c))
+slice_bounds-put_block-start g c =
+    let r = c.args.g in
+    let long = long_of g.met.T.Word.values_law r (search rules) in
+    let room = room_is 4 (g.T.Word.values r.codes) long r.count c.width-w.result (omega (arith, long, c.requires.0)) c.width-w.ensures.0 c.args.out.now c.requires.1 in
+    simp length-set (omega (arith, room))
 
 pub put_block-requires : goal.put_block-requires
-put_block-requires c =
-    let q = c.before in (
-      q.width-w.ensures.1,
-      rw q.width-w.ensures.0 (width_holds (codes q)),
-      rw (behind_first (entry q).args.out.now q.width-w.result, length-drop) (omega (arith, room q)),
+put_block-requires g c =
+    let r = c.args.g in
+    let long = long_of g.met.T.Word.values_law r (search rules) in
+    let room = room_is 4 (g.T.Word.values r.codes) long r.count c.width-w.result (omega (arith, long, c.requires.0)) c.width-w.ensures.0 c.args.out.now c.requires.1 in (
+      search rules,
+      (
+        c.width-w.ensures.1,
+        rw c.width-w.ensures.0 (width_holds (g.T.Word.values r.codes)),
+        rw (behind_first c.args.out.now c.width-w.result, length-drop) (omega (arith, room)),
+      ),
     )
 
-pub shape_of-out : goal.shape_of-out
-shape_of-out c =
-    let q = c.before.before.before.before.before in
-    let out = (entry q).args.out.now in
-    let w = q.width-w.result in
-    same_len_mid 1 (length (set out 0 w) - 1) (set out 0 w) c.put_block.new.out c.put_block.auto.out ∙ length-set out 0 w
+pub returns-clause-value : goal.returns-clause-value
+returns-clause-value g c =
+    let r = c.args.g in
+    let long = long_of g.met.T.Word.values_law r (search rules) in
+    length_is 4 (g.T.Word.values r.codes) long r.count c.width-w.result (omega (arith, long, c.requires.0)) c.width-w.ensures.0
 
-pub returns : goal.returns
-returns c =
-    let q = c.before.before.before.before.before in
-    let n = (entry q).args.g.count in
-    let w = q.width-w.result in
-    let b = c.put_block in record { value = length_is 4 (codes q) (long q) n w (all q) q.width-w.ensures.0; out_after = written_is 4 (codes q) (long q) n w (all q) q.width-w.ensures.0 (entry q).args.out.now b.new.out (omega (arith, room q)) b.ensures }
+pub returns-clause-out_after : goal.returns-clause-out_after
+returns-clause-out_after g c =
+    let r = c.args.g in
+    let long = long_of g.met.T.Word.values_law r (search rules) in
+    let all : length (g.T.Word.values r.codes) ≤ r.count = omega (arith, long, c.requires.0) in
+    let room = room_is 4 (g.T.Word.values r.codes) long r.count c.width-w.result all c.width-w.ensures.0 c.args.out.now c.requires.1 in
+    written_is 4 (g.T.Word.values r.codes) long r.count c.width-w.result all c.width-w.ensures.0 c.args.out.now c.put_block.new.out (omega (arith, room)) c.put_block.ensures

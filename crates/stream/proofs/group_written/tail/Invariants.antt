@@ -1,13 +1,7 @@
-use mathlib.Core.Path.{◌≡◌}
-use mathlib.Core.List.{◌++◌}
-use Prim.Native.Nat.{◌+◌, ◌-◌, ◌/◌, ◌^◌, ◌≤◌}
-use lib.ListN.{length, take, drop}
+use Rattle.std.proofs.Common.{◌≡◌, ◌++◌, ◌+◌, ◌/◌, ◌^◌, length, take, drop}
 use Rattle.blocks.specs.Bytes.{digits}
 use Rattle.stream.proofs.group_written.tail.Given as goal
 
 abbrev pub invariant-loop-k : goal.invariant-loop-k
 invariant-loop-k l =
-    (l.k ≤ l.count) × (length l.out ≡ length l.initial.out) × (l.word ≡ l.initial.word / 256 ^ l.k) × (l.out ≡ take l.at l.initial.out ++ digits 256 l.k l.initial.word ++ drop (l.at + l.k) l.initial.out)
-
-abbrev pub decreases-loop-k : goal.decreases-loop-k
-decreases-loop-k l = l.count - l.k
+    (length l.out ≡ length l.initial.out) × (l.word ≡ l.initial.word / 256 ^ l.k) × (l.out ≡ take l.at l.initial.out ++ digits 256 l.k l.initial.word ++ drop (l.at + l.k) l.initial.out)

@@ -28,8 +28,8 @@ Start = lts.Start tie.the-claims reads.Pre reads.Post
 abbrev After-wide : Type 0
 After-wide = lts.After-wide tie.the-claims reads.Pre reads.Post
 
-abbrev After-block_count : Type 0
-After-block_count = lts.After-block_count tie.the-claims reads.Pre reads.Post
+abbrev After-min : Type 0
+After-min = lts.After-min tie.the-claims reads.Pre reads.Post
 
 abbrev After-codes_of : Type 0
 After-codes_of = lts.After-codes_of tie.the-claims reads.Pre reads.Post
@@ -86,24 +86,24 @@ module _ (c : After-wide) where
   there = omega (arith, start.requires.5, ap (λ (k : ℕ). bytes_for k n) width_is, ap (bytes_for w) (sym split) ∙ bytes_split w passed rest from whole)
 
 -- the index's block
-module _ (c : After-block_count) where
+module _ (c : After-min) where
   abbrev at : After-wide
   at = c.before.before
 
   abbrev count : ℕ
-  count = c.block_count.result
+  count = c.min.result
 
   abbrev index : ℕ
   index = i at - passed at
 
   within : index < count
-  within = omega (arith, c.block_count.ensures, (start at).requires.2)
+  within = omega (arith, c.min.ensures, (start at).requires.2)
 
   abbrev codes : List ℕ
   codes = block_codes (w at) count (take (length (s at) - from at) (drop (from at) (s at)))
 
 module _ (c : After-codes_of) where
-  abbrev here : After-block_count
+  abbrev here : After-min
   here = c.before
 
   upto : take (index here + 1) c.codes_of-g.result.codes ≡ take (index here + 1) (codes here)
@@ -136,10 +136,10 @@ slice_bounds-codes_of-start c = omega (arith, there c.before)
 pub codes_of-g-requires : goal.codes_of-g-requires
 codes_of-g-requires c =
     let b = at c.before in (
-      omega (arith, c.block_count.ensures),
+      omega (arith, c.min.ensures),
       narrow b,
       simp (length-take, length-drop)
-          (omega (arith, there b, bytes_fewer (w b) (count c.before) (rest b) (omega (arith, c.block_count.ensures)))),
+          (omega (arith, there b, bytes_fewer (w b) (count c.before) (rest b) (omega (arith, c.min.ensures)))),
     )
 
 pub picked-requires : goal.picked-requires
@@ -174,5 +174,5 @@ returns c before behind-last =
     ∙ sym (ap (λ (cs : List ℕ). get_or (patterns_after t before cs) (i b) 0)
     (codes_are (n b) (w b) (s b) (bytes b) (width_is b) ∙ ap (λ (k : ℕ). block_codes (w b) k (s b)) (sym (split b)) ∙ block_split (w b) (passed b) (rest b) (from b) (s b) (bytes b) (whole b))
     ∙ pattern_behind t before last first behind (i b) (index h) (let q : i b ≡ length first + index h = omega (arith, length_block (w b) (passed b) (s b)) in q) same
-    ∙ ap (λ (cs : List ℕ). get_or (patterns_after t last cs) (index h) 0) (next_block (w b) (rest b) (count h) (from b) (s b) (bytes b) h.block_count.ensures)
+    ∙ ap (λ (cs : List ℕ). get_or (patterns_after t last cs) (index h) 0) (next_block (w b) (rest b) (count h) (from b) (s b) (bytes b) h.min.ensures)
     ∙ pattern_upto t last (codes h) more (index h) (rw length_block (within h)))

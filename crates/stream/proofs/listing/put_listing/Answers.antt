@@ -1,8 +1,9 @@
 -- `stream::listing::put_listing` meets its contract.
-use mathlib.Core.Path.{sym, ◌∙◌}
+use mathlib.Core.Path.{sym, ap₂, ◌∙◌}
 use native.Mathlib.Omega.{arith}
 use Rattle.stream.specs.Setting.{highest_level}
-use Rattle.stream.specs.Listing.{most_input, newline, too_long, answer_lines}
+use Rattle.stream.specs.Listing.{most_input, newline, too_long, refused_line, answer_lines}
+use Rattle.std.specs.Prelude.{Err}
 use Rattle.stream.proofs.Law.Listing.Text.{same_piece}
 use Rattle.stream.proofs.Law.Listing.Lines.{accepted, too_long_is, answered_is}
 use Rattle.stream.proofs.listing.put_listing.Goals as goal
@@ -17,18 +18,20 @@ unfolding highest_level
 put_stream-requires c =
     record {
       opened = accepted highest_level c.args.bytes.now (λ i. (c.shared_slice_known-1.given i).fits) _ (sym c.check-found.ensures ∙
-          c.in-Done.is);
+          c.in-Ok.is);
       in_bounds = omega arith;
     }
 
-pub returns-in-Done : goal.returns-in-Done
+pub returns-in-Ok : goal.returns-in-Ok
 unfolding most_input highest_level answer_lines
-returns-in-Done c =
-    same_piece (answered_is c.args.bytes.now c.if-bytes-gt-MOST_INPUT.false _ _ c.check-found.ensures c.in-Done.is)
+returns-in-Ok c =
+    same_piece (answered_is c.args.bytes.now c.if-bytes-gt-MOST_INPUT.false _ _ c.check-found.ensures c.in-Ok.is)
     c.put_stream.ensures
 
-pub returns-in-Refused : goal.returns-in-Refused
+pub returns-in-Err : goal.returns-in-Err
 unfolding most_input highest_level answer_lines
-returns-in-Refused c =
-    same_piece (answered_is c.args.bytes.now c.if-bytes-gt-MOST_INPUT.false _ _ c.check-found.ensures c.in-Refused.is)
+returns-in-Err c =
+    same_piece
+    (ap₂ refused_line c.number.ensures c.detail.ensures
+    ∙ answered_is c.args.bytes.now c.if-bytes-gt-MOST_INPUT.false _ (Err c.in-Err.refusal) c.check-found.ensures c.in-Err.is)
     c.put_refused_line.ensures

@@ -6,4 +6,4 @@ pub returns : goal.returns
 returns c =
     let l = c.before in
     let a = l.args in
-    piece_clipped a.values.now a.j l.least-from.result c.piece_end-to.result l.least-from.ensures c.piece_end-to.ensures
+    piece_clipped a.values.now a.j l.min-from.result c.min-to.result l.min-from.ensures c.min-to.ensures

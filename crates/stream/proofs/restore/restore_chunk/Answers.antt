@@ -23,20 +23,20 @@ use Rattle.stream.proofs.restore.restore_chunk.Tie as tie
 abbrev Start : Type 0
 Start = lts.Start tie.the-claims reads.Pre reads.Post tie.handed_clauses
 
-abbrev After-least2 : Type 0
-After-least2 = lts.After-least2 tie.the-claims reads.Pre reads.Post tie.handed_clauses
+abbrev After-min2 : Type 0
+After-min2 = lts.After-min2 tie.the-claims reads.Pre reads.Post tie.handed_clauses
 
 -- the call's own, where both outputs are cut; the setting is the header's, and the chunk is there to be read
-abbrev start : After-least2 → Start
+abbrev start : After-min2 → Start
 start c = c.before.before.before.before.before.before.before.before.before.before
 
-abbrev t : After-least2 → Setting
+abbrev t : After-min2 → Setting
 t c = c.setting_in-t.result
 
-width_is : (c : After-least2) → (t c).width ≡ (start c).args.h.width
+width_is : (c : After-min2) → (t c).width ≡ (start c).args.h.width
 width_is c = ap (λ (x : Setting). x.width) c.setting_in-t.ensures.0
 
-whole : (c : After-least2) → let a = (start c).args in whole_chunk (t c).width (group_size (t c)) c.count_at-n.result (chunk_of a.h a.bytes.now a.j) ≡ true
+whole : (c : After-min2) → let a = (start c).args in whole_chunk (t c).width (group_size (t c)) c.count_at-n.result (chunk_of a.h a.bytes.now a.j) ≡ true
 whole c =
     let n = c.count_at-n in
     let s = start c in
@@ -56,7 +56,7 @@ restored-requires c =
       allowed = (q.setting_in-t.ensures.1, n.ensures.1, chunk_begun a.h a.bytes.now _ a.j q.chunk_on-part.ensures (t q) n.result (whole q));
       in_bounds = (
         omega (arith, s.requires.place_bound.2, ap (λ (x : ℕ). length (chosen x a.c32.now a.c64.now)) w),
-        rw n.ensures.0 (lent_fits (t q).width a.place (count_of a.h a.j) _ _ a.o32.now a.o64.now q.least-a32.ensures q.least-a64.ensures
+        rw n.ensures.0 (lent_fits (t q).width a.place (count_of a.h a.j) _ _ a.o32.now a.o64.now q.min-a32.ensures q.min-a64.ensures
             (omega (arith, s.requires.place_bound.1, ap (λ (x : ℕ). length (chosen x a.o32.now a.o64.now)) w))),
       );
     }
@@ -68,8 +68,8 @@ returns c =
     let s = start q in
     let a = s.args in
     let n = q.count_at-n in
-    let k = q.least-a32 in
-    let m = q.least-a64 in
+    let k = q.min-a32 in
+    let m = q.min-a64 in
     let w = width_is q in
     let old = chosen (t q).width (take (length a.o32.now - k.result) (drop k.result a.o32.now)) (take (length a.o64.now - m.result) (drop m.result a.o64.now)) in
     let values =

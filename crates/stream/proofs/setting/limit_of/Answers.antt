@@ -10,7 +10,7 @@ returns-then-t-ne1 c = rw (c.if-t-eq32.true, ne_eqb c.args.t.mode 1 c.if-t-ne1.t
 
 pub returns-then-t-eq32 : goal.returns-then-t-eq32
 unfolding limit_of fraction_bits clipped
-returns-then-t-eq32 c = rw (c.if-t-eq32.true, eq-eqb c.args.t.mode 1 c.if-t-ne1.false) c.largest_u32.ensures
+returns-then-t-eq32 c = rw (c.if-t-eq32.true, eq-eqb c.args.t.mode 1 c.if-t-ne1.false) c.largest_u.ensures
 
 pub returns-then-t-ne1-2 : goal.returns-then-t-ne1-2
 unfolding limit_of fraction_bits clipped
@@ -18,4 +18,4 @@ returns-then-t-ne1-2 c = let s = c in rw (width_other s.args.t.width s.requires.
 
 pub returns : goal.returns
 unfolding limit_of fraction_bits clipped
-returns c = let s = c in rw (width_other s.args.t.width s.requires.known c.if-t-eq32.false, eq-eqb s.args.t.mode 1 c.if-t-ne1-2.false) c.largest_u64.ensures
+returns c = let s = c in rw (width_other s.args.t.width s.requires.known c.if-t-eq32.false, eq-eqb s.args.t.mode 1 c.if-t-ne1-2.false) c.largest_u-2.ensures

@@ -1,13 +1,13 @@
 -- `stream::setting::stream_need` meets its contract.
-use Rattle.stream.proofs.Law.Setting.Widths.{raised_need, kept_need}
+use mathlib.Core.Path.{ap, ◌∙◌}
+use Prim.Native.Nat.{ℕ, max}
+use Rattle.stream.specs.Setting.{stream_need}
 use Rattle.stream.proofs.setting.stream_need.Goals as goal
 
-pub returns-then-high-need : goal.returns-then-high-need
-returns-then-high-need c =
-    let a = c.args in
-    raised_need a.t a.high c.need_of-need.result c.need_of-need.ensures c.if-high-need.true
+pub returns-then-high : goal.returns-then-high
+unfolding stream_need
+returns-then-high c = rw c.if-high.true (c.max.ensures ∙ ap (λ (n : ℕ). max n 12) c.need_of.ensures)
 
-pub returns : goal.returns
-returns c =
-    let a = c.args in
-    kept_need a.t a.high c.need_of-need.result c.need_of-need.ensures c.if-high-need.false
+pub returns-else-high : goal.returns-else-high
+unfolding stream_need
+returns-else-high c = rw c.if-high.false c.need_of-else-high.ensures

@@ -11,34 +11,27 @@ use Rattle.summary.proofs.listed.count_listed.Goals as goal
 use Rattle.summary.proofs.listed.count_listed.Goals.{then-holds_at, else-holds_at}
 
 pub loop-j-init : goal.loop-j-init
-loop-j-init c = let a = c.args in counted_none (holds_in a.x a.h a.bytes.now) a.h.chunks
+loop-j-init g c = let a = c.args in counted_none (holds_in (g.T.Word.value a.x) a.h a.bytes.now) a.h.chunks
 
 pub holds_at-requires : goal.holds_at-requires
-holds_at-requires c = let s = c.before in (s.requires.0, s.requires.1, c.loop-j-test.true)
+holds_at-requires g c = (c.requires.0, c.requires.1, c.requires.2, c.loop-j-test.true)
 
 pub overflow_add-n : goal.overflow_add-n
-overflow_add-n c =
-    let s = c.before in
-    omega (arith, chunks_few s.args.h s.args.bytes.now s.requires.0.accepted)
-
-pub overflow_add-j : goal.overflow_add-j
-overflow_add-j c =
-    let s = c.before in
-    omega (arith, chunks_few s.args.h s.args.bytes.now s.requires.0.accepted)
+overflow_add-n g c =
+    omega (arith, chunks_few c.args.h c.args.bytes.now c.requires.0.accepted)
 
 pub loop-j-preserved : goal.loop-j-preserved
-loop-j-preserved c =
+loop-j-preserved g c =
     let l = c.loop-j in
     let a = c.args in
     let inside = c.loop-j-test.true in
-    let Next : ℕ → Type 0 = λ (n : ℕ). Counted (holds_in a.x a.h a.bytes.now) a.h.chunks n (l.j + 1) in
+    let Next : ℕ → Type 0 = λ (n : ℕ). Counted (holds_in (g.T.Word.value a.x) a.h a.bytes.now) a.h.chunks n (l.j + 1) in
     elim c.if-holds_at.branch [
       | then-holds_at w ↦ subst Next (sym w.n-is) (counted_here l.invariant inside (sym c.holds_at.ensures ∙ w.if-holds_at.true))
       | else-holds_at w ↦ subst Next (sym w.n-is) (counted_past l.invariant inside (sym c.holds_at.ensures ∙ w.if-holds_at.false))
     ]
 
 pub returns : goal.returns
-returns c =
-    let s = c.before in
+returns g c =
     counted_all c.loop-j.invariant c.loop-j-test.false
-    ∙ ap length (numbers_listed s.args.h s.args.bytes.now s.requires.0.accepted.header s.args.x)
+    ∙ ap length (numbers_listed c.args.h c.args.bytes.now c.requires.0.accepted.header (g.T.Word.value c.args.x))

@@ -4,23 +4,20 @@ use Rattle.summary.proofs.Law.ListRows.{last_untrue, last_short, last_done}
 use Rattle.summary.proofs.listed.listed.Goals as goal
 
 pub returns-then-not-summary_true : goal.returns-then-not-summary_true
-returns-then-not-summary_true c =
-    let a = c.args in let p = last_untrue a.x a.bytes.now a.out.now (sym c.summary_true.ensures ∙ c.if-not-summary_true.true) in record { value = p.0; out_after = p.1 }
+returns-then-not-summary_true g c =
+    let a = c.args in let p = last_untrue (g.T.Word.value a.x) a.bytes.now a.out.now (sym c.summary_true.ensures ∙ c.if-not-summary_true.true) in record { value = p.0; out_after = p.1 }
 
 pub summary_place-place-requires : goal.summary_place-place-requires
-summary_place-place-requires c =
+summary_place-place-requires g c =
     (c.requires.0, sym c.summary_true.ensures ∙ c.if-not-summary_true.false)
 
 pub returns-then-out-n : goal.returns-then-out-n
-returns-then-out-n c =
-    let e = c.before in
-    let a = e.args in let p = last_short a.x a.bytes.now a.out.now (sym e.summary_true.ensures ∙ e.if-not-summary_true.false)
+returns-then-out-n g c =
+    let a = c.args in let p = last_short (g.T.Word.value a.x) a.bytes.now a.out.now (sym c.summary_true.ensures ∙ c.if-not-summary_true.false)
     c.count_listed-n.result c.count_listed-n.ensures c.if-out-n.true in record { value = p.0; out_after = p.1 }
 
 pub returns : goal.returns
-returns c =
-    let n = c.before.before.before.before.before.before in
-    let e = n in
-    let a = e.args in let p = last_done a.x a.bytes.now a.out.now (sym e.summary_true.ensures ∙ e.if-not-summary_true.false)
-    n.count_listed-n.result n.count_listed-n.ensures c.if-out-n.false
+returns g c =
+    let a = c.args in let p = last_done (g.T.Word.value a.x) a.bytes.now a.out.now (sym c.summary_true.ensures ∙ c.if-not-summary_true.false)
+    c.count_listed-n.result c.count_listed-n.ensures c.if-out-n.false
     c.put_listed.new.out c.put_listed.ensures in record { value = p.0; out_after = p.1 }

@@ -1,11 +1,7 @@
 use mathlib.Core.Path.{◌≡◌}
-use Prim.Native.Nat.{◌-◌}
 use lib.ListN.{length}
 use Rattle.summary.proofs.Law.Testing.{Right}
 use Rattle.summary.proofs.testing.entries_right.Given as goal
 
 abbrev pub invariant-loop-j : goal.invariant-loop-j
 invariant-loop-j l = Right l.h l.bytes l.part l.j × (length l.v32 ≡ length l.initial.v32) × (length l.v64 ≡ length l.initial.v64)
-
-abbrev pub decreases-loop-j : goal.decreases-loop-j
-decreases-loop-j l = l.h.chunks - l.j

@@ -1,0 +1,6 @@
+use Rattle.std.proofs.Common.{arith}
+use Rattle.words.proofs.Bits.{size_leading}
+use Rattle.words.proofs.U32Word.bit_length.Goals as goal
+
+pub returns : goal.returns
+returns c = (size_leading 32 c.args.self c.ranges.self.fits, omega arith)
