@@ -25,7 +25,7 @@ use lib.Ieee.{Float}
 use Rattle.stream.specs.declared.answers.Refusal.{Refusal}
 use Rattle.stream.specs.declared.answers.Refusal.TheVariants.{BrokenHeader, MustBeUnderstood}
 use Rattle.stream.specs.declared.answers.Shown.{Shown}
-use Rattle.stream.proofs.Readers.{check_order, unpack_order, probe_order, refused_check, refused_unpack, refused_probe32, refused_probe64, refused_untouched, written_values, probe_as_unpack32, probe_as_unpack64, check_higher, unpack_higher, probe_higher32, probe_higher64}
+use Rattle.stream.proofs.Readers.{the_refusal_table, check_order, unpack_order, probe_order, refused_check, refused_unpack, refused_probe32, refused_probe64, refused_untouched, written_values, probe_as_unpack32, probe_as_unpack64, check_higher, unpack_higher, probe_higher32, probe_higher64}
 use Rattle.stream.proofs.Written.{length_order, pack_order, refused_length, refused_pack, refused_pack_untouched, accepted_setting, accepted_later, accepted_list, accepted_leaves, accepted_is_raised, the_minors_as_they_were, length_is_answered, packed_length_bound, the_stream_is_packed, it_is_read, it_is_too_new, refused_by_15, refused_by_8}
 use Rattle.stream.proofs.Understood.{the_high_ids, a_high_id_is_never_skipped}
 use Rattle.summary.proofs.Theorems.{add_order, test_order, list_order, refused_add, refused_add_untouched, refused_test, refused_list, refused_list_untouched, add_takes, side_parts_are_refused_by_16, the_copy_fits, the_copy_is_left, the_copy_is_read_as_the_original, only_the_number_of_side_parts_is_another, the_summary_that_is_added_is_true, a_test_accepts_what_is_added, a_test_accepts_exactly_the_true_summaries, all_else_is_refused_by_17, a_true_summary_has_an_entry_for_each_chunk, a_true_summary_says, the_list_fits, a_list_is_made_of_a_true_summary, the_list_names_exactly, the_list_is_in_order, past_the_list, a_list_is_given, a_not_a_number_is_refused_by_2, a_high_id_is_not_skipped}
@@ -41,6 +41,7 @@ unfolding probe_out32 probe_out64
 demand_1 =
     record {
       order = record { pack = pack_order; length_of = length_order; check = check_order; unpack = unpack_order; probe = probe_order; add = add_order; test = test_order; list = list_order };
+      table = the_refusal_table;
       pack = λ W level mode k group vs out refusal.
           (refused_pack W level mode k group vs (length out) refusal, refused_pack_untouched W level mode k group vs out refusal);
       length_of = refused_length;

@@ -25,7 +25,7 @@ use Rattle.stream.specs.Stream.{values}
 use Rattle.stream.specs.Writing.{stream, Side, placed, add_sides, ids_of, WellFormedSides}
 use Rattle.stream.specs.Probe.{shown32, shown64}
 use Rattle.stream.specs.Operations.{check_rows, check_answer, unpack_rows, unpack_answer, unpack_out, probe_rows, probe_answer32, probe_answer64, length_rows, length_answer, pack_rows, pack_answer, pack_out}
-use Rattle.stream.specs.Theorem.{TooNew, RefusedBy, RefusedByAll}
+use Rattle.stream.specs.Theorem.{RefusalTable, TooNew, RefusedBy, RefusedByAll}
 use Rattle.std.specs.Prelude.{Ok, Err}
 use Rattle.stream.specs.declared.answers.Refusal.{Refusal}
 use Rattle.stream.specs.declared.answers.Refusal.TheVariants.{NotAllowed, NoRoom, NeedsMinor, BrokenHeader, MustBeUnderstood, HasSideParts, NoTrueSummary}
@@ -37,10 +37,10 @@ use Rattle.gwizdorad.specs.Result.{probe_out32, probe_out64}
 
 -- ---- Demand 1: "Every entry point takes every input, ends, and touches nothing outside what it was lent." That is what the check of each
 -- function says, and that no entry point has a `requires`: these are the public functions of `numbers`, `stream`, `summary` and the two crates for C.
--- (`bins` and `blocks` are inner libraries, which no user reaches. `one_chunk` and `sides` of `stream` are total too, but no operations: they serve the libraries
+-- (`words`, `bins` and `blocks` are inner libraries, which no user reaches. `one_chunk` and `sides` of `stream` are total too, but no operations: they serve the libraries
 -- above, which have made a check before, look at no level and at no id, and are meant nowhere below where a reader is spoken of.) "Bad input gets one refusal, the first in the stated order, with its stated
 -- detail. A refused call changes nothing it was lent." Of an operation's rows the refusal is the one that `Decides`: it is given, and none
--- before it. Its number is `number_of`, its detail `detail_of` (specs/Rows.antt).
+-- before it. Its number is `number_of`, its detail `detail_of` (specs/Rows.antt): those that the table states, `RefusalTable`.
 
 -- Pack: 1 2 3 4. Length: 1 2 3. Check: 1 5 6 7 8 9 8 15 10. Unpack: 1 5 6 7 8 14 4 9 8 15 10. Probe: 1 5 6 7 8 14 11 9 8 15 10. These are document 01's,
 -- with the rows of document 02, R-4: 15 "after 9 and after that late use of 8, before 10". 15 stands once for each side part, 10 once for each
@@ -64,6 +64,7 @@ pub record StatedOrder : Type 0 where
 
 pub record Demand1 : Type 0 where
   pub order : StatedOrder
+  pub table : RefusalTable
   -- the values vs, packed into `out`
   pub pack : (W level mode : ℕ) (k : ℤ) (group : ℕ) (vs out : List ℕ) (refusal : Refusal)
       → (pack_answer W level mode k group vs (length out) ≡ Err refusal ↔ Decides (pack_rows W level mode k group vs (length out)) refusal)

@@ -37,7 +37,7 @@ pub format_16 : Format 16 10
 unfolding k_offset last_bin
 format_16 = record { room = lit≤ tt; least = lit< tt; order = lit≤ tt }
 
--- ---- the answers of `bin32` and `bin64`: the bin of an allowed k, or none
+-- ---- the answers of `bin`: the bin of an allowed k, or none
 
 pub a_bin_is_that_of_k : (W m : ℕ) (k : ℤ) (j : ℕ) → bin_answer W m k ≡ Some j → (allowed_k W m k ≡ true) × (bin_of W m k ≡ j)
 a_bin_is_that_of_k W m k j e = (allowed W m k j e, bin_is W m k j e)

@@ -1,6 +1,6 @@
 -- What is demanded of reading, as theorems about the promises: `check_answer`, `unpack_answer`, `unpack_out` and `probe_answer32` (64) are what
 -- the operations are proved to answer and to leave in the output.
-use mathlib.Core.Path.{◌≡◌, sym, ap, ◌∙◌}
+use mathlib.Core.Path.{◌≡◌, refl, sym, ap, ◌∙◌}
 use mathlib.Core.Logic.{◌⊎◌, ◌↔◌}
 use mathlib.Core.Bool.{true}
 use mathlib.Core.List.{List, [], ◌∷◌, ◌++◌}
@@ -15,7 +15,7 @@ use Rattle.stream.specs.Tables.{ids_in}
 use Rattle.stream.specs.Rows.{Row, first, Decides, numbers_of, answer, after}
 use Rattle.stream.specs.Probe.{shown32, shown64}
 use Rattle.stream.specs.Operations.{header_rows, opening_rows, need_row, side_rows, table_rows, chunk_row, chunk_rows, content_rows, width_row, room_row, index_row, own_rows, check_rows, check_answer, unpack_rows, unpack_answer, unpack_out, probe_rows, probe_answer32, probe_answer64}
-use Rattle.stream.specs.Theorem.{Apart, InChunk}
+use Rattle.stream.specs.Theorem.{refusals, RefusalTable, Apart, InChunk}
 use Rattle.std.specs.Prelude.{⊤, Result, Ok, Err}
 use Rattle.stream.specs.declared.answers.Refusal.{Refusal}
 use Rattle.stream.proofs.Law.Values.OtherChunks.{byte_apart, probe_same, value_same}
@@ -27,6 +27,12 @@ use Rattle.stream.proofs.Law.Rows.Ids.{id_numbers, length_ids}
 use Rattle.stream.proofs.Law.Rows.Chunks.{chunk_numbers, own_number}
 use Rattle.stream.proofs.Law.Rows.Passed.{opening, tables, checking, unpacking}
 use Rattle.stream.proofs.Law.Values.ThreeReaders.{unpack_check, counted, probe_passes, probe_value, higher_check, higher_unpack, higher_probe}
+
+-- ---- what a refusal tells: its number and its detail
+
+pub the_refusal_table : RefusalTable
+unfolding refusals
+the_refusal_table = record { numbers = λ needed minor place id. refl; details = λ needed minor place id. refl }
 
 -- ---- a refusal is the first row that is given: "given exactly when"
 

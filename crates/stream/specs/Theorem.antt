@@ -1,5 +1,5 @@
 -- The words that the theorems of proofs/Theorems.antt, Readers.antt, Place.antt, Cut.antt, Written.antt and Understood.antt are stated in.
-use Rattle.std.specs.Prelude.{◌≡◌, ◌⊎◌, Bool, true, false, cond, not, List, [], ◌∷◌, ◌++◌, ℕ, zero, suc, ◌+◌, ◌-◌, ◌*◌, ◌/◌, ◌^◌, ◌≤◌, ◌<◌, min, ltb, length, take, drop, get_or, Result, Ok, Err}
+use Rattle.std.specs.Prelude.{◌≡◌, ◌⊎◌, Bool, true, false, cond, not, List, [], ◌∷◌, ◌++◌, ℕ, zero, suc, ◌+◌, ◌-◌, ◌*◌, ◌/◌, ◌^◌, ◌≤◌, ◌<◌, min, ltb, length, take, drop, get_or, map, Result, Ok, Err}
 use Rattle.blocks.specs.Bytes.{Below, digits}
 use Rattle.stream.specs.Setting.{known_level, stream_need, group_size, codes_of, patterns_of, limit_of}
 use Rattle.stream.specs.Group.{group_bytes, group_length, good_group}
@@ -8,10 +8,11 @@ use Rattle.stream.specs.Header.{header_of, setting_in, chunks_in}
 use Rattle.stream.specs.Tables.{start_at, chunk_table_right, side_table_right, ids_in, some_high, first_high}
 use Rattle.stream.specs.Stream.{joined, count_of, chunk_of, chunk_state}
 use Rattle.stream.specs.Writing.{piece}
+use Rattle.stream.specs.Rows.{number_of, detail_of}
 use Rattle.stream.specs.Probe.{shown32, shown64}
 use Rattle.stream.specs.Operations.{check_answer, unpack_answer, unpack_out, probe_answer32, probe_answer64}
 use Rattle.stream.specs.declared.answers.Refusal.{Refusal}
-use Rattle.stream.specs.declared.answers.Refusal.TheVariants.{UnknownLevel, NoHeader, NeedsMinor, BrokenHeader, BrokenTable}
+use Rattle.stream.specs.declared.answers.Refusal.TheVariants.{UnknownLevel, NotAllowed, TooManyValues, NoRoom, NoHeader, OtherMajor, NeedsMinor, BrokenHeader, BrokenTable, BrokenChunk, NoSuchIndex, OtherWidth, MustBeUnderstood, HasSideParts, NoTrueSummary}
 use Rattle.stream.specs.declared.header.Header.{Header}
 use Rattle.stream.specs.declared.setting.Setting.{Setting}
 
@@ -94,6 +95,21 @@ pub record InChunk (s : List ℕ) (j p : ℕ) : Type 0 where
   pub is_chunk : j < (header_of s).chunks
   pub after : (header_of s).start + start_at (header_of s) s j ≤ p
   pub before : p < (header_of s).start + start_at (header_of s) s (j + 1)
+
+-- ---- the table of refusals
+
+-- the refusals in the table's order, with the details of the four that have one
+unfoldable pub refusals : (needed minor place id : ℕ) → List Refusal
+refusals needed minor place id =
+    UnknownLevel ∷ NotAllowed ∷ TooManyValues ∷ NoRoom needed ∷ NoHeader ∷ OtherMajor ∷ NeedsMinor minor ∷ BrokenHeader ∷ BrokenTable ∷ BrokenChunk place
+    ∷ NoSuchIndex ∷ OtherWidth ∷ MustBeUnderstood id ∷ HasSideParts ∷ NoTrueSummary ∷ []
+
+-- document 01, "Refusal numbers", with 15 to 17 of document 02: the number of each line, and its detail, 0 where the table states none
+pub record RefusalTable : Type 0 where
+  pub numbers : (needed minor place id : ℕ)
+      → map number_of (refusals needed minor place id) ≡ 1 ∷ 2 ∷ 3 ∷ 4 ∷ 5 ∷ 6 ∷ 7 ∷ 8 ∷ 9 ∷ 10 ∷ 11 ∷ 14 ∷ 15 ∷ 16 ∷ 17 ∷ []
+  pub details : (needed minor place id : ℕ)
+      → map detail_of (refusals needed minor place id) ≡ 0 ∷ 0 ∷ 0 ∷ needed ∷ 0 ∷ 0 ∷ minor ∷ 0 ∷ 0 ∷ place ∷ 0 ∷ 0 ∷ id ∷ 0 ∷ 0 ∷ []
 
 -- ---- a stream that is cut
 

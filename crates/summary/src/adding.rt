@@ -13,6 +13,16 @@ use stream::answers::{Answer, Refusal};
 use stream::header::Header;
 use stream::reading;
 
+// The bytes, at the front of `out`. By hand, since `copy_from_slice` of so many bytes calls `memmove`, and the archives ask for `memcpy` and `memset` alone.
+fn copied(bytes: &[u8], out: &mut [u8])
+    requires { length bytes.now ≤ length out.old }
+    ensures { out.new ≡ bytes.now ++ drop (length bytes.now) out.old }
+{
+    for i in 0..bytes.len() {
+        out[i] = bytes[i];
+    }
+}
+
 // The entries of all chunks in order, at the front of `out`.
 fn put_entries(h: Header, bytes: &[u8], v32: &mut [u32], v64: &mut [u64], out: &mut [u8])
     requires { Accepted h bytes.now × (1024 ≤ length (chosen h.width v32.old v64.old)) × (h.chunks * entry_length h.width ≤ length out.old) }
@@ -48,7 +58,7 @@ fn put_copy(h: Header, bytes: &[u8], out: &mut [u8])
 {
     let end = bytes.len();
     let part = h.chunks * entry::entry_length(h.width);
-    out[..end].copy_from_slice(bytes);
+    copied(bytes, out);
     fields::half(out, 40, 1);
     fields::half(out, end, 1);
     fields::half(out, end + 4, (end + 12) as u64);
