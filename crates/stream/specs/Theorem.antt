@@ -104,7 +104,8 @@ refusals needed minor place id =
     UnknownLevel ∷ NotAllowed ∷ TooManyValues ∷ NoRoom needed ∷ NoHeader ∷ OtherMajor ∷ NeedsMinor minor ∷ BrokenHeader ∷ BrokenTable ∷ BrokenChunk place
     ∷ NoSuchIndex ∷ OtherWidth ∷ MustBeUnderstood id ∷ HasSideParts ∷ NoTrueSummary ∷ []
 
--- document 01, "Refusal numbers", with 15 to 17 of document 02: the number of each line, and its detail, 0 where the table states none
+-- document 01, "Refusal numbers", with 15 to 17 of document 02: the number of each line that a stream can give, and its detail, 0 where the table states
+-- none (12 and 13 are bound's: `bound_number`)
 pub record RefusalTable : Type 0 where
   pub numbers : (needed minor place id : ℕ)
       → map number_of (refusals needed minor place id) ≡ 1 ∷ 2 ∷ 3 ∷ 4 ∷ 5 ∷ 6 ∷ 7 ∷ 8 ∷ 9 ∷ 10 ∷ 11 ∷ 14 ∷ 15 ∷ 16 ∷ 17 ∷ []
